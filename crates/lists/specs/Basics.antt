@@ -1,0 +1,75 @@
+-- Choices by a test, and lists: what holds of each element, joined lists, counting up.
+use mathlib.Core.Path.{_≡_, refl, sym, ap, _∙_}
+use mathlib.Core.Bool.{Bool, true, false}
+use mathlib.Core.List.{List, [], _∷_, _++_, map, append-assoc}
+use Prim.Native.Nat.{ℕ, zero, suc, _+_, _≤_, _<_}
+use native.Mathlib.Omega.{arith}
+use lib.ListN.{length, length-append}
+
+-- the first of two values if the test holds, else the second
+abbrev pub pick {ℓ} : {A : Type ℓ} → Bool → A → A → A
+pick true a b = a
+pick false a b = b
+
+-- 1 if the test holds, else 0
+abbrev pub tick : Bool → ℕ
+tick true = 1
+tick false = 0
+
+-- P holds of each element
+pub data All {A : Type 0} (P : A → Type 0) : List A → Type 0 where
+  none : All P []
+  also : {x : A} {xs : List A} → P x → All P xs → All P (x ∷ xs)
+
+-- the lists f x, joined
+unfoldable pub flat {ℓ} : {A : Type 0} {B : Type ℓ} → (A → List B) → List A → List B
+flat f [] = []
+flat f (x ∷ xs) = f x ++ flat f xs
+
+-- f at 0, 1, .. up to n - 1
+unfoldable pub run {ℓ} : {A : Type ℓ} → ℕ → (ℕ → A) → List A
+run zero f = []
+run (suc n) f = run n f ++ (f n ∷ [])
+
+-- a, a + 1, .. : n of them
+unfoldable pub upFrom : ℕ → ℕ → List ℕ
+upFrom a zero = []
+upFrom a (suc n) = a ∷ upFrom (suc a) n
+
+module _ {A : Type 0} {P : A → Type 0} where
+  pub all-head : {x : A} {xs : List A} → All P (x ∷ xs) → P x
+  all-head (also h t) = h
+
+  pub all-tail : {x : A} {xs : List A} → All P (x ∷ xs) → All P xs
+  all-tail (also h t) = t
+
+  pub all-append : {xs ys : List A} → All P xs → All P ys → All P (xs ++ ys)
+  all-append none g = g
+  all-append (also h t) g = also h (all-append t g)
+
+  pub all-left : (xs ys : List A) → All P (xs ++ ys) → All P xs
+  all-left [] ys g = none
+  all-left (x ∷ xs) ys (also h t) = also h (all-left xs ys t)
+
+  pub all-right : (xs ys : List A) → All P (xs ++ ys) → All P ys
+  all-right [] ys g = g
+  all-right (x ∷ xs) ys (also h t) = all-right xs ys t
+
+pub all-map : {A : Type 0} {P Q : A → Type 0} → ((x : A) → P x → Q x) → {xs : List A} → All P xs → All Q xs
+all-map f none = none
+all-map f (also h t) = also (f _ h) (all-map f t)
+
+pub flat-append {ℓ} : {A : Type 0} {B : Type ℓ} (f : A → List B) (xs ys : List A) → flat f (xs ++ ys) ≡ flat f xs ++ flat f ys
+unfolding flat
+flat-append f [] ys = refl
+flat-append f (x ∷ xs) ys = rw (flat-append f xs ys, append-assoc)
+
+pub length-run {ℓ} : {A : Type ℓ} (n : ℕ) (f : ℕ → A) → length (run n f) ≡ n
+unfolding run
+length-run zero f = refl
+length-run (suc n) f = omega (arith, length-append (run n f) (f n ∷ []), length-run n f)
+
+pub length-up : (a n : ℕ) → length (upFrom a n) ≡ n
+unfolding upFrom
+length-up a zero = refl
+length-up a (suc n) = ap suc (length-up (suc a) n)
