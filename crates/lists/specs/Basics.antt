@@ -4,7 +4,9 @@ use mathlib.Core.Bool.{Bool, true, false}
 use mathlib.Core.List.{List, [], _∷_, _++_, map, append-assoc}
 use Prim.Native.Nat.{ℕ, zero, suc, _+_, _≤_, _<_}
 use native.Mathlib.Omega.{arith}
-use lib.ListN.{length, length-append}
+use native.Mathlib.Decide.{ℕ-discrete}
+use lib.ListN.{length, getD, set, length-append}
+use lib.Seq.{getD-set-same, getD-set-other}
 
 -- the first of two values if the test holds, else the second
 abbrev pub pick {ℓ} : {A : Type ℓ} → Bool → A → A → A
@@ -73,3 +75,11 @@ pub length-up : (a n : ℕ) → length (upFrom a n) ≡ n
 unfolding upFrom
 length-up a zero = refl
 length-up a (suc n) = ap suc (length-up (suc a) n)
+
+-- what holds of each element below i, and of the one stored at i, holds below i + 1
+pub below-stored {ℓ} : {A : Type ℓ} (P : ℕ → A → Type 0) (l : List A) (i : ℕ) (v d : A) → i < length l → ((k : ℕ) → k < i → P k (getD l k d)) → P i v → (k : ℕ) → k < i + 1 → P k (getD (set l i v) k d)
+below-stored P l i v d h f p k lt = by (ℕ-discrete k i)
+  where
+    by : Dec (k ≡ i) → P k (getD (set l i v) k d)
+    by (yes e) = rw (e, getD-set-same l i v d h) p
+    by (no n) = rw (getD-set-other l i k v d n) (f k (omega arith))

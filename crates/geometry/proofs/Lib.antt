@@ -1,0 +1,11 @@
+pub mod IntLaws
+pub mod StoredLaws
+pub mod PairLaws
+pub mod SliceLaws
+pub mod ConvexLaws
+pub mod HeightLaws
+pub mod SpanLaws
+pub mod BoundLaws
+pub mod ExampleLaws
+pub mod KeyLaws
+pub mod LoopLaws

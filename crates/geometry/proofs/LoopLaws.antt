@@ -1,0 +1,130 @@
+-- What each turn of a loop over coordinates adds, with the coordinates from m on still to come.
+use mathlib.Core.Path.{_≡_, refl, sym, ap, ap₂, _∙_}
+use mathlib.Core.Bool.{Bool, true, false}
+use mathlib.Core.List.{List, [], _∷_, _++_, map, append-assoc}
+use mathlib.Core.Logic.{_≢_}
+use Prim.Native.Nat.{ℕ, zero, suc, max, _+_, _*_, _-_, _≤_, _<_}
+use native.Mathlib.Omega.{arith}
+use native.Mathlib.Nat.{mul-le-mul}
+use native.Mathlib.Numerals.{add-one}
+use borrow.Author.Tests.{eq-eqb, ne-eqb}
+use lib.Dec.{eqb, leb, ltb}
+use lib.IntN.{ℤ, pos, natAbs, _-ℤ_}
+use lib.ListN.{length, getD, take, drop, set, replicate, length-append, length-map, length-replicate, length-take, length-drop, drop-of-length-le}
+use lib.Seq.{drop-cons, take-all, take-length, length-take-le}
+use Rattle.lists.specs.Basics.{pick}
+use Rattle.geometry.proofs.SliceLaws.{slice-parts, side-square}
+use Rattle.geometry.proofs.StoredLaws.{length-point, point-at, point-take, point-drop, coord-gap, coord-neg}
+use Rattle.geometry.specs.Points.{heightOf, axisAt, axisOf, pyramidOf, distBy, square}
+use Rattle.geometry.specs.Slices.{onAxis, sideBy, sliceBy}
+use Rattle.geometry.specs.Stored.{coordOf, pointOf, stored, slotsOf, inRange}
+
+-- the point from coordinate m on
+pub point-cons : (p : List ℕ) (m : ℕ) → m < length p → drop m (pointOf p) ≡ coordOf (getD p m 0) ∷ drop (m + 1) (pointOf p)
+point-cons p m l =
+    rw add-one
+    (drop-cons (pointOf p) m (pos 0) (omega (arith, length-point p)) ∙ ap (λ (c : ℤ). c ∷ drop (suc m) (pointOf p)) (point-at p m l))
+
+pub point-end : (p : List ℕ) (m : ℕ) → length p ≤ m → drop m (pointOf p) ≡ []
+point-end p m l = drop-of-length-le (pointOf p) {i = m} (omega (arith, length-point p))
+
+pub height-more : (p : List ℕ) (m : ℕ) → m < length p → heightOf (drop m (pointOf p)) ≡ max (natAbs (coordOf (getD p m 0))) (heightOf (drop (m + 1) (pointOf p)))
+unfolding heightOf
+height-more p m l = rw (point-cons p m l)
+
+pub height-end : (p : List ℕ) (m : ℕ) → length p ≤ m → heightOf (drop m (pointOf p)) ≡ 0
+unfolding heightOf
+height-end p m l = rw (point-end p m l)
+
+pub axis-here : (h : ℕ) (p : List ℕ) (m : ℕ) → m < length p → natAbs (coordOf (getD p m 0)) ≡ h → axisAt h (drop m (pointOf p)) ≡ 0
+unfolding axisAt
+axis-here h p m l e = rw (point-cons p m l, eq-eqb (natAbs (coordOf (getD p m 0))) h e)
+
+pub axis-more : (h : ℕ) (p : List ℕ) (m : ℕ) → m < length p → natAbs (coordOf (getD p m 0)) ≢ h → axisAt h (drop m (pointOf p)) ≡ suc (axisAt h (drop (m + 1) (pointOf p)))
+unfolding axisAt
+axis-more h p m l e = rw (point-cons p m l, ne-eqb (natAbs (coordOf (getD p m 0))) h e)
+
+pub axis-end : (h : ℕ) (p : List ℕ) (m : ℕ) → length p ≤ m → axisAt h (drop m (pointOf p)) ≡ 0
+unfolding axisAt
+axis-end h p m l = rw (point-end p m l)
+
+pub dist-more : (q p : List ℕ) (m : ℕ) → m < length q → m < length p
+    → distBy square m (drop m (pointOf q)) (drop m (pointOf p))
+    ≡ square m ((getD q m 0 - getD p m 0) + (getD p m 0 - getD q m 0)) + distBy square (m + 1) (drop (m + 1) (pointOf q)) (drop (m + 1) (pointOf p))
+unfolding distBy
+dist-more q p m l k = rw (point-cons q m l, point-cons p m k, coord-gap (getD q m 0) (getD p m 0), add-one)
+
+pub dist-end : (q p : List ℕ) (m : ℕ) → length q ≤ m → distBy square m (drop m (pointOf q)) (drop m (pointOf p)) ≡ 0
+unfolding distBy
+dist-end q p m l = rw (point-end q m l)
+
+pub side-more : (e h : ℕ) (q : List ℕ) (m : ℕ) → m < length q
+    → sideBy square m e h (drop m (pointOf q)) ≡ square m (natAbs (coordOf (getD q m 0)) + e - h) + sideBy square (m + 1) e h (drop (m + 1) (pointOf q))
+unfolding sideBy
+side-more e h q m l = rw (point-cons q m l, add-one)
+
+pub side-end : (e h : ℕ) (q : List ℕ) (m : ℕ) → length q ≤ m → sideBy square m e h (drop m (pointOf q)) ≡ 0
+unfolding sideBy
+side-end e h q m l = rw (point-end q m l)
+
+-- the test of range
+range-cons : (p : List ℤ) (m : ℕ) → m < length p → inRange (drop m p) ≡ pick (leb (natAbs (getD p m (pos 0))) 1000) (inRange (drop (m + 1) p)) false
+unfolding inRange
+range-cons p m l = rw (add-one, drop-cons p m (pos 0) l)
+
+pub range-more : (p : List ℤ) (m : ℕ) → m < length p → leb (natAbs (getD p m (pos 0))) 1000 ≡ true → inRange (drop m p) ≡ inRange (drop (m + 1) p)
+range-more p m l e = range-cons p m l ∙ ap (λ (b : Bool). pick b (inRange (drop (m + 1) p)) false) e
+
+pub range-out : (p : List ℤ) (m : ℕ) → m < length p → leb (natAbs (getD p m (pos 0))) 1000 ≡ false → inRange (drop m p) ≡ false
+range-out p m l e = range-cons p m l ∙ ap (λ (b : Bool). pick b (inRange (drop (m + 1) p)) false) e
+
+pub range-end : (p : List ℤ) (m : ℕ) → length p ≤ m → inRange (drop m p) ≡ true
+unfolding inRange
+range-end p m l = rw (drop-of-length-le p {i = m} l)
+
+-- a gap of 16 bits squared
+pub square-fits : (g : ℕ) → g < 65536 → g * g < 4294967296
+square-fits g h = let k : g ≤ 65535 = omega arith in let s : g * g ≤ 4294836225 = mul-le-mul k k in omega arith
+
+-- one slot more
+slots-set : (m n v : ℕ) (p : List ℤ) → m < length p → v ≡ stored (getD p m (pos 0)) → set (map stored (take m p) ++ replicate (suc n) 0) m v ≡ map stored (take (suc m) p) ++ replicate n 0
+slots-set m n v [] l e = absurd (let z : m < 0 = l in omega arith)
+slots-set zero n v (c ∷ cs) l e = ap (λ (x : ℕ). x ∷ replicate n 0) e
+slots-set (suc m) n v (c ∷ cs) l e = ap (λ (xs : List ℕ). stored c ∷ xs) (slots-set m n v cs (omega arith) e)
+
+pub slots-more : (p : List ℤ) (m v : ℕ) → m < length p → length p ≤ 16 → v ≡ stored (getD p m (pos 0))
+    → set (map stored (take m p) ++ replicate (16 - m) 0) m v ≡ map stored (take (m + 1) p) ++ replicate (16 - (m + 1)) 0
+slots-more p m v l k e =
+    let a : 16 - m ≡ suc (16 - (m + 1)) = omega arith in
+    rw (a, add-one) (slots-set m (16 - suc m) v p l e)
+
+pub slots-end : (p : List ℤ) (m : ℕ) → m ≡ length p → map stored (take m p) ++ replicate (16 - m) 0 ≡ slotsOf p
+unfolding slotsOf
+slots-end p m e = rw (e, take-length p)
+
+pub slots-length : (p : List ℤ) (m : ℕ) → m ≤ length p → length p ≤ 16 → length (map stored (take m p) ++ replicate (16 - m) 0) ≡ 16
+slots-length p m l k =
+    omega (arith, length-append (map stored (take m p)) (replicate (16 - m) 0), length-map (take m p) stored, length-take-le m p l, length-replicate {A = ℕ} (16 - m) 0)
+
+-- the first coordinate of greatest magnitude and its sign make the pyramid number
+pub axis-is : (p : List ℤ) (h j : ℕ) → h ≡ heightOf p → j ≡ axisAt h p → j ≡ axisOf p
+unfolding axisOf
+axis-is p h j e f = f ∙ ap (λ (x : ℕ). axisAt x p) e
+
+pub pyramid-is : (p : List ℕ) (j : ℕ) → j < length p → j ≡ axisOf (pointOf p) → pick (ltb (getD p j 0) 1000) j (j + length p) ≡ pyramidOf (pointOf p)
+unfolding pyramidOf
+pyramid-is p j l e = rw (← e, length-point p, point-at p j l, coord-neg (getD p j 0))
+
+pub tail-length : (q : List ℕ) (j : ℕ) → length (take (length q - (j + 1)) (drop (j + 1) q)) ≤ length q
+tail-length q j = omega (arith, length-take (length q - (j + 1)) (drop (j + 1) q), length-drop (j + 1) q)
+
+-- the three sums of a slice
+pub slice-sum : (q : List ℕ) (j : ℕ) (s : Bool) (h : ℕ) → j < length q
+    → natAbs (coordOf (getD q j 0) -ℤ onAxis s h) * natAbs (coordOf (getD q j 0) -ℤ onAxis s h) + sideBy square 0 1 h (pointOf (take j q)) + sideBy square 0 0 h (pointOf (take (length q - (j + 1)) (drop (j + 1) q)))
+    ≡ sliceBy square 0 j s h (pointOf q)
+slice-sum q j s h l =
+    let e = slice-parts square 0 j s h (pointOf q) (omega (arith, length-point q)) in
+    let a = ap (λ (c : ℤ). natAbs (c -ℤ onAxis s h) * natAbs (c -ℤ onAxis s h)) (point-at q j l) in
+    let f = side-square (suc (0 + j)) 0 h (drop (suc j) (pointOf q)) in
+    let t : take (length q - suc j) (drop (suc j) q) ≡ drop (suc j) q = take-all (length q - suc j) (drop (suc j) q) (omega (arith, length-drop (suc j) q)) in
+    rw (add-one, t, point-take, point-drop) (omega (arith, e, a, f))

@@ -1,0 +1,150 @@
+-- Stored coordinates: what a stored number's coordinate is, and that a point in range is read back as it was stored.
+use mathlib.Core.Path.{_≡_, refl, sym, ap, ap₂, _∙_}
+use mathlib.Core.Bool.{Bool, true, false, cond, not}
+use mathlib.Core.List.{List, [], _∷_, _++_, map}
+use Prim.Native.Nat.{ℕ, zero, suc, _+_, _-_, _≤_, _<_}
+use native.Mathlib.Omega.{arith}
+use native.Mathlib.Nat.{add-comm}
+use borrow.Author.Tests.{le-ltb, lt-ltb, ltb-true, ltb-false, le-leb, lt-leb, leb-true}
+use lib.Dec.{T, leb, ltb, ltb→lt, nltb→le}
+use lib.IntN.{ℤ, pos, negsuc, natAbs, negℤ, subℕ, _+ℤ_, _-ℤ_}
+use lib.ListN.{length, getD, take, drop, replicate}
+use lib.Signed.{ltZ, leZ}
+use mir.Syntax.{w16}
+use mir.Val.{SFits, toZ, ofZ}
+use mir.Facts.{toZ-ofZ}
+use Rattle.lists.specs.Basics.{pick}
+use Rattle.geometry.proofs.IntLaws.{gap-pos, gap-neg-pos, gap-pos-neg, gap-neg}
+use Rattle.geometry.specs.Points.{InRange, isNeg}
+use Rattle.geometry.specs.Slices.{onAxis}
+use Rattle.geometry.specs.Stored.{coordOf, pointOf, stored, slotsOf, inRange}
+
+-- a stored number below 1,000 is a coordinate below 0, one from 1,000 on is not
+coord-low : (x : ℕ) → x < 1000 → coordOf x ≡ negsuc (999 - x)
+coord-low x l = rw (lt-ltb x 1000 l) (ap negsuc (let e : 1000 - suc x ≡ 999 - x = omega arith in e))
+
+coord-high : (x : ℕ) → 1000 ≤ x → coordOf x ≡ pos (x - 1000)
+coord-high x l = rw (le-ltb x 1000 l)
+
+pub coord-neg : (x : ℕ) → isNeg (coordOf x) ≡ ltb x 1000
+coord-neg x = by (ltb x 1000) refl
+  where
+    by : (b : Bool) → ltb x 1000 ≡ b → isNeg (coordOf x) ≡ ltb x 1000
+    by true e = rw (coord-low x (ltb-true x 1000 e), e)
+    by false e = rw (coord-high x (ltb-false x 1000 e), e)
+
+pub coord-magnitude : (x : ℕ) → natAbs (coordOf x) ≡ (x - 1000) + (1000 - x)
+coord-magnitude x = gap-pos x 1000
+
+-- the distance of two coordinates is that of the numbers stored
+pub coord-gap : (a b : ℕ) → natAbs (coordOf a -ℤ coordOf b) ≡ (a - b) + (b - a)
+coord-gap a b = by (ltb a 1000) refl (ltb b 1000) refl
+  where
+    by : (s : Bool) → ltb a 1000 ≡ s → (t : Bool) → ltb b 1000 ≡ t → natAbs (coordOf a -ℤ coordOf b) ≡ (a - b) + (b - a)
+    by true e true f =
+        let k = ltb-true a 1000 e in let l = ltb-true b 1000 f in
+        rw (coord-low a k, coord-low b l) (gap-neg (999 - a) (suc (999 - b)) ∙ omega arith)
+    by true e false f =
+        let k = ltb-true a 1000 e in let l = ltb-false b 1000 f in
+        rw (coord-low a k, coord-high b l) (gap-neg-pos (999 - a) (b - 1000) ∙ omega arith)
+    by false e true f =
+        let k = ltb-false a 1000 e in let l = ltb-true b 1000 f in
+        rw (coord-high a k, coord-low b l) (gap-pos-neg (a - 1000) (suc (999 - b)) ∙ omega arith)
+    by false e false f =
+        let k = ltb-false a 1000 e in let l = ltb-false b 1000 f in
+        rw (coord-high a k, coord-high b l) (gap-pos (a - 1000) (b - 1000) ∙ omega arith)
+
+-- the number stored for height h on an axis
+axis-low : (h : ℕ) → h ≤ 1000 → coordOf (1000 - h) ≡ onAxis true h
+axis-low zero l = refl
+axis-low (suc h) l = coord-low (1000 - suc h) (omega arith) ∙ ap negsuc (let e : 999 - (1000 - suc h) ≡ h = omega arith in e)
+
+axis-high : (h : ℕ) → coordOf (1000 + h) ≡ onAxis false h
+axis-high h = coord-high (1000 + h) (omega arith) ∙ ap pos (let e : 1000 + h - 1000 ≡ h = omega arith in e)
+
+onto : (x : ℕ) (s t : Bool) (h y : ℕ) → s ≡ t → coordOf y ≡ onAxis t h → natAbs (coordOf x -ℤ onAxis s h) ≡ (x - y) + (y - x)
+onto x s t h y e f = ap (λ (z : Bool). natAbs (coordOf x -ℤ onAxis z h)) e ∙ (ap (λ (z : ℤ). natAbs (coordOf x -ℤ z)) (sym f) ∙ coord-gap x y)
+
+pub axis-gap-low : (x : ℕ) (s : Bool) (h : ℕ) → s ≡ true → h ≤ 1000 → natAbs (coordOf x -ℤ onAxis s h) ≡ (x - (1000 - h)) + ((1000 - h) - x)
+axis-gap-low x s h e l = onto x s true h (1000 - h) e (axis-low h l)
+
+pub axis-gap-high : (x : ℕ) (s : Bool) (h : ℕ) → s ≡ false → natAbs (coordOf x -ℤ onAxis s h) ≡ (x - (1000 + h)) + ((1000 + h) - x)
+axis-gap-high x s h e = onto x s false h (1000 + h) e (axis-high h)
+
+-- the point of stored numbers, by place
+pub length-point : (xs : List ℕ) → length (pointOf xs) ≡ length xs
+unfolding pointOf
+length-point [] = refl
+length-point (x ∷ xs) = ap suc (length-point xs)
+
+pub point-at : (xs : List ℕ) (m : ℕ) → m < length xs → getD (pointOf xs) m (pos 0) ≡ coordOf (getD xs m 0)
+unfolding pointOf
+point-at [] m l = absurd (let z : m < 0 = l in omega arith)
+point-at (x ∷ xs) zero l = refl
+point-at (x ∷ xs) (suc m) l = point-at xs m (omega arith)
+
+pub point-take : (n : ℕ) (xs : List ℕ) → pointOf (take n xs) ≡ take n (pointOf xs)
+unfolding pointOf
+point-take zero xs = refl
+point-take (suc n) [] = refl
+point-take (suc n) (x ∷ xs) = ap (λ (l : List ℤ). coordOf x ∷ l) (point-take n xs)
+
+pub point-drop : (n : ℕ) (xs : List ℕ) → pointOf (drop n xs) ≡ drop n (pointOf xs)
+unfolding pointOf
+point-drop zero xs = refl
+point-drop (suc n) [] = refl
+point-drop (suc n) (x ∷ xs) = point-drop n xs
+
+-- storing and reading back
+pub stored-back : (c : ℤ) → natAbs c ≤ 1000 → coordOf (stored c) ≡ c
+stored-back (pos n) h = coord-high (1000 + n) (omega arith) ∙ ap pos (let e : 1000 + n - 1000 ≡ n = omega arith in e)
+stored-back (negsuc n) h = coord-low (999 - n) (omega arith) ∙ ap negsuc (let e : 999 - (999 - n) ≡ n = omega arith in e)
+
+pub stored-le : (c : ℤ) → natAbs c ≤ 1000 → stored c ≤ 2000
+stored-le (pos n) h = omega arith
+stored-le (negsuc n) h = omega arith
+
+slots-from : (cs : List ℤ) (zs : List ℕ) → InRange cs → pointOf (take (length cs) (map stored cs ++ zs)) ≡ cs
+unfolding pointOf
+slots-from [] zs r = refl
+slots-from (c ∷ cs) zs r = ap₂ (λ (x : ℤ) (l : List ℤ). x ∷ l) (stored-back c (r .0)) (slots-from cs zs (r .1))
+
+pub slots-back : (p : List ℤ) → InRange p → pointOf (take (length p) (slotsOf p)) ≡ p
+unfolding slotsOf
+slots-back p r = slots-from p (replicate (16 - length p) 0) r
+
+-- the test of range, as a fact
+in-range-by : (c : ℤ) (cs : List ℤ) (b : Bool) → leb (natAbs c) 1000 ≡ b → (inRange cs ≡ true → InRange cs) → pick b (inRange cs) false ≡ true → InRange (c ∷ cs)
+in-range-by c cs true f ih g = (leb-true (natAbs c) 1000 f, ih g)
+in-range-by c cs false f ih g = absurd (let y : _≡_ {A = ℕ} 0 1 = cc in omega arith)
+
+pub in-range : (p : List ℤ) → inRange p ≡ true → InRange p
+unfolding inRange
+in-range [] e = tt
+in-range (c ∷ cs) e = in-range-by c cs (leb (natAbs c) 1000) refl (in-range cs) e
+
+-- a coordinate as the machine holds it
+pub sum-stored : (c : ℤ) → natAbs c ≤ 1000 → c +ℤ pos 1000 ≡ pos (stored c)
+sum-stored (pos n) h = ap pos (add-comm n 1000)
+sum-stored (negsuc n) h = rw (le-ltb 1000 (suc n) h) (ap pos (let e : 1000 - suc n ≡ 999 - n = omega arith in e))
+
+pub word-fits : (c : ℤ) → natAbs c ≤ 2000 → SFits w16 c
+word-fits (pos n) h = record { sfits = omega arith }
+word-fits (negsuc n) h = record { sfits = omega arith }
+
+pub word-back : (c : ℤ) → natAbs c ≤ 2000 → toZ w16 (ofZ w16 c) ≡ c
+word-back c h = toZ-ofZ (word-fits c h)
+
+-- the two tests of range
+pub below-range : (c : ℤ) → ltZ c (negsuc 999) ≡ true → false ≡ leb (natAbs c) 1000
+below-range (pos n) t = let z : _≡_ {A = Bool} false true = t in absurd (let y : _≡_ {A = ℕ} 0 1 = cc in omega arith)
+below-range (negsuc n) t = let h : 999 < n = ltb-true 999 n t in sym (lt-leb (suc n) 1000 (omega arith))
+
+pub above-range : (c : ℤ) → ltZ c (negsuc 999) ≡ false → leZ c (pos 1000) ≡ leb (natAbs c) 1000
+above-range (pos n) t = refl
+above-range (negsuc n) t = let h : n ≤ 999 = ltb-false 999 n t in sym (le-leb (suc n) 1000 (omega arith))
+
+pub range-at : (p : List ℤ) (m : ℕ) → InRange p → natAbs (getD p m (pos 0)) ≤ 1000
+range-at [] m r = omega arith
+range-at (c ∷ cs) zero r = r .0
+range-at (c ∷ cs) (suc m) r = range-at cs m (r .1)

@@ -1,0 +1,43 @@
+use mathlib.Core.Path.{_∙_}
+use Rattle.geometry.proofs.BoundLaws.{bound-read}
+use borrow.Author.Needs.{needs}
+use native.Mathlib.Omega.{arith}
+use Rattle.geometry.proofs.bounds.bound.Statement.{statement}
+use Rattle.geometry.proofs.bounds.bound.Tie as tie
+use Rattle.geometry.proofs.bounds.bound.Reads as reads
+use Rattle.geometry.proofs.bounds.bound.Lts as lts
+use Rattle.geometry.proofs.bounds.bound_between.Reads as bound-between-reads
+use Rattle.geometry.proofs.bounds.last_pyramid.Reads as last-pyramid-reads
+use Rattle.geometry.proofs.points.smaller.Reads as smaller-reads
+
+last-pyramid-requires : tie.Need-last-pyramid-requires
+last-pyramid-requires c κs = search needs
+
+smaller-requires : tie.Need-smaller-requires
+smaller-requires c κs = search needs
+
+last-pyramid-requires-2 : tie.Need-last-pyramid-requires-2
+last-pyramid-requires-2 c κs = search needs
+
+smaller-requires-2 : tie.Need-smaller-requires-2
+smaller-requires-2 c κs = search needs
+
+bound-between-requires : tie.Need-bound-between-requires
+bound-between-requires c κs = search needs
+
+returns : tie.Need-returns
+returns c =
+    let a = c .before .before .before .before .before .before .before .args in
+    c .bound-between .ensures
+    ∙ bound-read (a .q .now) (a .first .pyramid .0) (a .first .height .0) (a .last .pyramid .0) (a .last .height .0) _ _ _ _ (c .before .before .before .before .last-pyramid .ensures) (c .before .before .before .smaller .ensures) (c .before .before .last-pyramid2 .ensures) (c .before .smaller2 .ensures)
+
+pub bound-spec : {M : Type 1} → statement M
+bound-spec =
+    tie.close
+    (tie.spec
+    last-pyramid-requires
+    smaller-requires
+    last-pyramid-requires-2
+    smaller-requires-2
+    bound-between-requires
+    returns)

@@ -1,0 +1,48 @@
+use native.Mathlib.Omega.{arith}
+use mathlib.Core.Path.{_≡_, sym, ap, _∙_}
+use Prim.Native.Nat.{ℕ, min, max}
+use Rattle.geometry.specs.Points.{square}
+use Rattle.geometry.specs.Slices.{sliceAt, leastIn}
+use Rattle.geometry.specs.Stored.{pointOf}
+use Rattle.geometry.proofs.StoredLaws.{length-point}
+use Rattle.geometry.proofs.BoundLaws.{least-in-is}
+use borrow.Author.Needs.{needs}
+use Rattle.geometry.proofs.bounds.least_in.Statement.{statement}
+use Rattle.geometry.proofs.bounds.least_in.Tie as tie
+use Rattle.geometry.proofs.bounds.least_in.Reads as reads
+use Rattle.geometry.proofs.bounds.least_in.Lts as lts
+use Rattle.geometry.proofs.bounds.slice_in.Reads as slice-in-reads
+use Rattle.geometry.proofs.points.greater.Reads as greater-reads
+use Rattle.geometry.proofs.points.smaller.Reads as smaller-reads
+
+mul-smaller : tie.Need-mul-smaller
+mul-smaller c = search needs
+
+shared-slice-read-smaller : tie.Need-shared-slice-read-smaller
+shared-slice-read-smaller c = search needs
+
+smaller-requires : tie.Need-smaller-requires
+smaller-requires c κs = search needs
+
+greater-requires : tie.Need-greater-requires
+greater-requires c κs = search needs
+
+slice-in-requires : tie.Need-slice-in-requires
+slice-in-requires c κs = search needs
+
+returns : tie.Need-returns
+returns c =
+    let a = c .before .before .before .before .before .before .args in
+    let n = c .before .before .before .before .before .before .pre .3 (a .i) (omega (arith, length-point (a .q .now), c .before .before .before .before .before .before .pre .1)) in
+    c .slice-in .ensures ∙ (ap (sliceAt square (pointOf (a .q .now)) (a .i)) (omega (arith, c .before .greater .ensures, c .before .before .smaller .ensures)) ∙ sym (least-in-is (pointOf (a .q .now)) (a .i) (a .lo) (a .hi) _ n (c .before .before .before .before .before .before .pre .5)))
+
+pub least-in-spec : {M : Type 1} → statement M
+least-in-spec =
+    tie.close
+    (tie.spec
+    mul-smaller
+    shared-slice-read-smaller
+    smaller-requires
+    greater-requires
+    slice-in-requires
+    returns)

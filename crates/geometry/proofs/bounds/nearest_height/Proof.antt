@@ -1,0 +1,80 @@
+use lib.ListN.{length}
+use native.Mathlib.Omega.{arith}
+use borrow.Author.Needs.{needs}
+use mathlib.Core.Path.{_≡_, sym, ap, _∙_}
+use Prim.Native.Nat.{ℕ, _+_, _-_, _/_, _≤_}
+use Rattle.geometry.specs.Points.{square}
+use Rattle.geometry.specs.Slices.{sliceAt}
+use Rattle.geometry.specs.Stored.{pointOf}
+use Rattle.geometry.proofs.ConvexLaws.{square-cost, at-convex}
+use Rattle.geometry.proofs.HeightLaws.{Bisect, bisect-start, bisect-low, bisect-high, bisect-end}
+use Rattle.geometry.proofs.bounds.nearest_height.Statement.{statement}
+use Rattle.geometry.proofs.bounds.nearest_height.Tie as tie
+use Rattle.geometry.proofs.bounds.nearest_height.Reads as reads
+use Rattle.geometry.proofs.bounds.nearest_height.Lts as lts
+use Rattle.geometry.proofs.bounds.slice_in.Reads as slice-in-reads
+
+abbrev Inv-loop : tie.InvT-loop
+Inv-loop q i low₀ high₀ low high = Bisect (sliceAt square (pointOf q) i) 0 1000 low high
+
+abbrev μ-loop : tie.MeasureT-loop
+μ-loop q i low₀ high₀ low high = high - low
+
+loop-holds : tie.Need-loop-holds Inv-loop μ-loop
+loop-holds c = let a = c .before .args in let q = pointOf (a .q .now) in bisect-start (sliceAt square q (a .i)) (at-convex square square-cost q (a .i)) 0 1000 (omega arith)
+
+sub-mid : tie.Need-sub-mid Inv-loop μ-loop
+sub-mid c = search needs
+
+add-mid : tie.Need-add-mid Inv-loop μ-loop
+add-mid c = search needs
+
+slice-in-requires : tie.Need-slice-in-requires Inv-loop μ-loop
+slice-in-requires c κs = search needs
+
+add-slice-in : tie.Need-add-slice-in Inv-loop μ-loop
+add-slice-in c = search needs
+
+slice-in-requires-2 : tie.Need-slice-in-requires-2 Inv-loop μ-loop
+slice-in-requires-2 c κs = search needs
+
+loop-less : tie.Need-loop-less Inv-loop μ-loop
+loop-less c = search needs
+
+loop-again : tie.Need-loop-again Inv-loop μ-loop
+loop-again c =
+    let a = c .before .before .before .before .before .before .args in let q = pointOf (a .q .now) in let l = c .before .before .before .before .loop in
+    bisect-low (sliceAt square q (a .i)) (at-convex square square-cost q (a .i)) 0 1000 (l .low) (l .high) (l .low + (l .high - l .low) / 2) (l .inv) (omega arith) (omega arith) (omega (arith, c .if1 .taken, c .before .slice-in2 .ensures, c .before .before .slice-in .ensures))
+
+add-low : tie.Need-add-low Inv-loop μ-loop
+add-low c = search needs
+
+loop-less-2 : tie.Need-loop-less-2 Inv-loop μ-loop
+loop-less-2 c = search needs
+
+loop-again-2 : tie.Need-loop-again-2 Inv-loop μ-loop
+loop-again-2 c =
+    let a = c .before .before .before .before .before .before .args in let q = pointOf (a .q .now) in let l = c .before .before .before .before .loop in
+    bisect-high (sliceAt square q (a .i)) (at-convex square square-cost q (a .i)) 0 1000 (l .low) (l .high) (l .low + (l .high - l .low) / 2) (l .inv) (omega arith) (omega arith) (omega (arith, c .if1 .left, c .before .slice-in2 .ensures, c .before .before .slice-in .ensures))
+
+returns : tie.Need-returns Inv-loop μ-loop
+returns c = let a = c .before .before .before .args in let q = pointOf (a .q .now) in let l = c .before .loop in bisect-end (sliceAt square q (a .i)) (at-convex square square-cost q (a .i)) 0 1000 (l .low) (l .high) (l .inv) (omega arith)
+
+pub nearest-height-spec : {M : Type 1} → statement M
+nearest-height-spec =
+    tie.close
+    (tie.spec
+    Inv-loop
+    μ-loop
+    loop-holds
+    sub-mid
+    add-mid
+    slice-in-requires
+    add-slice-in
+    slice-in-requires-2
+    loop-less
+    loop-again
+    add-low
+    loop-less-2
+    loop-again-2
+    returns)

@@ -1,0 +1,166 @@
+// Points: range test and conversion, pyramid and height, squared distance.
+// A record holds each coordinate with 1,000 added (`pointOf` reads it back), so everything here but the conversion is on unsigned numbers.
+ghost use mathlib.Core.Path.{_≡_};
+ghost use mathlib.Core.Bool.{true};
+ghost use Prim.Native.Nat.{ℕ, min, max, _+_, _*_, _-_, _<_, _≤_};
+ghost use lib.IntN.{ℤ, pos, natAbs};
+ghost use lib.Dec.{leb};
+ghost use lib.ListN.{length, getD};
+ghost use Rattle.lists.specs.Basics.{pick};
+ghost use Rattle.geometry.specs.Points.{heightOf, axisAt, pyramidOf, distance};
+ghost use Rattle.geometry.specs.Stored.{coordOf, pointOf, stored, slotsOf, inRange};
+use crate::Height;
+use crate::Pair;
+use crate::Pyramid;
+
+// Whether a coordinate is in range.
+fn within(c: i16) -> bool
+    ensures { λ r. ⌜ r ≡ leb (natAbs c) 1000 ⌝ }
+{
+    if c < -1000 {
+        return false;
+    }
+    c <= 1000
+}
+
+// Whether every coordinate of a point is in range.
+pub fn in_range(p: &[i16]) -> bool
+    ensures { λ r. ⌜ r ≡ inRange (now (p .entry)) ⌝ }
+{
+    let mut m = 0;
+    while m < p.len() {
+        let c = p[m];
+        if !within(c) {
+            return false;
+        }
+        m += 1;
+    }
+    true
+}
+
+// A coordinate in range as it is stored.
+fn slot(c: i16) -> u16
+    requires { ⌜ natAbs c ≤ 1000 ⌝ }
+    ensures { λ r. ⌜ r ≡ stored c ⌝ }
+{
+    (c + 1000) as u16
+}
+
+// What a record holds of a point.
+pub fn slots_of(p: &[i16]) -> [u16; 16]
+    requires { ⌜ (length (now p) ≤ 16) × (inRange (now p) ≡ true) ⌝ }
+    ensures { λ r. ⌜ r ≡ slotsOf (now (p .entry)) ⌝ }
+{
+    let mut slots = [0u16; 16];
+    let mut m = 0;
+    while m < p.len() {
+        let c = p[m];
+        slots[m] = slot(c);
+        m += 1;
+    }
+    slots
+}
+
+// The distance of two numbers.
+pub fn apart(a: u16, b: u16) -> u16
+    ensures { λ r. ⌜ r ≡ (a - b) + (b - a) ⌝ }
+{
+    if a < b { b - a } else { a - b }
+}
+
+pub fn smaller(a: u16, b: u16) -> u16
+    ensures { λ r. ⌜ r ≡ min a b ⌝ }
+{
+    if b < a { b } else { a }
+}
+
+pub fn greater(a: u16, b: u16) -> u16
+    ensures { λ r. ⌜ r ≡ max a b ⌝ }
+{
+    if a < b { b } else { a }
+}
+
+// The magnitude of a stored coordinate.
+pub fn magnitude(x: u16) -> u16
+    ensures { λ r. ⌜ (r ≡ natAbs (coordOf x)) × (r ≤ 64535) ⌝ }
+{
+    apart(x, 1000)
+}
+
+// The height of a point.
+fn height_of(p: &[u16]) -> u16
+    ensures { λ r. ⌜ r ≡ heightOf (pointOf (now (p .entry))) ⌝ }
+{
+    let mut h: u16 = 0;
+    let mut m = 0;
+    while m < p.len() {
+        h = greater(h, magnitude(p[m]));
+        m += 1;
+    }
+    h
+}
+
+// The first coordinate of magnitude h, or the number of coordinates where none is.
+fn axis_at(p: &[u16], h: u16) -> usize
+    ensures { λ r. ⌜ r ≡ axisAt h (pointOf (now (p .entry))) ⌝ }
+{
+    let mut m = 0;
+    while m < p.len() {
+        if magnitude(p[m]) == h {
+            return m;
+        }
+        m += 1;
+    }
+    m
+}
+
+// The number of the pyramid on axis j of d, on the side below 0 or not.
+fn pyramid_no(j: usize, d: usize, below: bool) -> u8
+    requires { ⌜ (j < d) × (d ≤ 16) ⌝ }
+    ensures { λ r. ⌜ r ≡ pick below j (j + d) ⌝ }
+{
+    if below { j as u8 } else { (j + d) as u8 }
+}
+
+// The pyramid and height of a point.
+pub fn pair_of(p: &[u16]) -> Pair
+    requires { ⌜ (0 < length (now p)) × (length (now p) ≤ 16) ⌝ }
+    ensures { λ r. ⌜ (r .pyramid .0 ≡ pyramidOf (pointOf (now (p .entry)))) × (r .height .0 ≡ heightOf (pointOf (now (p .entry)))) ⌝ }
+{
+    let h = height_of(p);
+    let j = axis_at(p, h);
+    let below = p[j] < 1000;
+    let i = pyramid_no(j, p.len(), below);
+    Pair {
+        pyramid: Pyramid(i),
+        height: Height(h),
+    }
+}
+
+fn wide(x: u16) -> u64
+    ensures { λ r. ⌜ (r ≡ x) × (r < 65536) ⌝ }
+{
+    x as u64
+}
+
+// What a gap costs: its square.
+pub fn cost(gap: u16) -> u64
+    ensures { λ r. ⌜ (r ≡ gap * gap) × (r < 4294967296) ⌝ }
+{
+    let g = wide(gap);
+    g * g
+}
+
+// The squared distance of two points; p may have further slots.
+pub fn squared_distance(q: &[u16], p: &[u16]) -> u64
+    requires { ⌜ (length (now q) ≤ 16) × (length (now q) ≤ length (now p)) ⌝ }
+    ensures { λ r. ⌜ r ≡ distance (pointOf (now (q .entry))) (pointOf (now (p .entry))) ⌝ }
+{
+    let mut sum: u64 = 0;
+    let mut m = 0;
+    while m < q.len() {
+        sum += cost(apart(q[m], p[m]));
+        m += 1;
+    }
+    sum
+}
