@@ -1,1 +1,4 @@
 pub mod Basics
+pub mod Tests
+pub mod Sorting
+pub mod SortingLaws
