@@ -2,3 +2,5 @@ pub mod Basics
 pub mod Tests
 pub mod Sorting
 pub mod SortingLaws
+pub mod Orders
+pub mod FlatLaws

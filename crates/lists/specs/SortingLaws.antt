@@ -209,7 +209,7 @@ module _ {A : Type 0} (before : A → A → Bool) (o : Order before) where
 
   -- ---- sorted lists
 
-  none-before : (x y : A) (ys : List A) → before y x ≡ false → All (λ z. before z y ≡ false) ys → All (λ z. before z x ≡ false) ys
+  pub none-before : (x y : A) (ys : List A) → before y x ≡ false → All (λ z. before z y ≡ false) ys → All (λ z. before z x ≡ false) ys
   none-before x y [] h none = none
   none-before x y (z ∷ zs) h (also g a) = also (not-before x y z h g) (none-before x y zs h a)
 
