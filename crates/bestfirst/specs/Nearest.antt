@@ -2,10 +2,10 @@
 -- A: a row, what a question sees of a record. L: a leaf.
 use mathlib.Core.Bool.{Bool, true, false, _&&_, _||_}
 use mathlib.Core.List.{List, [], _∷_, map}
-use Prim.Native.Nat.{ℕ, _-_}
+use Prim.Native.Nat.{ℕ, _-_, _≤_}
 use lib.ListN.{length, take, getD}
 use lib.Dec.{ltb, leb}
-use Rattle.lists.specs.Basics.{pick}
+use Rattle.lists.specs.Basics.{pick, All}
 use Rattle.lists.specs.Sorting.{keep, sort, offerAll}
 use Rattle.lists.specs.Orders.{by}
 
@@ -15,6 +15,10 @@ pub record Ranking (A : Type 0) : Type 0 where
   pub cost : A → ℕ
   pub tie : A → A → Bool
   pub passes : A → Bool
+
+-- whether x costs at most m
+abbrev pub atMost : {A : Type 0} → (A → ℕ) → ℕ → A → Bool
+atMost cost m x = leb (cost x) m
 
 module _ {A : Type 0} (r : Ranking A) where
   -- row order
@@ -54,6 +58,10 @@ pub record Outcome (A L : Type 0) : Type 0 where
 -- leaf l read before the leaves of o
 abbrev pub reading : {A L : Type 0} → L → Outcome A L → Outcome A L
 reading l o = record { rows = o .rows; read = l ∷ o .read }
+
+-- leaf l holds no row that costs less than its bound
+abbrev pub Floor : {A L : Type 0} → Ranking A → (L → ℕ) → (L → List A) → L → Type 0
+Floor r bound rows l = All (λ x. bound l ≤ r .cost x) (rows l)
 
 -- bound: of a leaf for the question. rows: of the records in a leaf.
 module _ {A L : Type 0} (r : Ranking A) (bound : L → ℕ) (rows : L → List A) (k : ℕ) where

@@ -10,10 +10,10 @@ use borrow.Author.Tests.{ltb-true, ltb-false, lt-ltb, le-ltb, le-leb, lt-leb, le
 use Rattle.lists.specs.Basics.{pick, All, none, also, all-head, all-tail, all-map, flat}
 use Rattle.lists.specs.Tests.{cases, false-true}
 use Rattle.lists.specs.Sorting.{keep, count, sum, Order, ins, sort, insAll, offerAll, Sorted, end, next}
-use Rattle.lists.specs.SortingLaws.{ins-past, ins-here, all-insAll, all-sort, all-keep, none-before, sorted-ins, sorted-insAll, sorted-sort, sort-insAll, sort-canonical, insAll-append, offerAll-take, keep-append, keep-none}
+use Rattle.lists.specs.SortingLaws.{ins-past, ins-here, all-insAll, all-sort, all-keep, none-before, sorted-ins, sorted-insAll, sorted-sort, sort-insAll, sort-canonical, insAll-append, offerAll-take, keep-append, keep-first, keep-none}
 use Rattle.lists.specs.Orders.{by, by-lower, by-refines}
 use Rattle.lists.specs.FlatLaws.{all-flat, count-flat, count-keep, sum-sort}
-use Rattle.bestfirst.specs.Nearest.{Ranking, rowOrder, candidates, nearest, kth, exceeds, inSet, Outcome, reading, offered, visit, bestFirst}
+use Rattle.bestfirst.specs.Nearest.{Ranking, rowOrder, candidates, nearest, kth, exceeds, inSet, Outcome, reading, offered, Floor, visit, bestFirst}
 
 pub by-floor : {A : Type 0} (f : A → ℕ) (r : A → A → Bool) (x y : A) → by f r y x ≡ false → f x ≤ f y
 by-floor f r x y e = cases (ltb (f y) (f x)) (λ t. false-true (sym e ∙ by-lower f r y x (ltb-true (f y) (f x) t))) (λ t. ltb-false (f y) (f x) t)
@@ -33,7 +33,7 @@ module _ {A : Type 0} (cost : A → ℕ) where
   below-index (suc j) b (x ∷ xs) = rw (leb·suc-suc (suc j) (length xs)) (below-index j b xs)
 
   -- far: no cost is below b
-  below-far : (j b : ℕ) (xs : List A) → All (λ x. b ≤ cost x) xs → below j b xs ≡ false
+  pub below-far : (j b : ℕ) (xs : List A) → All (λ x. b ≤ cost x) xs → below j b xs ≡ false
   unfolding below
   below-far j b [] none = refl
   below-far zero b (x ∷ xs) (also h a) = le-ltb (cost x) b h
@@ -141,10 +141,6 @@ module _ {A L : Type 0} (r : Ranking A) (bound : L → ℕ) (rows : L → List A
   unfolding visit
   visit-read l ls s e = rw e
 
--- no row of leaf l costs less than its bound
-abbrev pub Floor : {A L : Type 0} → Ranking A → (L → ℕ) → (L → List A) → L → Type 0
-Floor r bound rows l = All (λ x. bound l ≤ r .cost x) (rows l)
-
 module _ {A L : Type 0} (r : Ranking A) (o : Order (rowOrder r)) (bound : L → ℕ) (rows : L → List A) (tie : L → L → Bool) where
   -- rows s with the candidates of leaves ls
   filled : List L → List A → List A
@@ -194,10 +190,7 @@ module _ {A L : Type 0} (r : Ranking A) (o : Order (rowOrder r)) (bound : L → 
       ∙ ap (reading l) (visit-filled j ls (insAll (rowOrder r) (keep (r .passes) (rows l)) s) fs q (sorted-insAll (rowOrder r) o (keep (r .passes) (rows l)) s h))
       ∙ ap (λ (t : List A). reading l (record { rows = take (suc j) t; read = keep (λ m. not (exceeds r (suc j) (bound m) t)) ls })) (sym (filled-cons l ls s))
       ∙ ap (λ (v : List L). record { rows = take (suc j) (filled (l ∷ ls) s); read = v })
-      (sym (first-kept l ls (λ m. not (exceeds r (suc j) (bound m) (filled (l ∷ ls) s))) (ap not (exceeds-below r j (bound l) (filled (l ∷ ls) s) ∙ later ∙ e)))))
-    where
-      first-kept : (m : L) (ms : List L) (p : L → Bool) → p m ≡ true → keep p (m ∷ ms) ≡ m ∷ keep p ms
-      first-kept m ms p e = rw e
+      (sym (keep-first (λ m. not (exceeds r (suc j) (bound m) (filled (l ∷ ls) s))) l ls (ap not (exceeds-below r j (bound l) (filled (l ∷ ls) s) ∙ later ∙ e)))))
 
   -- candidates do not go by the order of the leaves
   candidates-sorted : (ls : List L) → candidates r (flat rows (sort (by bound tie) ls)) ≡ candidates r (flat rows ls)

@@ -287,6 +287,14 @@ module _ {A : Type 0} where
   count-append p [] ys = omega arith
   count-append p (x ∷ xs) ys = let h = count-append p xs ys in omega arith
 
+  pub keep-first : (p : A → Bool) (x : A) (xs : List A) → p x ≡ true → keep p (x ∷ xs) ≡ x ∷ keep p xs
+  unfolding keep
+  keep-first p x xs e = rw e
+
+  pub keep-past : (p : A → Bool) (x : A) (xs : List A) → p x ≡ false → keep p (x ∷ xs) ≡ keep p xs
+  unfolding keep
+  keep-past p x xs e = rw e
+
   pub length-keep : (p : A → Bool) (xs : List A) → length (keep p xs) ≡ count p xs
   unfolding keep count
   length-keep p [] = refl
