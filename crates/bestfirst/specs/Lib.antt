@@ -6,3 +6,5 @@ pub mod Ranges
 pub mod KthLaws
 pub mod RangesLaws
 pub mod Promises
+pub mod Frontier
+pub mod FrontierLaws

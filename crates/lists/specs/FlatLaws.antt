@@ -7,7 +7,7 @@ use native.Mathlib.Omega.{arith}
 use lib.ListN.{length, getD, take, drop}
 use Rattle.lists.specs.Basics.{All, none, also, flat, upFrom, all-append}
 use Rattle.lists.specs.Tests.{cases}
-use Rattle.lists.specs.Sorting.{keep, count, sum, ins, sort}
+use Rattle.lists.specs.Sorting.{keep, count, sum, ins, insAll, sort}
 use Rattle.lists.specs.SortingLaws.{count-append}
 
 module _ {A : Type 0} where
@@ -55,6 +55,11 @@ module _ {A : Type 0} where
   unfolding sum ins
   sum-ins before f x [] = refl
   sum-ins before f x (y ∷ ys) = cases (before y x) (λ e. rw e (let h = sum-ins before f x ys in omega arith)) (λ e. rw e)
+
+  pub sum-insAll : (before : A → A → Bool) (f : A → ℕ) (xs s : List A) → sum f (insAll before xs s) ≡ sum f xs + sum f s
+  unfolding sum insAll
+  sum-insAll before f [] s = omega arith
+  sum-insAll before f (x ∷ xs) s = let h = sum-insAll before f xs (ins before x s) in let g = sum-ins before f x s in omega arith
 
   pub sum-sort : (before : A → A → Bool) (f : A → ℕ) (xs : List A) → sum f (sort before xs) ≡ sum f xs
   unfolding sum sort
