@@ -4,3 +4,4 @@ pub mod Sorting
 pub mod SortingLaws
 pub mod Orders
 pub mod FlatLaws
+pub mod PlaceLaws

@@ -246,7 +246,7 @@ module _ {A : Type 0} (before : A → A → Bool) (o : Order before) where
 
   -- ---- a sorted list stands for what occurs how often
 
-  count-none : (p : A → Bool) (s : List A) → All (λ z. p z ≡ false) s → count p s ≡ 0
+  pub count-none : (p : A → Bool) (s : List A) → All (λ z. p z ≡ false) s → count p s ≡ 0
   unfolding count
   count-none p [] none = refl
   count-none p (x ∷ xs) (also h a) = let q = count-none p xs a in rw h (omega arith)
