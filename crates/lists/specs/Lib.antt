@@ -1,1 +1,7 @@
 pub mod Basics
+pub mod Tests
+pub mod Sorting
+pub mod SortingLaws
+pub mod Orders
+pub mod FlatLaws
+pub mod PlaceLaws

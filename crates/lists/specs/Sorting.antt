@@ -1,0 +1,71 @@
+-- Lists in the order of a test: elements that pass and how many, sums, insertion, sorting, the first k.
+use mathlib.Core.Path.{_≡_}
+use mathlib.Core.Bool.{Bool, true, false}
+use mathlib.Core.List.{List, [], _∷_, _++_}
+use Prim.Native.Nat.{ℕ, zero, suc, _+_}
+use lib.ListN.{take, drop}
+use Rattle.lists.specs.Basics.{pick, tick, All}
+
+-- the elements that pass, in their order
+unfoldable pub keep : {A : Type 0} → (A → Bool) → List A → List A
+keep p [] = []
+keep p (x ∷ xs) = pick (p x) (x ∷ keep p xs) (keep p xs)
+
+-- how many elements pass
+unfoldable pub count : {A : Type 0} → (A → Bool) → List A → ℕ
+count p [] = 0
+count p (x ∷ xs) = tick (p x) + count p xs
+
+-- the sum of f over the elements
+unfoldable pub sum : {A : Type 0} → (A → ℕ) → List A → ℕ
+sum f [] = 0
+sum f (x ∷ xs) = f x + sum f xs
+
+-- x put in at index p
+abbrev pub splice : {A : Type 0} → ℕ → A → List A → List A
+splice p x l = take p l ++ x ∷ drop p l
+
+-- x put in at index p, those from there on one further, the one at index n lost
+abbrev pub putIn : {A : Type 0} → ℕ → ℕ → A → List A → List A
+putIn p n x l = take (n + 1) (splice p x l) ++ drop (n + 1) l
+
+-- `before` is a strict total order
+pub record Order {A : Type 0} (before : A → A → Bool) : Type 0 where
+  pub asym : (a b : A) → before a b ≡ true → before b a ≡ false
+  -- what a is before, and a not before b, b is before too
+  pub through : (a b c : A) → before a b ≡ false → before a c ≡ true → before b c ≡ true
+  pub same : (a b : A) → before a b ≡ false → before b a ≡ false → a ≡ b
+
+module _ {A : Type 0} (before : A → A → Bool) where
+  -- x put in behind the elements that are before it
+  unfoldable pub ins : A → List A → List A
+  ins x [] = x ∷ []
+  ins x (y ∷ ys) = pick (before y x) (y ∷ ins x ys) (x ∷ y ∷ ys)
+
+  -- the elements in order; for a strict total order the list that stands for what occurs how often
+  unfoldable pub sort : List A → List A
+  unfolding ins
+  sort [] = []
+  sort (x ∷ xs) = ins x (sort xs)
+
+  -- each of xs put in, first to last
+  unfoldable pub insAll : List A → List A → List A
+  unfolding ins
+  insAll [] s = s
+  insAll (x ∷ xs) s = insAll xs (ins x s)
+
+  -- x put in, and the first k kept
+  unfoldable pub offer : ℕ → A → List A → List A
+  unfolding ins
+  offer k x s = take k (ins x s)
+
+  -- each of xs offered, first to last
+  unfoldable pub offerAll : ℕ → List A → List A → List A
+  unfolding offer
+  offerAll k [] s = s
+  offerAll k (x ∷ xs) s = offerAll k xs (offer k x s)
+
+  -- no element is before an earlier one
+  pub data Sorted : List A → Type 0 where
+    end : Sorted []
+    next : {x : A} {xs : List A} → All (λ y. before y x ≡ false) xs → Sorted xs → Sorted (x ∷ xs)
