@@ -2,3 +2,4 @@ pub mod Basics
 pub mod Tests
 pub mod Sorting
 pub mod SortingLaws
+pub mod Distinct
