@@ -3,3 +3,5 @@ pub mod Tests
 pub mod Sorting
 pub mod SortingLaws
 pub mod Distinct
+pub mod Orders
+pub mod FlatLaws

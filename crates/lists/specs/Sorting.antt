@@ -1,4 +1,4 @@
--- Lists in the order of a test: elements that pass, insertion, sorting, the first k, how many pass.
+-- Lists in the order of a test: elements that pass, insertion, sorting, the first k, how many pass, sums.
 use mathlib.Core.Path.{_≡_}
 use mathlib.Core.Bool.{Bool, true, false}
 use mathlib.Core.List.{List, [], _∷_}
@@ -15,6 +15,11 @@ keep p (x ∷ xs) = pick (p x) (x ∷ keep p xs) (keep p xs)
 unfoldable pub count : {A : Type 0} → (A → Bool) → List A → ℕ
 count p [] = 0
 count p (x ∷ xs) = tick (p x) + count p xs
+
+-- the sum of f over the elements
+unfoldable pub sum : {A : Type 0} → (A → ℕ) → List A → ℕ
+sum f [] = 0
+sum f (x ∷ xs) = f x + sum f xs
 
 -- `before` is a strict total order
 pub record Order {A : Type 0} (before : A → A → Bool) : Type 0 where

@@ -209,7 +209,7 @@ module _ {A : Type 0} (before : A → A → Bool) (o : Order before) where
 
   -- ---- sorted lists
 
-  none-before : (x y : A) (ys : List A) → before y x ≡ false → All (λ z. before z y ≡ false) ys → All (λ z. before z x ≡ false) ys
+  pub none-before : (x y : A) (ys : List A) → before y x ≡ false → All (λ z. before z y ≡ false) ys → All (λ z. before z x ≡ false) ys
   none-before x y [] h none = none
   none-before x y (z ∷ zs) h (also g a) = also (not-before x y z h g) (none-before x y zs h a)
 
@@ -286,6 +286,14 @@ module _ {A : Type 0} where
   unfolding count
   count-append p [] ys = omega arith
   count-append p (x ∷ xs) ys = let h = count-append p xs ys in omega arith
+
+  pub keep-first : (p : A → Bool) (x : A) (xs : List A) → p x ≡ true → keep p (x ∷ xs) ≡ x ∷ keep p xs
+  unfolding keep
+  keep-first p x xs e = rw e
+
+  pub keep-past : (p : A → Bool) (x : A) (xs : List A) → p x ≡ false → keep p (x ∷ xs) ≡ keep p xs
+  unfolding keep
+  keep-past p x xs e = rw e
 
   pub length-keep : (p : A → Bool) (xs : List A) → length (keep p xs) ≡ count p xs
   unfolding keep count

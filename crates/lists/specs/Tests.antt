@@ -1,7 +1,7 @@
 -- Proofs by cases of a test, and by comparison of two numbers.
 use mathlib.Core.Path.{_≡_, refl, ap}
 use mathlib.Core.Bool.{Bool, true, false}
-use Prim.Native.Nat.{ℕ, _≤_, _<_}
+use Prim.Native.Nat.{ℕ, zero, suc, _≤_, _<_}
 use native.Mathlib.Omega.{arith}
 use lib.Dec.{ltb}
 use borrow.Author.Tests.{ltb-true, ltb-false}
@@ -21,3 +21,8 @@ three m n l e g =
     cases (ltb m n) (λ t. l (ltb-true m n t))
     (λ t. cases (ltb n m) (λ u. g (ltb-true n m u))
     (λ u. e (let p : n ≤ m = ltb-false m n t in let q : m ≤ n = ltb-false n m u in omega arith)))
+
+-- a number from 1 on is one more than another
+pub from-one : (P : ℕ → Type 0) → ((j : ℕ) → P (suc j)) → (k : ℕ) → 1 ≤ k → P k
+from-one P h zero g = absurd (omega arith)
+from-one P h (suc j) g = h j
