@@ -11,7 +11,8 @@ use borrow.Author.Tests.{lt-ltb, ltb-true, eq-eqb, ne-eqb, eqb-true, eqb-false}
 use Rattle.lists.specs.Basics.{pick, tick, All}
 use Rattle.lists.specs.Tests.{cases, false-true, three}
 use Rattle.lists.specs.Sorting.{count}
-use Rattle.lists.specs.Distinct.{Distinct, all-place, distinct-places, places-distinct}
+use Rattle.lists.specs.Places.{all-place}
+use Rattle.lists.specs.Distinct.{Distinct, distinct-places, places-distinct}
 use Rattle.repeats.specs.Repeats.{repeated, lowerPage, lowestOf, lowestRepeat, Repeated, Holds, Under, Lowest}
 
 -- ---- the lower of two pages
