@@ -1,0 +1,2 @@
+pub mod RepeatsLaws
+pub mod LanesLaws
