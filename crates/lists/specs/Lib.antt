@@ -1,1 +1,3 @@
 pub mod Basics
+pub mod Counts
+pub mod Runs
