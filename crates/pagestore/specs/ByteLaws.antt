@@ -6,7 +6,7 @@ use Prim.Native.Nat.{ℕ, zero, suc, _+_, _-_, _*_, _/_, _%_, _^_, _≤_, _<_}
 use native.Mathlib.Numerals.{add-one}
 use native.Mathlib.Nat.{pow-suc}
 use native.Mathlib.Omega.{arith}
-use lib.ListN.{length, getD, set, take, drop, length-set, drop-of-length-le}
+use lib.ListN.{length, getD, set, take, drop, replicate, drop-of-length-le}
 use lib.Seq.{sets, sets-eq, length-sets, getD-set-other, drop-set-lt, getD-drop, drop-at, drop-drop, take-at, length-take-le}
 use Rattle.lists.specs.Basics.{run, flat, length-run}
 use Rattle.lists.specs.Runs.{length-flat, flat-more}
@@ -111,3 +111,9 @@ pub flat-next : {A : Type 0} (e : A → List ℕ) (k : ℕ) → ((x : A) → len
 flat-next e k w f l at m j x s t q g p r =
     let n : length (flat e (run m f)) ≡ k * m = length-flat e k w (run m f) ∙ ap (λ (i : ℕ). k * i) (length-run m f) in
     r ∙ rw (g, p, put-next l at (flat e (run m f)) j (e (f m)) (q ∙ ap (λ (i : ℕ). at + i) (sym n)), flat-more e k w m f)
+
+-- a loop that fills a list with one number, done
+pub fill-done : (d s : List ℕ) (i v : ℕ) → length d ≤ i → i ≤ length d → s ≡ replicate i v ++ drop i d → s ≡ replicate (length d) v
+fill-done d s i v h k e =
+    let same : i ≡ length d = omega arith in
+    e ∙ ap (λ (r : List ℕ). replicate i v ++ r) (drop-of-length-le d h) ∙ append-nil (replicate i v) ∙ ap (λ (n : ℕ). replicate n v) same

@@ -28,8 +28,11 @@ entryBytes e = leBytes 4 (e .child) ++ (keyBytes (e .first) ++ keyBytes (e .last
 unfoldable pub recordAt : List ℕ → ℕ → Record
 recordAt s at = record { id = leAt 4 s at; coords = run 16 (λ m. leAt 2 s (at + 4 + 2 * m)) }
 
+unfoldable pub coordBytes : List ℕ → List ℕ
+coordBytes cs = flat (leBytes 2) (run 16 (λ m. getD cs m 0))
+
 unfoldable pub recordBytes : Record → List ℕ
-recordBytes r = leBytes 4 (r .id) ++ (flat (leBytes 2) (run 16 (λ m. getD (r .coords) m 0)) ++ replicate 8 0)
+recordBytes r = leBytes 4 (r .id) ++ (coordBytes (r .coords) ++ (leBytes 4 0 ++ leBytes 4 0))
 
 -- a page: level, count, two unused bytes, then 16 slots from byte 4 on
 unfoldable pub leafOf : List ℕ → Leaf

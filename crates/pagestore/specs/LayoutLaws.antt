@@ -14,7 +14,7 @@ use Rattle.pagestore.specs.declared.Record.{Record}
 use Rattle.pagestore.specs.declared.Entry.{Entry}
 use Rattle.pagestore.specs.Bytes.{byteAt, leAt, leBytes}
 use Rattle.pagestore.specs.ByteLaws.{le-fits, length-le, le-at, le-bytes, byte-at, next-at}
-use Rattle.pagestore.specs.Layout.{keyAt, keyBytes, entryAt, entryBytes, recordAt, recordBytes, leafOf, innerOf, linkOf, itemBytes, leafBytes, innerBytes, freedBytes}
+use Rattle.pagestore.specs.Layout.{keyAt, keyBytes, entryAt, entryBytes, recordAt, coordBytes, recordBytes, leafOf, innerOf, linkOf, itemBytes, leafBytes, innerBytes, freedBytes}
 use Rattle.pagestore.specs.Fits.{RecordFits, KeyFits, EntryFits}
 
 -- ---- lengths
@@ -27,14 +27,14 @@ pub length-entry : (e : Entry) → length (entryBytes e) ≡ 20
 unfolding entryBytes leBytes keyBytes
 length-entry e = refl
 
+pub length-coords : (cs : List ℕ) → length (coordBytes cs) ≡ 32
+unfolding coordBytes
+length-coords cs =
+    length-flat (leBytes 2) 2 (length-le 2) (run 16 (λ m. getD cs m 0)) ∙ ap (λ (n : ℕ). 2 * n) (length-run 16 (λ m. getD cs m 0))
+
 pub length-record : (r : Record) → length (recordBytes r) ≡ 44
-unfolding recordBytes
-length-record r =
-    let cs : List ℕ = run 16 (λ m. getD (r .coords) m 0) in
-    let w : length (flat (leBytes 2) cs) ≡ 32 =
-    length-flat (leBytes 2) 2 (length-le 2) cs ∙ ap (λ (n : ℕ). 2 * n) (length-run 16 (λ m. getD (r .coords) m 0)) in
-    length-append (leBytes 4 (r .id)) (flat (leBytes 2) cs ++ replicate 8 0)
-    ∙ omega (arith, length-le 4 (r .id), w, length-append (flat (leBytes 2) cs) (replicate 8 0))
+unfolding recordBytes leBytes
+length-record r = simp length-append (omega (arith, length-coords (r .coords)))
 
 length-items : {A : Type 0} (e : A → List ℕ) (k : ℕ) → ((x : A) → length (e x) ≡ k) → (v : ℕ) (xs : List A) → k * length xs ≤ 1020 → length (itemBytes e k v xs) ≡ 1024
 unfolding itemBytes
@@ -84,22 +84,23 @@ entry-round x v s at t e =
     rw (le-at 4 (x .child) s at (b ++ (c ++ t)) (v .child) e', key-round (x .first) (v .first) s (at + 4) (c ++ t) f, key-round (x .last) (v .last) s (at + 12) t g)
 
 record-round : (r : Record) → RecordFits r → (s : List ℕ) (at : ℕ) (t : List ℕ) → drop at s ≡ recordBytes r ++ t → recordAt s at ≡ r
-unfolding recordAt recordBytes
+unfolding recordAt recordBytes coordBytes
 record-round r v s at t e =
     let cs : List ℕ = run 16 (λ m. getD (r .coords) m 0) in
     let i : List ℕ = leBytes 4 (r .id) in
-    let z : List ℕ = replicate 8 0 ++ t in
+    let u : List ℕ = leBytes 4 0 ++ leBytes 4 0 in
+    let z : List ℕ = u ++ t in
     let f : drop at s ≡ i ++ (flat (leBytes 2) cs ++ z) =
-    e ∙ append-assoc i (flat (leBytes 2) cs ++ replicate 8 0) t ∙ ap (λ (u : List ℕ). i ++ u) (append-assoc (flat (leBytes 2) cs) (replicate 8 0) t) in
+      e ∙ append-assoc i (flat (leBytes 2) cs ++ u) t ∙ ap (λ (x : List ℕ). i ++ x) (append-assoc (flat (leBytes 2) cs) u t) in
     let g : drop (at + 4) s ≡ flat (leBytes 2) cs ++ z = next-at s at i (flat (leBytes 2) cs ++ z) 4 (length-le 4 (r .id)) f in
     let l : length cs ≡ 16 = length-run 16 (λ m. getD (r .coords) m 0) in
     let one : (m : ℕ) → m < 16 → leAt 2 s (at + 4 + 2 * m) ≡ getD (r .coords) m 0 =
-    λ m h. le-at 2 (getD (r .coords) m 0) s (at + 4 + 2 * m) (flat (leBytes 2) (drop (suc m) cs) ++ z) (all-at (v .coords) m 0 (rw (v .slots) h))
-    (sym (drop-drop (2 * m) (at + 4) s) ∙ rw g (flat-at (leBytes 2) 2 (length-le 2) m cs z 0 (rw l h))
-    ∙ ap (λ (x : ℕ). leBytes 2 x ++ (flat (leBytes 2) (drop (suc m) cs) ++ z)) (getD-run 16 (λ m. getD (r .coords) m 0) m 0 h)) in
+      λ m h. le-at 2 (getD (r .coords) m 0) s (at + 4 + 2 * m) (flat (leBytes 2) (drop (suc m) cs) ++ z) (all-at (v .coords) m 0 (rw (v .slots) h))
+        (sym (drop-drop (2 * m) (at + 4) s) ∙ rw g (flat-at (leBytes 2) 2 (length-le 2) m cs z 0 (rw l h))
+          ∙ ap (λ (x : ℕ). leBytes 2 x ++ (flat (leBytes 2) (drop (suc m) cs) ++ z)) (getD-run 16 (λ m. getD (r .coords) m 0) m 0 h)) in
     let all : run 16 (λ m. leAt 2 s (at + 4 + 2 * m)) ≡ r .coords =
-    run-ext 16 (λ m. leAt 2 s (at + 4 + 2 * m)) (λ m. getD (r .coords) m 0) one
-    ∙ run-take (r .coords) 0 16 (omega (arith, v .slots)) ∙ take-all 16 (r .coords) (omega (arith, v .slots)) in
+      run-ext 16 (λ m. leAt 2 s (at + 4 + 2 * m)) (λ m. getD (r .coords) m 0) one
+      ∙ run-take (r .coords) 0 16 (omega (arith, v .slots)) ∙ take-all 16 (r .coords) (omega (arith, v .slots)) in
     rw (le-at 4 (r .id) s at (flat (leBytes 2) cs ++ z) (v .id) f, all)
 
 -- ---- pages of items, over the item

@@ -2,6 +2,9 @@
 // Every function is total: a page number out of range reads as an empty page, and a write there does nothing.
 use geometry::Key;
 
+mod numbers;
+mod items;
+
 // A record as it is stored: its identifier, and 16 coordinate slots, each a coordinate with 1,000 added.
 pub struct Record {
     pub id: u32,
