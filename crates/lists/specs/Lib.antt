@@ -9,3 +9,4 @@ pub mod FlatLaws
 pub mod PlaceLaws
 pub mod Counts
 pub mod Runs
+pub mod Ascending
