@@ -1,24 +1,24 @@
 -- `boundOf` is the bound (01) of every span of two real pairs, and the only one; it is below the distance of every point of the span.
-use mathlib.Core.Path.{_≡_, refl, sym, ap, _∙_}
+use mathlib.Core.Path.{_≡_, refl, ap, _∙_}
 use mathlib.Core.Bool.{Bool, true, false}
-use mathlib.Core.Logic.{_⊎_, inl, inr, ⊎-elim, _≢_}
+use mathlib.Core.Logic.{inl, inr, _≢_}
 use mathlib.Core.List.{List, [], _∷_}
 use Prim.Native.Nat.{ℕ, zero, suc, min, max, _+_, _-_, _*_, _≤_, _<_}
 use native.Mathlib.Omega.{arith}
 use native.Mathlib.Nat.{le-antisymm, le-trans, le-of-eq, le-refl, mul-le-mul}
 use borrow.Author.Tests.{lt-ltb, le-ltb}
 use lib.Dec.{ltb}
-use lib.IntN.{ℤ, pos, natAbs, _-ℤ_}
+use lib.IntN.{ℤ, natAbs, _-ℤ_}
 use lib.ListN.{length}
 use Rattle.lists.specs.Basics.{pick}
 use Rattle.geometry.proofs.IntLaws.{gap-le, neg-abs}
-use Rattle.geometry.proofs.ConvexLaws.{Mono, Cost, at-convex, square-cost}
+use Rattle.geometry.proofs.ConvexLaws.{Cost, at-convex, square-cost}
 use Rattle.geometry.proofs.HeightLaws.{from-below, least-height, clamp-value}
 use Rattle.geometry.proofs.SpanLaws.{SpanLeast, LeastOver, span-one, span-more, span-bound, lowest-from, lowest-le-one, real-at, real-up, slice-neg, slice-pos}
 use Rattle.geometry.proofs.StoredLaws.{length-point}
 use Rattle.geometry.specs.Points.{InRange, heightOf, pyramidOf, PairLe, distBy, square, IsBound}
 use Rattle.geometry.specs.Stored.{pointOf}
-use Rattle.geometry.specs.Slices.{onAxis, sideBy, sliceBy, sliceAt, axisNo, signNo, lowestOf, highestOf, lastPyramid, Real, LeastAt, leastFrom, leastIn, boundTo, boundOf}
+use Rattle.geometry.specs.Slices.{onAxis, sideBy, sliceBy, sliceAt, axisNo, signNo, lowestOf, highestOf, lastPyramid, Real, LeastAt, leastIn, boundTo, boundOf}
 
 -- the least distance to a pyramid's heights lo .. hi
 least-over : (κ : ℕ → ℕ → ℕ) (q : List ℤ) (i lo hi : ℕ) → lo ≤ hi → LeastOver (sliceAt κ q i) lo hi (leastIn κ q i lo hi)

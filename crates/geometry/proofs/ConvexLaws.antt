@@ -1,11 +1,11 @@
 -- A slice's least distance is convex in the height, so bisection finds its least height, and clamping keeps it over an interval.
-use mathlib.Core.Path.{_≡_, refl, sym, ap, _∙_}
+use mathlib.Core.Path.{_≡_, ap, _∙_}
 use mathlib.Core.Bool.{Bool, true, false}
 use mathlib.Core.List.{List, [], _∷_}
 use Prim.Native.Nat.{ℕ, zero, suc, _+_, _-_, _*_, _≤_, _<_}
 use native.Mathlib.Omega.{arith}
-use native.Mathlib.Nat.{add-le-add, le-refl, le-trans, le-of-eq, suc-mul, mul-suc, mul-le-mul}
-use native.Mathlib.Decide.{decLe, decLt}
+use native.Mathlib.Nat.{add-le-add, le-trans, le-of-eq, suc-mul, mul-suc, mul-le-mul}
+use native.Mathlib.Decide.{decLe}
 use lib.IntN.{ℤ, pos, negsuc, natAbs, _-ℤ_}
 use lib.ListN.{length}
 use Rattle.geometry.proofs.IntLaws.{gap-pos, gap-pos-neg, gap-neg-pos, gap-neg}

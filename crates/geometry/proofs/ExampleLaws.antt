@@ -1,5 +1,5 @@
 -- The examples of 01 marked P hold. A bound's height is given; that it is least is a test of its two neighbours, by convexity.
-use mathlib.Core.Path.{_≡_, refl, sym, ap, _∙_}
+use mathlib.Core.Path.{_≡_, refl}
 use mathlib.Core.List.{List, [], _∷_}
 use Prim.Native.Nat.{ℕ, _+_, _≤_, _<_}
 use native.Mathlib.Omega.{arith}
@@ -10,9 +10,9 @@ use mathlib.Core.Logic.{inr}
 use Rattle.lists.specs.Basics.{All, none, also}
 use Rattle.geometry.proofs.ConvexLaws.{square-cost}
 use Rattle.geometry.proofs.BoundLaws.{bound-exact}
-use Rattle.geometry.specs.Points.{square, IsBound, heightOf, axisAt, axisOf, pyramidOf}
+use Rattle.geometry.specs.Points.{square, heightOf, axisAt, axisOf, pyramidOf}
 use Rattle.geometry.specs.Slices.{Real, sideBy, sliceBy, axisNo, signNo, sliceAt, leastFrom, leastIn, boundTo, boundOf}
-use Rattle.geometry.specs.Examples.{Example, pair, bound, Holds, examples}
+use Rattle.geometry.specs.Examples.{pair, bound, Holds, examples}
 
 pair-holds : (p : List ℤ) (i h : ℕ) → pyramidOf p ≡ i → heightOf p ≡ h → Holds (pair p i h)
 pair-holds p i h a b = (a, b)

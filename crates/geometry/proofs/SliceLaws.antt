@@ -4,13 +4,13 @@ use mathlib.Core.Bool.{Bool, true, false}
 use mathlib.Core.List.{List, [], _∷_}
 use Prim.Native.Nat.{ℕ, zero, suc, _+_, _-_, _≤_, _<_}
 use native.Mathlib.Omega.{arith}
-use native.Mathlib.Nat.{add-le-add, le-refl, le-of-eq, suc-inj, mul-le-mul}
+use native.Mathlib.Nat.{add-le-add, le-refl, le-of-eq, suc-inj}
 use native.Mathlib.Decide.{decLe}
 use lib.IntN.{ℤ, pos, negsuc, natAbs, negℤ, _-ℤ_}
 use lib.ListN.{length, getD, take, drop}
-use Rattle.geometry.proofs.IntLaws.{gap-pos, gap-pos-neg, gap-neg-pos, gap-neg, gap-ge, gap-le, neg-abs, self-gap}
+use Rattle.geometry.proofs.IntLaws.{gap-pos, gap-neg, gap-ge, neg-abs, self-gap}
 use Rattle.geometry.proofs.PairLaws.{InSide, InSlice}
-use Rattle.geometry.specs.Points.{InRange, isNeg, distBy, square}
+use Rattle.geometry.specs.Points.{isNeg, distBy, square}
 use Rattle.geometry.specs.Slices.{onAxis, sideBy, sliceBy}
 
 -- the nearest number of magnitude at most h

@@ -1,5 +1,5 @@
 -- The least over a span's real pairs of the least distance to a pair's slice is the bound of the span.
-use mathlib.Core.Path.{_≡_, refl, sym, ap, _∙_}
+use mathlib.Core.Path.{_≡_, refl, sym, _∙_}
 use mathlib.Core.Logic.{_⊎_, inl, inr, ⊎-elim, _≢_}
 use mathlib.Core.Bool.{Bool, true, false}
 use mathlib.Core.List.{List, [], _∷_}
@@ -8,12 +8,11 @@ use native.Mathlib.Omega.{arith}
 use native.Mathlib.Nat.{le-trans, le-of-eq}
 use native.Mathlib.Decide.{decLt, ℕ-discrete}
 use borrow.Author.Tests.{lt-ltb, le-ltb, eq-eqb, ne-eqb}
-use lib.Dec.{ltb}
 use lib.IntN.{ℤ, pos, negsuc, natAbs}
 use lib.ListN.{length, getD}
 use Rattle.lists.specs.Basics.{pick}
 use Rattle.geometry.proofs.ConvexLaws.{Mono}
-use Rattle.geometry.proofs.PairLaws.{InSide, InSlice, own, slice-height, slice-pyramid, slice-inside, side-of, side-range, height-range}
+use Rattle.geometry.proofs.PairLaws.{InSlice, own, slice-height, slice-pyramid, slice-inside, side-of, side-range, height-range}
 use Rattle.geometry.proofs.SliceLaws.{HasPoints, slice-below, nearSlice, nearSlice-length, nearSlice-in, nearSlice-dist}
 use Rattle.geometry.specs.Points.{InRange, isNeg, heightOf, axisOf, pyramidOf, PairLe, distBy, IsBound}
 use Rattle.geometry.specs.Slices.{sliceBy, axisNo, signNo, sliceAt, Real, lowestOf}

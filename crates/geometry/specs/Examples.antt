@@ -3,7 +3,6 @@ use mathlib.Core.Path.{_≡_}
 use mathlib.Core.List.{List, [], _∷_}
 use Prim.Native.Nat.{ℕ}
 use lib.IntN.{ℤ, pos, negℤ}
-use Rattle.lists.specs.Basics.{All}
 use Rattle.geometry.specs.Points.{heightOf, pyramidOf, square, IsBound}
 use Rattle.geometry.specs.Slices.{boundOf}
 

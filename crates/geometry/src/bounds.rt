@@ -3,9 +3,9 @@
 // the height, so over the heights of a span that height, clamped to them, is nearest: one sum over the coordinates for each pyramid of the span.
 ghost use mathlib.Core.Path.{_≡_};
 ghost use mathlib.Core.Bool.{true, false};
-ghost use Prim.Native.Nat.{ℕ, min, max, _+_, _*_, _-_, _<_, _≤_};
-ghost use lib.IntN.{pos, natAbs, _-ℤ_};
-ghost use lib.ListN.{length, getD};
+ghost use Prim.Native.Nat.{min, _+_, _*_, _-_, _<_, _≤_};
+ghost use lib.IntN.{natAbs, _-ℤ_};
+ghost use lib.ListN.{length};
 ghost use Rattle.geometry.specs.Points.{square};
 ghost use Rattle.geometry.specs.Stored.{coordOf, pointOf};
 ghost use Rattle.geometry.specs.Slices.{onAxis, sideBy, sliceBy, sliceAt, LeastAt, Nearest, lowestOf, highestOf, lastPyramid, leastIn, boundTo, boundOf};

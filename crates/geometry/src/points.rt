@@ -2,10 +2,10 @@
 // A record holds each coordinate with 1,000 added (`pointOf` reads it back), so everything here but the conversion is on unsigned numbers.
 ghost use mathlib.Core.Path.{_≡_};
 ghost use mathlib.Core.Bool.{true};
-ghost use Prim.Native.Nat.{ℕ, min, max, _+_, _*_, _-_, _<_, _≤_};
-ghost use lib.IntN.{ℤ, pos, natAbs};
+ghost use Prim.Native.Nat.{min, max, _+_, _*_, _-_, _<_, _≤_};
+ghost use lib.IntN.{natAbs};
 ghost use lib.Dec.{leb};
-ghost use lib.ListN.{length, getD};
+ghost use lib.ListN.{length};
 ghost use Rattle.lists.specs.Basics.{pick};
 ghost use Rattle.geometry.specs.Points.{heightOf, axisAt, pyramidOf, distance};
 ghost use Rattle.geometry.specs.Stored.{coordOf, pointOf, stored, slotsOf, inRange};

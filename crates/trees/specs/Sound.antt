@@ -1,8 +1,8 @@
 -- Sound (01, "The tree"): what an index has to be.
 use mathlib.Core.Path.{_≡_}
 use mathlib.Core.Bool.{Bool, _&&_}
-use mathlib.Core.List.{List, [], _∷_, _++_, map}
-use Prim.Native.Nat.{ℕ, zero, suc, _+_, _-_, _*_, _%_, _≤_, _<_}
+use mathlib.Core.List.{List, _++_, map}
+use Prim.Native.Nat.{ℕ, zero, suc, _+_, _-_, _*_, _%_, _≤_}
 use lib.Dec.{ltb}
 use lib.ListN.{length, take}
 use Rattle.lists.specs.Basics.{All, tick, upFrom}
@@ -10,7 +10,7 @@ use Rattle.lists.specs.Counts.{mult}
 use Rattle.lists.specs.Ascending.{Ascending}
 use Rattle.pagestore.specs.declared.Record.{Record}
 use Rattle.pagestore.specs.Store.{View, viewOf}
-use Rattle.trees.specs.Trees.{Item, records, pages, rankOf, identOf, Rep, treeOf, live}
+use Rattle.trees.specs.Trees.{Item, pages, rankOf, identOf, Rep, treeOf, live}
 
 -- a permitted number of bytes: 2 to 16,384 whole pages
 pub record Permitted (bytes : ℕ) : Type 0 where

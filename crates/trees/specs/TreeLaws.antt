@@ -1,6 +1,6 @@
 -- The tree that a view holds at a page is the only one; levels and fills of the page that holds items.
 use mathlib.Core.Path.{_≡_, refl, sym, ap, _∙_}
-use mathlib.Core.List.{List, [], _∷_, map}
+use mathlib.Core.List.{List, _∷_, map}
 use Prim.Native.Nat.{ℕ, zero, suc}
 use lib.ListN.{length}
 use Rattle.lists.specs.Basics.{All, none, also}

@@ -1,12 +1,9 @@
+-- `bounds::axis_gap` meets its contract: the number stored for height h on the axis has the coordinate `onAxis`, and gaps of stored numbers are gaps of coordinates.
 use Rattle.geometry.proofs.StoredLaws.{axis-gap-low, axis-gap-high}
-use native.Mathlib.Omega.{arith}
-use mathlib.Core.Path.{_≡_, sym, ap, _∙_}
+use mathlib.Core.Path.{sym, _∙_}
 use borrow.Author.Needs.{needs}
 use Rattle.geometry.proofs.bounds.axis_gap.Statement.{statement}
 use Rattle.geometry.proofs.bounds.axis_gap.Tie as tie
-use Rattle.geometry.proofs.bounds.axis_gap.Reads as reads
-use Rattle.geometry.proofs.bounds.axis_gap.Lts as lts
-use Rattle.geometry.proofs.points.apart.Reads as apart-reads
 
 sub-apart : tie.Need-sub-apart
 sub-apart c = search needs

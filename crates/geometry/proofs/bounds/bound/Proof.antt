@@ -1,14 +1,9 @@
+-- `bounds::bound` meets its contract: the pairs are read as `boundOf` reads them.
 use mathlib.Core.Path.{_∙_}
 use Rattle.geometry.proofs.BoundLaws.{bound-read}
 use borrow.Author.Needs.{needs}
-use native.Mathlib.Omega.{arith}
 use Rattle.geometry.proofs.bounds.bound.Statement.{statement}
 use Rattle.geometry.proofs.bounds.bound.Tie as tie
-use Rattle.geometry.proofs.bounds.bound.Reads as reads
-use Rattle.geometry.proofs.bounds.bound.Lts as lts
-use Rattle.geometry.proofs.bounds.bound_between.Reads as bound-between-reads
-use Rattle.geometry.proofs.bounds.last_pyramid.Reads as last-pyramid-reads
-use Rattle.geometry.proofs.points.smaller.Reads as smaller-reads
 
 last-pyramid-requires : tie.Need-last-pyramid-requires
 last-pyramid-requires c κs = search needs

@@ -1,7 +1,8 @@
+-- `bounds::bound_between` meets its contract: after pyramid i the least so far is `boundTo` up to pyramid i.
 use lib.ListN.{length}
 use native.Mathlib.Omega.{arith}
 use borrow.Author.Needs.{needs}
-use mathlib.Core.Path.{_≡_, refl, sym, ap, _∙_}
+use mathlib.Core.Path.{_≡_, sym, ap, _∙_}
 use Prim.Native.Nat.{ℕ, min, _+_, _-_, _≤_}
 use Rattle.geometry.specs.Points.{square}
 use Rattle.geometry.specs.Slices.{lowestOf, highestOf, boundTo}
@@ -11,12 +12,6 @@ use Rattle.geometry.proofs.BoundLaws.{highest-le, turn-first, turn-next
 use Rattle.geometry.proofs.SpanLaws.{lowest-le-one}
 use Rattle.geometry.proofs.bounds.bound_between.Statement.{statement}
 use Rattle.geometry.proofs.bounds.bound_between.Tie as tie
-use Rattle.geometry.proofs.bounds.bound_between.Reads as reads
-use Rattle.geometry.proofs.bounds.bound_between.Lts as lts
-use Rattle.geometry.proofs.bounds.highest.Reads as highest-reads
-use Rattle.geometry.proofs.bounds.least_in.Reads as least-in-reads
-use Rattle.geometry.proofs.bounds.lowest.Reads as lowest-reads
-use Rattle.geometry.proofs.bounds.nearer.Reads as nearer-reads
 
 abbrev Inv-loop : tie.InvT-loop
 Inv-loop q nearest i1 h1 i2 h2 d best₀ i₀ best i = (i1 ≤ i) × (i - i1 ≤ i2 - i1) × (best ≡ boundTo square (pointOf q) i1 h1 (i - i1) (highestOf i i2 h2))

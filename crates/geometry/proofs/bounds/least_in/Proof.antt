@@ -1,19 +1,14 @@
+-- `bounds::least_in` meets its contract: the pyramid's nearest height, clamped, is nearest over lo .. hi (convexity).
 use native.Mathlib.Omega.{arith}
-use mathlib.Core.Path.{_≡_, sym, ap, _∙_}
-use Prim.Native.Nat.{ℕ, min, max}
+use mathlib.Core.Path.{sym, ap, _∙_}
 use Rattle.geometry.specs.Points.{square}
-use Rattle.geometry.specs.Slices.{sliceAt, leastIn}
+use Rattle.geometry.specs.Slices.{sliceAt}
 use Rattle.geometry.specs.Stored.{pointOf}
 use Rattle.geometry.proofs.StoredLaws.{length-point}
 use Rattle.geometry.proofs.BoundLaws.{least-in-is}
 use borrow.Author.Needs.{needs}
 use Rattle.geometry.proofs.bounds.least_in.Statement.{statement}
 use Rattle.geometry.proofs.bounds.least_in.Tie as tie
-use Rattle.geometry.proofs.bounds.least_in.Reads as reads
-use Rattle.geometry.proofs.bounds.least_in.Lts as lts
-use Rattle.geometry.proofs.bounds.slice_in.Reads as slice-in-reads
-use Rattle.geometry.proofs.points.greater.Reads as greater-reads
-use Rattle.geometry.proofs.points.smaller.Reads as smaller-reads
 
 mul-smaller : tie.Need-mul-smaller
 mul-smaller c = search needs

@@ -1,8 +1,7 @@
-use lib.ListN.{length}
+-- `bounds::nearest_height` meets its contract: bisection; the least minimiser stays between `low` and `high`.
 use native.Mathlib.Omega.{arith}
 use borrow.Author.Needs.{needs}
-use mathlib.Core.Path.{_≡_, sym, ap, _∙_}
-use Prim.Native.Nat.{ℕ, _+_, _-_, _/_, _≤_}
+use Prim.Native.Nat.{_+_, _-_, _/_}
 use Rattle.geometry.specs.Points.{square}
 use Rattle.geometry.specs.Slices.{sliceAt}
 use Rattle.geometry.specs.Stored.{pointOf}
@@ -10,9 +9,6 @@ use Rattle.geometry.proofs.ConvexLaws.{square-cost, at-convex}
 use Rattle.geometry.proofs.HeightLaws.{Bisect, bisect-start, bisect-low, bisect-high, bisect-end}
 use Rattle.geometry.proofs.bounds.nearest_height.Statement.{statement}
 use Rattle.geometry.proofs.bounds.nearest_height.Tie as tie
-use Rattle.geometry.proofs.bounds.nearest_height.Reads as reads
-use Rattle.geometry.proofs.bounds.nearest_height.Lts as lts
-use Rattle.geometry.proofs.bounds.slice_in.Reads as slice-in-reads
 
 abbrev Inv-loop : tie.InvT-loop
 Inv-loop q i low₀ high₀ low high = Bisect (sliceAt square (pointOf q) i) 0 1000 low high

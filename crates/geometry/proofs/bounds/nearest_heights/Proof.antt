@@ -1,7 +1,8 @@
+-- `bounds::nearest_heights` meets its contract: each pyramid below i has its nearest height.
 use native.Mathlib.Omega.{arith}
 use borrow.Author.Needs.{needs}
-use mathlib.Core.Path.{_≡_, sym, ap, _∙_}
-use Prim.Native.Nat.{ℕ, _+_, _-_, _*_, _≤_, _<_}
+use mathlib.Core.Path.{_≡_, _∙_}
+use Prim.Native.Nat.{ℕ, _-_, _*_, _≤_, _<_}
 use lib.ListN.{length, getD, length-set}
 use Rattle.lists.specs.Basics.{below-stored}
 use Rattle.geometry.specs.Points.{square}
@@ -10,9 +11,6 @@ use Rattle.geometry.specs.Stored.{pointOf}
 use Rattle.geometry.proofs.StoredLaws.{length-point}
 use Rattle.geometry.proofs.bounds.nearest_heights.Statement.{statement}
 use Rattle.geometry.proofs.bounds.nearest_heights.Tie as tie
-use Rattle.geometry.proofs.bounds.nearest_heights.Reads as reads
-use Rattle.geometry.proofs.bounds.nearest_heights.Lts as lts
-use Rattle.geometry.proofs.bounds.nearest_height.Reads as nearest-height-reads
 
 abbrev Inv-loop : tie.InvT-loop
 Inv-loop q heights₀ n i₀ heights i = (i ≤ n) × (n ≡ length q * 2) × (length heights ≡ 32) × ((k : ℕ) → k < i → LeastAt (sliceAt square (pointOf q) k) 0 1000 (getD heights k 0))

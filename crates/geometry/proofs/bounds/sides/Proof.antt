@@ -1,20 +1,16 @@
+-- `bounds::sides` meets its contract: the sum so far, with what the coordinates from m on still cost, is the whole.
 use lib.ListN.{length, drop, getD}
 use lib.IntN.{natAbs}
 use Rattle.geometry.specs.Stored.{pointOf, coordOf}
 use native.Mathlib.Omega.{arith}
 use Prim.Native.Nat.{ℕ, _+_, _-_, _*_, _≤_}
 use borrow.Author.Needs.{needs}
-use mathlib.Core.Path.{_≡_, sym, ap, _∙_}
+use mathlib.Core.Path.{_≡_, ap, _∙_}
 use Rattle.geometry.specs.Points.{square}
 use Rattle.geometry.specs.Slices.{sideBy}
 use Rattle.geometry.proofs.LoopLaws.{side-more, side-end}
 use Rattle.geometry.proofs.bounds.sides.Statement.{statement}
 use Rattle.geometry.proofs.bounds.sides.Tie as tie
-use Rattle.geometry.proofs.bounds.sides.Reads as reads
-use Rattle.geometry.proofs.bounds.sides.Lts as lts
-use Rattle.geometry.proofs.bounds.above.Reads as above-reads
-use Rattle.geometry.proofs.points.cost.Reads as cost-reads
-use Rattle.geometry.proofs.points.magnitude.Reads as magnitude-reads
 
 abbrev Inv-loop : tie.InvT-loop
 Inv-loop q extra h sum₀ m₀ sum m = (m ≤ length q) × (sum ≤ 4294967296 * m) × (sum + sideBy square m extra h (drop m (pointOf q)) ≡ sideBy square 0 extra h (pointOf q))

@@ -1,17 +1,12 @@
-use Prim.Native.Nat.{ℕ, _+_, _-_, _*_}
-use lib.ListN.{length, take, drop}
+-- `bounds::slice` meets its contract: a slice's sum in three parts: on the axis, before it, after it.
+use Prim.Native.Nat.{ℕ, _-_, _*_}
 use Rattle.geometry.proofs.LoopLaws.{slice-sum, tail-length}
 use native.Mathlib.Omega.{arith}
-use mathlib.Core.Path.{_≡_, sym, ap, _∙_}
+use mathlib.Core.Path.{sym, ap, _∙_}
 use lib.Seq.{length-take-le}
 use borrow.Author.Needs.{needs}
 use Rattle.geometry.proofs.bounds.slice.Statement.{statement}
 use Rattle.geometry.proofs.bounds.slice.Tie as tie
-use Rattle.geometry.proofs.bounds.slice.Reads as reads
-use Rattle.geometry.proofs.bounds.slice.Lts as lts
-use Rattle.geometry.proofs.bounds.axis_gap.Reads as axis-gap-reads
-use Rattle.geometry.proofs.bounds.sides.Reads as sides-reads
-use Rattle.geometry.proofs.points.cost.Reads as cost-reads
 
 add-after : tie.Need-add-after
 add-after c = search needs

@@ -1,15 +1,9 @@
-use native.Mathlib.Omega.{arith}
-use mathlib.Core.Path.{_≡_, sym, ap, _∙_}
-use Rattle.geometry.specs.Points.{square}
-use Rattle.geometry.specs.Stored.{pointOf}
-use Rattle.geometry.proofs.StoredLaws.{length-point}
+-- `bounds::slice_in` meets its contract: the axis and the side of a pyramid number.
+use mathlib.Core.Path.{sym, _∙_}
 use Rattle.geometry.proofs.BoundLaws.{slice-low, slice-high}
 use borrow.Author.Needs.{needs}
 use Rattle.geometry.proofs.bounds.slice_in.Statement.{statement}
 use Rattle.geometry.proofs.bounds.slice_in.Tie as tie
-use Rattle.geometry.proofs.bounds.slice_in.Reads as reads
-use Rattle.geometry.proofs.bounds.slice_in.Lts as lts
-use Rattle.geometry.proofs.bounds.slice.Reads as slice-reads
 
 slice-requires : tie.Need-slice-requires
 slice-requires c κs = search needs

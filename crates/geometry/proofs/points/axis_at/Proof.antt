@@ -1,3 +1,4 @@
+-- `points::axis_at` meets its contract: m and the first coordinate of magnitude h from m on make the axis.
 use native.Mathlib.Omega.{arith}
 use Prim.Native.Nat.{_+_, _-_, _≤_}
 use borrow.Author.Needs.{needs}
@@ -8,9 +9,6 @@ use Rattle.geometry.specs.Stored.{pointOf}
 use Rattle.geometry.proofs.LoopLaws.{axis-here, axis-more, axis-end}
 use Rattle.geometry.proofs.points.axis_at.Statement.{statement}
 use Rattle.geometry.proofs.points.axis_at.Tie as tie
-use Rattle.geometry.proofs.points.axis_at.Reads as reads
-use Rattle.geometry.proofs.points.axis_at.Lts as lts
-use Rattle.geometry.proofs.points.magnitude.Reads as magnitude-reads
 
 abbrev Inv-loop : tie.InvT-loop
 Inv-loop p h m₀ m = (m ≤ length p) × (m + axisAt h (drop m (pointOf p)) ≡ axisAt h (pointOf p))

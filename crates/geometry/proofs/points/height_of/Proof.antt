@@ -1,3 +1,4 @@
+-- `points::height_of` meets its contract: the greatest so far, with the height of what is left, is the height.
 use native.Mathlib.Omega.{arith}
 use Prim.Native.Nat.{max, _-_, _≤_}
 use borrow.Author.Needs.{needs}
@@ -8,10 +9,6 @@ use Rattle.geometry.specs.Stored.{pointOf}
 use Rattle.geometry.proofs.LoopLaws.{height-more, height-end}
 use Rattle.geometry.proofs.points.height_of.Statement.{statement}
 use Rattle.geometry.proofs.points.height_of.Tie as tie
-use Rattle.geometry.proofs.points.height_of.Reads as reads
-use Rattle.geometry.proofs.points.height_of.Lts as lts
-use Rattle.geometry.proofs.points.greater.Reads as greater-reads
-use Rattle.geometry.proofs.points.magnitude.Reads as magnitude-reads
 
 abbrev Inv-loop : tie.InvT-loop
 Inv-loop p h₀ m₀ h m = (m ≤ length p) × (max h (heightOf (drop m (pointOf p))) ≡ heightOf (pointOf p))

@@ -1,8 +1,9 @@
+-- `points::pair_of` meets its contract: the first coordinate of greatest magnitude and its side make the pyramid number.
 use Rattle.geometry.specs.Points.{axisOf}
 use lib.ListN.{length}
 use Prim.Native.Nat.{_<_}
 use native.Mathlib.Omega.{arith}
-use mathlib.Core.Path.{_≡_, sym, ap, _∙_}
+use mathlib.Core.Path.{_≡_, _∙_}
 use Rattle.geometry.specs.Stored.{pointOf}
 use Rattle.geometry.proofs.StoredLaws.{length-point}
 use Rattle.geometry.proofs.PairLaws.{axis-inside}
@@ -10,11 +11,6 @@ use Rattle.geometry.proofs.LoopLaws.{axis-is, pyramid-is}
 use borrow.Author.Needs.{needs}
 use Rattle.geometry.proofs.points.pair_of.Statement.{statement}
 use Rattle.geometry.proofs.points.pair_of.Tie as tie
-use Rattle.geometry.proofs.points.pair_of.Reads as reads
-use Rattle.geometry.proofs.points.pair_of.Lts as lts
-use Rattle.geometry.proofs.points.axis_at.Reads as axis-at-reads
-use Rattle.geometry.proofs.points.height_of.Reads as height-of-reads
-use Rattle.geometry.proofs.points.pyramid_no.Reads as pyramid-no-reads
 
 height-of-requires : tie.Need-height-of-requires
 height-of-requires c κs = search needs

@@ -1,17 +1,14 @@
+-- `points::squared_distance` meets its contract: the sum so far, with the distance of what is left, is the whole.
 use native.Mathlib.Omega.{arith}
 use Prim.Native.Nat.{ℕ, _+_, _-_, _*_, _≤_}
 use borrow.Author.Needs.{needs}
 use lib.ListN.{length, drop}
-use mathlib.Core.Path.{_≡_, sym, ap, _∙_}
+use mathlib.Core.Path.{_≡_, ap, _∙_}
 use Rattle.geometry.specs.Points.{distBy, square, distance}
 use Rattle.geometry.specs.Stored.{pointOf}
 use Rattle.geometry.proofs.LoopLaws.{dist-more, dist-end}
 use Rattle.geometry.proofs.points.squared_distance.Statement.{statement}
 use Rattle.geometry.proofs.points.squared_distance.Tie as tie
-use Rattle.geometry.proofs.points.squared_distance.Reads as reads
-use Rattle.geometry.proofs.points.squared_distance.Lts as lts
-use Rattle.geometry.proofs.points.apart.Reads as apart-reads
-use Rattle.geometry.proofs.points.cost.Reads as cost-reads
 
 abbrev Inv-loop : tie.InvT-loop
 Inv-loop q p sum₀ m₀ sum m = (m ≤ length q) × (sum ≤ 4294967296 * m) × (sum + distBy square m (drop m (pointOf q)) (drop m (pointOf p)) ≡ distance (pointOf q) (pointOf p))
