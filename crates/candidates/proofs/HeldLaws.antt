@@ -1,13 +1,13 @@
 -- Laws of rows in two arrays: comparing tags, the place of a row, putting in, and what an offer leaves.
 use mathlib.Core.Path.{_≡_, refl, sym, ap, ap₂, _∙_}
 use mathlib.Core.Logic.{_≢_}
-use mathlib.Core.Bool.{Bool, true, false, _&&_}
-use mathlib.Core.List.{List, [], _∷_, _++_, map}
+use mathlib.Core.Bool.{true, false}
+use mathlib.Core.List.{List, [], _∷_, map}
 use Prim.Native.Nat.{ℕ, zero, suc, _+_, _*_, _-_, _/_, _%_, _≤_, _<_, min}
 use native.Mathlib.Omega.{arith}
 use lib.ListN.{length, take, drop, getD, length-take, drop-of-length-le}
 use lib.Seq.{length-take-le, getD-take}
-use lib.Dec.{ltb, leb}
+use lib.Dec.{ltb}
 use borrow.Author.Tests.{lt-ltb, le-ltb, le-leb, lt-leb}
 use Rattle.lists.specs.Basics.{All, none}
 use Rattle.lists.specs.Tests.{three}
@@ -19,7 +19,7 @@ use Rattle.lists.specs.Orders.{by, lower, by-lower, by-equal, by-higher}
 use Rattle.bestfirst.specs.Nearest.{kth}
 use Rattle.bestfirst.specs.Nearest as nearest
 use Rattle.candidates.specs.declared.Row.{Row}
-use Rattle.candidates.specs.Rows.{rowOrder, tieOrder, tagOf, rowOf, byDistance}
+use Rattle.candidates.specs.Rows.{rowOrder, tieOrder, tagOf, rowOf}
 use Rattle.candidates.specs.Held.{rowsOf, rowsIn, Held, Offered, Stops}
 use Rattle.candidates.specs.RowLaws.{row-order}
 

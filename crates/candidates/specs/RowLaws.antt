@@ -1,14 +1,14 @@
 -- Laws of row order: it is total, on distinct identifiers position never decides, and lists past a mark join up.
-use mathlib.Core.Path.{_≡_, refl, sym, ap, _∙_}
+use mathlib.Core.Path.{_≡_, refl, sym, _∙_}
 use mathlib.Core.Logic.{_≢_}
 use mathlib.Core.Bool.{Bool, true, false, _&&_}
 use mathlib.Core.List.{List, [], _∷_}
-use Prim.Native.Nat.{ℕ, _+_, _≤_, _<_}
+use Prim.Native.Nat.{ℕ, _+_, _≤_}
 use native.Mathlib.Omega.{arith}
-use lib.Dec.{ltb, eqb}
-use borrow.Author.Tests.{ltb-true, ltb-false, eq-eqb, le-ltb, lt-ltb}
-use Rattle.lists.specs.Basics.{All, none, also, tick}
-use Rattle.lists.specs.Tests.{cases, false-true, three}
+use lib.Dec.{eqb}
+use borrow.Author.Tests.{eq-eqb, le-ltb, lt-ltb}
+use Rattle.lists.specs.Basics.{All, none, also}
+use Rattle.lists.specs.Tests.{cases, three}
 use Rattle.lists.specs.Sorting.{count, keep, sum, Order, Sorted}
 use Rattle.lists.specs.Sorting as sorting
 use Rattle.lists.specs.SortingLaws.{sorted-sort, count-sort}

@@ -1,7 +1,7 @@
 -- Rows, and row order.
 use mathlib.Core.Bool.{Bool}
 use Prim.Native.Nat.{ℕ, _+_, _*_, _/_, _%_}
-use Rattle.lists.specs.Orders.{by, lower, lex}
+use Rattle.lists.specs.Orders.{by, lower}
 use Rattle.bestfirst.specs.Nearest.{Ranking}
 use Rattle.candidates.specs.declared.Row.{Row}
 

@@ -1,12 +1,12 @@
 -- The place of an element in a sorted list, and putting an element in at an index.
-use mathlib.Core.Path.{_≡_, refl, sym, ap, ap₂, _∙_}
+use mathlib.Core.Path.{_≡_, refl, sym, ap, _∙_}
 use mathlib.Core.Logic.{_≢_}
 use mathlib.Core.Bool.{Bool, true, false}
-use mathlib.Core.List.{List, [], _∷_, _++_, append-assoc}
+use mathlib.Core.List.{List, [], _∷_, _++_}
 use Prim.Native.Nat.{ℕ, zero, suc, _+_, _-_, _≤_, _<_, min}
 use native.Mathlib.Omega.{arith}
 use native.Mathlib.Numerals.{add-one, one-add}
-use lib.ListN.{length, take, drop, getD, set, length-take, length-append}
+use lib.ListN.{length, take, drop, getD, set, length-take}
 use lib.Seq.{take-suc-set, drop-cons, drop-drop, drop-set-lt, append-snoc, length-take-le, take-append-le, take-append-add, take-take, take-all, set-split, take-at}
 use Rattle.lists.specs.Basics.{All, none, also}
 use Rattle.lists.specs.Tests.{cases}
