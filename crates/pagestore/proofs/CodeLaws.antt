@@ -2,7 +2,7 @@
 use mathlib.Core.Path.{_≡_, refl, sym, ap, _∙_}
 use mathlib.Core.Bool.{Bool, true, false}
 use mathlib.Core.List.{List, [], _∷_, _++_, map, append-assoc, append-nil}
-use Prim.Native.Nat.{ℕ, _+_, _-_, _*_, _≤_, _<_, min}
+use Prim.Native.Nat.{ℕ, _+_, _-_, _*_, _%_, _≤_, _<_, min}
 use native.Mathlib.Omega.{arith}
 use lib.Dec.{leb}
 use lib.ListN.{length, getD, take, drop, replicate, length-append, length-take, length-drop, length-map, drop-of-length-le}
@@ -157,3 +157,13 @@ part-none b p xs h = sym (set-out b p xs h)
 -- an array has as many elements as its values
 pub unmapped : {X Y : Type 0} (g : X → Y) (l : List X) (n : ℕ) → length (map g l) ≡ n → length l ≡ n
 unmapped g l n e = sym (length-map l g) ∙ e
+
+-- ---- a number of one byte
+
+pub le-one : (s : List ℕ) (at : ℕ) → leAt 1 s at ≡ byteAt s at
+unfolding leAt
+le-one s at = omega arith
+
+pub put-one : (s : List ℕ) (at v : ℕ) → v < 256 → put s at (leBytes 1 v) ≡ put s at (v ∷ [])
+unfolding leBytes
+put-one s at v h = let e : v % 256 ≡ v = omega arith in rw e

@@ -5,6 +5,7 @@ use geometry::Key;
 mod numbers;
 mod items;
 pub mod pages;
+pub mod header;
 
 // A record as it is stored: its identifier, and 16 coordinate slots, each a coordinate with 1,000 added.
 pub struct Record {
