@@ -7,7 +7,7 @@ use Prim.Native.Nat.{ℕ, zero, suc, _+_, _≤_}
 use lib.ListN.{length}
 use lib.Dec.{leb}
 use Rattle.lists.specs.Basics.{pick, All, flat}
-use Rattle.lists.specs.Sorting.{sum, insAll, offerAll, keep}
+use Rattle.lists.specs.Sorting.{insAll, offerAll, keep}
 use Rattle.bestfirst.specs.Nearest.{Ranking, Outcome, reading, exceeds, offered}
 
 module _ {E : Type 0} (isLeaf : E → Bool) (kids : E → List E) where
@@ -17,17 +17,12 @@ module _ {E : Type 0} (isLeaf : E → Bool) (kids : E → List E) where
   leavesUnder zero e = pick (isLeaf e) (e ∷ []) []
   leavesUnder (suc n) e = pick (isLeaf e) (e ∷ []) (flat (leavesUnder n) (kids e))
 
-  -- the number of entries under an entry, itself one of them
-  unfoldable pub entriesUnder : ℕ → E → ℕ
-  unfolding sum
-  entriesUnder zero e = 1
-  entriesUnder (suc n) e = pick (isLeaf e) 1 (suc (sum (entriesUnder n) (kids e)))
-
-  -- in at most n levels all ways down end at a leaf; no inner page is empty, and no entry of a page is before the page's own
+  -- In at most n levels all ways down end at a leaf; an inner page has two entries or more; and no leaf under an entry is before it.
   unfoldable pub Descends : (E → E → Bool) → ℕ → E → Type 0
+  unfolding leavesUnder
   Descends before zero e = isLeaf e ≡ true
   Descends before (suc n) e =
-      isLeaf e ≡ false → (1 ≤ length (kids e)) × All (λ x. before x e ≡ false) (kids e) × All (Descends before n) (kids e)
+      isLeaf e ≡ false → (2 ≤ length (kids e)) × All (λ x. before x e ≡ false) (leavesUnder (suc n) e) × All (Descends before n) (kids e)
 
 module _ {A E : Type 0} (r : Ranking A) (bound : E → ℕ) (rows : E → List A) (before : E → E → Bool) (isLeaf : E → Bool) (kids : E → List E) (k room : ℕ) where
   -- The search: the first entry of the frontier is taken until its bound exceeds the k-th cost found; a leaf is read, an inner

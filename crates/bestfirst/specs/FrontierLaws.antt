@@ -2,38 +2,38 @@
 use mathlib.Core.Path.{_≡_, refl, sym, ap, ap₂, _∙_}
 use mathlib.Core.Bool.{Bool, true, false}
 use mathlib.Core.List.{List, [], _∷_, _++_, append-nil}
-use Prim.Native.Nat.{ℕ, zero, suc, _+_, _≤_, _<_}
+use Prim.Native.Nat.{ℕ, zero, suc, _+_, _*_, _≤_, _<_}
 use native.Mathlib.Omega.{arith}
 use lib.ListN.{length, length-append}
-use lib.Dec.{leb}
 use borrow.Author.Tests.{le-leb, lt-leb}
-use Rattle.lists.specs.Basics.{pick, All, none, also, all-head, all-tail, all-map, flat, flat-append}
+use Rattle.lists.specs.Basics.{pick, All, none, also, all-tail, all-map, flat}
 use Rattle.lists.specs.Tests.{cases, false-true, from-one}
-use Rattle.lists.specs.Sorting.{keep, count, sum, Order, ins, sort, insAll, offerAll, Sorted, end, next}
-use Rattle.lists.specs.SortingLaws.{irrefl, not-before, all-insAll, all-sort, length-insAll, sorted-insAll, sort-first, sort-canonical, length-sort, count-append}
+use Rattle.lists.specs.Sorting.{count, sum, Order, sort, insAll, Sorted, end, next}
+use Rattle.lists.specs.SortingLaws.{irrefl, not-before, all-insAll, all-sort, sorted-insAll, sort-first, sort-canonical, length-sort, count-append}
 use Rattle.lists.specs.FlatLaws.{all-both, all-flat, flat-same, count-flat, sum-same, sum-insAll}
-use Rattle.bestfirst.specs.Nearest.{Ranking, Outcome, reading, exceeds, offered, visit}
+use Rattle.bestfirst.specs.Nearest.{Ranking, reading, exceeds, offered, visit}
 use Rattle.bestfirst.specs.VisitLaws.{exceeds-below, below-more, visit-stop, visit-read}
-use Rattle.bestfirst.specs.Frontier.{leavesUnder, entriesUnder, Descends, seek}
+use Rattle.bestfirst.specs.Frontier.{leavesUnder, Descends, seek}
 
 module _ {E : Type 0} (isLeaf : E → Bool) (kids : E → List E) where
+  -- the number of entries under an entry, itself one of them
+  unfoldable entriesUnder : ℕ → E → ℕ
+  unfolding sum
+  entriesUnder zero e = 1
+  entriesUnder (suc n) e = pick (isLeaf e) 1 (suc (sum (entriesUnder n) (kids e)))
+
   under-leaf : (n : ℕ) (e : E) → isLeaf e ≡ true → leavesUnder isLeaf kids n e ≡ e ∷ []
   unfolding leavesUnder
   under-leaf zero e h = rw h
   under-leaf (suc n) e h = rw h
 
-  entries-some : (n : ℕ) (e : E) → 1 ≤ entriesUnder isLeaf kids n e
+  entries-some : (n : ℕ) (e : E) → 1 ≤ entriesUnder n e
   unfolding entriesUnder
   entries-some zero e = omega arith
   entries-some (suc n) e = cases (isLeaf e) (λ h. rw h (omega arith)) (λ h. rw h (omega arith))
 
   module _ (before : E → E → Bool) where
     -- more levels may be looked at
-    pub descends-more : (n : ℕ) (e : E) → Descends isLeaf kids before n e → Descends isLeaf kids before (suc n) e
-    unfolding Descends
-    descends-more zero e d = λ h. false-true (sym h ∙ d)
-    descends-more (suc n) e d = λ h. (d h .0, d h .1, all-map (descends-more n) (d h .2))
-
     leaves-more : (n : ℕ) (e : E) → Descends isLeaf kids before n e → leavesUnder isLeaf kids (suc n) e ≡ leavesUnder isLeaf kids n e
     unfolding Descends leavesUnder
     leaves-more zero e d = rw d
@@ -42,7 +42,12 @@ module _ {E : Type 0} (isLeaf : E → Bool) (kids : E → List E) where
         (λ h. rw h)
         (λ h. rw h (flat-same (kids e) (all-map (leaves-more n) (d h .2))))
 
-    entries-more : (n : ℕ) (e : E) → Descends isLeaf kids before n e → entriesUnder isLeaf kids (suc n) e ≡ entriesUnder isLeaf kids n e
+    pub descends-more : (n : ℕ) (e : E) → Descends isLeaf kids before n e → Descends isLeaf kids before (suc n) e
+    unfolding Descends
+    descends-more zero e d = λ h. false-true (sym h ∙ d)
+    descends-more (suc n) e d = λ h. (d h .0, rw (leaves-more (suc n) e d) (d h .1), all-map (descends-more n) (d h .2))
+
+    entries-more : (n : ℕ) (e : E) → Descends isLeaf kids before n e → entriesUnder (suc n) e ≡ entriesUnder n e
     unfolding Descends entriesUnder
     entries-more zero e d = rw d
     entries-more (suc n) e d =
@@ -51,19 +56,15 @@ module _ {E : Type 0} (isLeaf : E → Bool) (kids : E → List E) where
         (λ h. rw h (ap suc (sum-same (kids e) (all-map (entries-more n) (d h .2)))))
 
     -- an inner entry: what its entries are
-    pub record Opens (n : ℕ) (e : E) : Type 0 where
-      pub some : 1 ≤ length (kids e)
-      pub later : All (λ x. before x e ≡ false) (kids e)
+    record Opens (n : ℕ) (e : E) : Type 0 where
       pub descend : All (Descends isLeaf kids before n) (kids e)
       pub leaves : leavesUnder isLeaf kids n e ≡ flat (leavesUnder isLeaf kids n) (kids e)
-      pub entries : entriesUnder isLeaf kids n e ≡ suc (sum (entriesUnder isLeaf kids n) (kids e))
+      pub entries : entriesUnder n e ≡ suc (sum (entriesUnder n) (kids e))
 
     opens : (n : ℕ) (e : E) → isLeaf e ≡ false → Descends isLeaf kids before n e → Opens n e
     unfolding Descends leavesUnder entriesUnder
     opens zero e h d = false-true (sym h ∙ d)
     opens (suc n) e h d = record {
-      some = d h .0;
-      later = d h .1;
       descend = all-map (descends-more n) (d h .2);
       leaves = rw h (sym (flat-same (kids e) (all-map (leaves-more n) (d h .2))));
       entries = rw h (ap suc (sym (sum-same (kids e) (all-map (entries-more n) (d h .2)))));
@@ -76,11 +77,27 @@ module _ {E : Type 0} (isLeaf : E → Bool) (kids : E → List E) where
     leaves-some (suc n) e d =
         cases (isLeaf e)
         (λ h. rw h (omega arith))
-        (λ h. rw h (first-some (kids e) (d h .0) (all-map (leaves-some n) (d h .2))))
+        (λ h. rw h (first-some (kids e) (let q = d h .0 in omega arith) (all-map (leaves-some n) (d h .2))))
       where
         first-some : (xs : List E) → 1 ≤ length xs → All (λ x. 1 ≤ length (leavesUnder isLeaf kids n x)) xs → 1 ≤ length (flat (leavesUnder isLeaf kids n) xs)
         first-some [] w a = absurd (omega arith)
         first-some (x ∷ xs) w (also g a) = rw (length-append (leavesUnder isLeaf kids n x) (flat (leavesUnder isLeaf kids n) xs)) (omega arith)
+
+    -- fewer entries than twice the leaves
+    entries-list : (n : ℕ) (xs : List E) → All (λ x. entriesUnder n x < 2 * length (leavesUnder isLeaf kids n x)) xs
+        → sum (entriesUnder n) xs + length xs ≤ 2 * length (flat (leavesUnder isLeaf kids n) xs)
+    unfolding sum flat
+    entries-list n [] none = omega arith
+    entries-list n (x ∷ xs) (also h a) =
+        let q = entries-list n xs a in rw (length-append (leavesUnder isLeaf kids n x) (flat (leavesUnder isLeaf kids n) xs)) (omega arith)
+
+    entries-few : (n : ℕ) (e : E) → Descends isLeaf kids before n e → entriesUnder n e < 2 * length (leavesUnder isLeaf kids n e)
+    unfolding Descends entriesUnder leavesUnder
+    entries-few zero e d = rw d (omega arith)
+    entries-few (suc n) e d =
+        cases (isLeaf e)
+        (λ h. rw h (omega arith))
+        (λ h. let q = entries-list n (kids e) (all-map (entries-few n) (d h .2)) in let w = d h .0 in rw h (omega arith))
 
     -- there are no more entries than leaves under them
     room-enough : (n : ℕ) (f : List E) → All (Descends isLeaf kids before n) f → length f ≤ length (flat (leavesUnder isLeaf kids n) f)
@@ -92,15 +109,13 @@ module _ {E : Type 0} (isLeaf : E → Bool) (kids : E → List E) where
         rw (length-append (leavesUnder isLeaf kids n e) (flat (leavesUnder isLeaf kids n) f)) (omega arith)
 
     module _ (o : Order before) where
-      -- no leaf under an entry is before it
       under-floor : (n : ℕ) (e : E) → Descends isLeaf kids before n e → All (λ x. before x e ≡ false) (leavesUnder isLeaf kids n e)
       unfolding Descends leavesUnder
       under-floor zero e d = rw d (also (irrefl before o e) none)
       under-floor (suc n) e d =
           cases (isLeaf e)
-          (λ h. rw h (also (irrefl before o e) none))
-          (λ h. rw h (all-flat (leavesUnder isLeaf kids n) (kids e)
-          (all-map (λ x p. all-map (λ y q. not-before before o e x y (p .0) q) (under-floor n x (p .1))) (all-both (d h .1) (d h .2)))))
+          (λ h. rw (under-leaf (suc n) e h) (also (irrefl before o e) none))
+          (λ h. d h .1)
 
       module _ (n : ℕ) where
         -- no leaf under a frontier in order is before its first entry
@@ -172,14 +187,14 @@ module _ {A E : Type 0} (r : Ranking A) (bound : E → ℕ) (rows : E → List A
         visit-stop r bound rows k l ls s (from-one (λ m. exceeds r m (bound e) s ≡ true → exceeds r m (bound l) s ≡ true)
         (λ j y. exceeds-below r j (bound l) s ∙ below-more (r .cost) j (bound e) (bound l) s (floor e l h) (sym (exceeds-below r j (bound e) s) ∙ y)) k one x)
 
-    pub seek-visit : (n : ℕ) (f : List E) (s : List A) → 1 ≤ k → Sorted before f → All (Descends isLeaf kids before depth) f
+    seek-entries : (n : ℕ) (f : List E) (s : List A) → 1 ≤ k → Sorted before f → All (Descends isLeaf kids before depth) f
         → length (flat (leavesUnder isLeaf kids depth) f) ≤ room → sum (entriesUnder isLeaf kids depth) f ≤ n
         → seek r bound rows before isLeaf kids k room n f s ≡ visit r bound rows k (sort before (flat (leavesUnder isLeaf kids depth) f)) s
     unfolding flat sort visit sum
-    seek-visit zero [] s one q d g w = seek-end zero s
-    seek-visit zero (e ∷ f) s one q d g w = let p = entries-some isLeaf kids depth e in absurd (omega arith)
-    seek-visit (suc n) [] s one q d g w = seek-end (suc n) s
-    seek-visit (suc n) (e ∷ f) s one (next a q) (also d ds) g w =
+    seek-entries zero [] s one q d g w = seek-end zero s
+    seek-entries zero (e ∷ f) s one q d g w = let p = entries-some isLeaf kids depth e in absurd (omega arith)
+    seek-entries (suc n) [] s one q d g w = seek-end (suc n) s
+    seek-entries (suc n) (e ∷ f) s one (next a q) (also d ds) g w =
         let all = flat (leavesUnder isLeaf kids depth) (e ∷ f) in
         let first = frontier-floor isLeaf kids before o depth e f (next a q) (also d ds) in
         let parts = length-append (leavesUnder isLeaf kids depth e) (flat (leavesUnder isLeaf kids depth) f) in
@@ -188,7 +203,7 @@ module _ {A E : Type 0} (r : Ranking A) (bound : E → ℕ) (rows : E → List A
         (λ x. seek-stop n e f s x ∙ sym (visit-stops e (sort before all) s one x (all-sort before all first)))
         (λ x. cases (isLeaf e)
         (λ h. seek-read n e f s x h
-        ∙ ap (reading e) (seek-visit n f (offered r bound rows k e s) one q ds (omega arith) (omega arith))
+        ∙ ap (reading e) (seek-entries n f (offered r bound rows k e s) one q ds (omega arith) (omega arith))
         ∙ sym (ap (λ (ls : List E). visit r bound rows k ls s) (leaf-first isLeaf kids before o depth e f h first)
         ∙ visit-read r bound rows k e (sort before (flat (leavesUnder isLeaf kids depth) f)) s x))
         (λ h. let t = opens isLeaf kids before depth e h d in
@@ -200,15 +215,21 @@ module _ {A E : Type 0} (r : Ranking A) (bound : E → ℕ) (rows : E → List A
         let same = length-opened isLeaf kids before o depth e f leaves in
         let total = sum-insAll before (entriesUnder isLeaf kids depth) (kids e) f in
         seek-open n e f s x h (omega arith)
-        ∙ seek-visit n (insAll before (kids e) f) s one (sorted-insAll before o (kids e) f q) (all-insAll before (kids e) f (t .descend) ds) (omega arith) (omega arith)
+        ∙ seek-entries n (insAll before (kids e) f) s one (sorted-insAll before o (kids e) f q) (all-insAll before (kids e) f (t .descend) ds) (omega arith) (omega arith)
         ∙ ap (λ (ls : List E). visit r bound rows k ls s) (frontier-opened isLeaf kids before o depth e f leaves)))
+
+    -- twice as many steps as there are leaves are enough
+    pub seek-visit : (n : ℕ) (f : List E) (s : List A) → 1 ≤ k → Sorted before f → All (Descends isLeaf kids before depth) f
+        → length (flat (leavesUnder isLeaf kids depth) f) ≤ room → 2 * length (flat (leavesUnder isLeaf kids depth) f) ≤ n
+        → seek r bound rows before isLeaf kids k room n f s ≡ visit r bound rows k (sort before (flat (leavesUnder isLeaf kids depth) f)) s
+    seek-visit n f s one q d g w = let e = entries-list isLeaf kids before depth f (all-map (entries-few isLeaf kids before depth) d) in seek-entries n f s one q d g (omega arith)
 
     -- from the root
     pub seek-root : (n : ℕ) (root : E) → 1 ≤ k → Descends isLeaf kids before depth root
-        → length (leavesUnder isLeaf kids depth root) ≤ room → entriesUnder isLeaf kids depth root ≤ n
+        → length (leavesUnder isLeaf kids depth root) ≤ room → 2 * length (leavesUnder isLeaf kids depth root) ≤ n
         → seek r bound rows before isLeaf kids k room n (root ∷ []) [] ≡ visit r bound rows k (sort before (leavesUnder isLeaf kids depth root)) []
-    unfolding flat sum
+    unfolding flat
     seek-root n root one d g w =
         let e : leavesUnder isLeaf kids depth root ++ [] ≡ leavesUnder isLeaf kids depth root = append-nil (leavesUnder isLeaf kids depth root) in
-        seek-visit n (root ∷ []) [] one (next none end) (also d none) (rw e g) (omega arith)
+        seek-visit n (root ∷ []) [] one (next none end) (also d none) (rw e g) (rw e w)
         ∙ ap (λ (ls : List E). visit r bound rows k (sort before ls) []) e

@@ -1,22 +1,19 @@
 -- Laws of the k-th cost: what it counts, how it goes with k and with the cost, and the rows within reach of it.
 use mathlib.Core.Path.{_≡_, refl, sym, ap, _∙_}
-use mathlib.Core.Bool.{Bool, true, false, _&&_, _||_, not}
-use mathlib.Core.List.{List, [], _∷_, _++_, map}
-use Prim.Native.Nat.{ℕ, zero, suc, _+_, _-_, _≤_, _<_}
+use mathlib.Core.Bool.{Bool, true, false, not}
+use mathlib.Core.List.{List, [], _∷_, map}
+use Prim.Native.Nat.{ℕ, zero, suc, _-_, _≤_, _<_}
 use native.Mathlib.Omega.{arith}
-use native.Mathlib.Numerals.{add-one}
-use lib.ListN.{length, take, drop, getD, length-take, length-map}
-use lib.Seq.{take-take}
+use lib.ListN.{length, take, getD, length-take}
 use lib.Dec.{ltb, leb}
-use borrow.Author.Tests.{ltb-true, ltb-false, lt-ltb, le-ltb, le-leb, lt-leb, leb-true, leb-false}
-use Rattle.lists.specs.Basics.{pick, tick, All, none, also, all-head, all-tail, all-map, flat}
+use borrow.Author.Tests.{ltb-false, lt-ltb, le-ltb, le-leb, lt-leb, leb-true, leb-false}
+use Rattle.lists.specs.Basics.{tick, All, none, also, all-map}
 use Rattle.lists.specs.Tests.{cases, false-true}
-use Rattle.lists.specs.Sorting.{keep, count, Order, sort, Sorted, end, next}
-use Rattle.lists.specs.SortingLaws.{sorted-sort, length-sort, count-sort, length-keep, all-sort, all-keep}
-use Rattle.lists.specs.FlatLaws.{all-both}
+use Rattle.lists.specs.Sorting.{keep, count, Order, Sorted, end, next}
+use Rattle.lists.specs.SortingLaws.{sorted-sort, length-sort, count-sort, length-keep}
 use Rattle.lists.specs.Orders.{by}
 use Rattle.bestfirst.specs.Nearest.{Ranking, rowOrder, candidates, nearest, kth, atMost, exceeds, inSet}
-use Rattle.bestfirst.specs.VisitLaws.{by-floor, below, below-far, below-more, exceeds-below, exceeds-take, inSet-exceeds}
+use Rattle.bestfirst.specs.VisitLaws.{by-floor, below, below-far, below-more, exceeds-below, inSet-exceeds}
 
 module _ {A : Type 0} (f : A → ℕ) (tie : A → A → Bool) where
   -- numbers of a sorted list rise

@@ -1,18 +1,17 @@
 -- Why the lists got by always marking the last row join up.
 use mathlib.Core.Path.{_≡_, refl, sym, ap, _∙_}
-use mathlib.Core.Bool.{Bool, true, false, _&&_, and-true}
-use mathlib.Core.List.{List, [], _∷_, _++_, append-assoc, append-nil}
-use Prim.Native.Nat.{ℕ, zero, suc, _+_}
-use native.Mathlib.Omega.{arith}
-use lib.ListN.{length, take, drop, take-append-drop}
+use mathlib.Core.Bool.{Bool, true, false}
+use mathlib.Core.List.{List, [], _∷_, _++_, append-assoc}
+use Prim.Native.Nat.{ℕ, _+_}
+use lib.ListN.{take, drop, take-append-drop}
 use lib.Seq.{take-add}
-use Rattle.lists.specs.Basics.{All, none, also, all-left, all-right, all-head}
-use Rattle.lists.specs.Tests.{cases, false-true}
+use Rattle.lists.specs.Basics.{All, none, also, all-right, all-head}
+use Rattle.lists.specs.Tests.{cases}
 use Rattle.lists.specs.Sorting.{keep, sum, Order, sort}
 use Rattle.lists.specs.SortingLaws.{keep-append, keep-past, keep-all, keep-none, keep-keep, keep-sort}
 use Rattle.lists.specs.FlatLaws.{all-every}
 use Rattle.bestfirst.specs.Nearest.{Ranking, rowOrder, candidates, nearest}
-use Rattle.bestfirst.specs.Marks.{narrowed, markLast, readOn, Strict, end, next, unmarked}
+use Rattle.bestfirst.specs.Marks.{narrowed, markLast, readOn, Strict, next, unmarked}
 
 module _ {A : Type 0} (past : A → A → Bool) (asym : (a b : A) → past a b ≡ true → past b a ≡ false) where
   itself : (x : A) → past x x ≡ false

@@ -1,6 +1,6 @@
 -- The nearest rows, and the visit of leaves in order of their bounds: definitions.
 -- A: a row, what a question sees of a record. L: a leaf.
-use mathlib.Core.Bool.{Bool, true, false, _&&_, _||_}
+use mathlib.Core.Bool.{Bool, _&&_, _||_}
 use mathlib.Core.List.{List, [], _∷_, map}
 use Prim.Native.Nat.{ℕ, _-_, _≤_}
 use lib.ListN.{length, take, getD}

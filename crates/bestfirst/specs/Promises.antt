@@ -1,8 +1,8 @@
 -- What is promised of a best-first search, over any kind of row and leaf. The numbers are those of docs/TRACEABILITY.md.
-use mathlib.Core.Path.{_≡_, refl, sym, ap, _∙_}
+use mathlib.Core.Path.{_≡_, sym, ap, _∙_}
 use mathlib.Core.Bool.{Bool, true, false, _&&_, _||_}
-use mathlib.Core.List.{List, [], _∷_, _++_}
-use Prim.Native.Nat.{ℕ, zero, suc, _+_, _≤_, _<_}
+use mathlib.Core.List.{List, []}
+use Prim.Native.Nat.{ℕ, zero, suc, _≤_, _<_}
 use native.Mathlib.Omega.{arith}
 use lib.ListN.{length, take}
 use lib.Seq.{take-take}
@@ -14,7 +14,7 @@ use Rattle.lists.specs.SortingLaws.{length-keep, count-sort, all-sort, all-kept
 use Rattle.lists.specs.FlatLaws.{count-keep}
 use Rattle.lists.specs.Orders.{by}
 use Rattle.bestfirst.specs.Nearest.{Ranking, rowOrder, candidates, nearest, kth, atMost, inSet, Outcome, Floor, visit, bestFirst}
-use Rattle.bestfirst.specs.Marks.{narrowed, readOn, Strict, unmarked}
+use Rattle.bestfirst.specs.Marks.{readOn, Strict, unmarked}
 use Rattle.bestfirst.specs.Ranges.{withinReach}
 use Rattle.bestfirst.specs.VisitLaws.{visit-exact, visit-alike}
 use Rattle.bestfirst.specs.KthLaws.{count-kth, kth-count, inSet-few, inSet-kth, inSet-larger}

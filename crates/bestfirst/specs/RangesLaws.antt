@@ -1,16 +1,16 @@
 -- Why the leaves of the set hold every row within reach, and why reach leaves no near row out.
 use mathlib.Core.Path.{_≡_, refl, sym, ap, _∙_}
-use mathlib.Core.Bool.{Bool, true, false, _&&_}
+use mathlib.Core.Bool.{Bool, true, false}
 use mathlib.Core.List.{List, [], _∷_, _++_}
-use Prim.Native.Nat.{ℕ, zero, suc, _+_, _≤_, _<_}
+use Prim.Native.Nat.{ℕ, suc, _+_, _≤_, _<_}
 use native.Mathlib.Omega.{arith}
 use lib.ListN.{length}
 use lib.Dec.{ltb, leb}
 use borrow.Author.Tests.{ltb-true, ltb-false, le-leb, leb-true}
-use Rattle.lists.specs.Basics.{pick, tick, All, none, also, all-map, flat}
+use Rattle.lists.specs.Basics.{All, none, also, all-map, flat}
 use Rattle.lists.specs.Tests.{cases, false-true}
 use Rattle.lists.specs.Sorting.{keep, count, sum, Order, sort}
-use Rattle.lists.specs.SortingLaws.{keep-append, keep-none, keep-first, keep-past, all-keep, all-sort, sort-canonical}
+use Rattle.lists.specs.SortingLaws.{keep-append, keep-none, all-keep, all-sort, sort-canonical}
 use Rattle.lists.specs.FlatLaws.{all-both, all-take, count-flat, count-keep, sum-sort}
 use Rattle.lists.specs.Orders.{by}
 use Rattle.bestfirst.specs.Nearest.{Ranking, rowOrder, candidates, nearest, kth, atMost, inSet, Outcome, Floor, bestFirst}

@@ -1,19 +1,19 @@
 -- Why the visit gives the nearest rows and reads just the leaves of the set.
 use mathlib.Core.Path.{_≡_, refl, sym, ap, ap₂, _∙_, fun-ext}
 use mathlib.Core.Bool.{Bool, true, false, _&&_, _||_, not}
-use mathlib.Core.List.{List, [], _∷_, _++_, map}
-use Prim.Native.Nat.{ℕ, zero, suc, _+_, _-_, _≤_, _<_}
+use mathlib.Core.List.{List, [], _∷_, map}
+use Prim.Native.Nat.{ℕ, zero, suc, _-_, _≤_, _<_}
 use native.Mathlib.Omega.{arith}
 use lib.ListN.{length, take, getD, length-take}
 use lib.Dec.{ltb, leb, leb·suc-zero, leb·suc-suc}
-use borrow.Author.Tests.{ltb-true, ltb-false, lt-ltb, le-ltb, le-leb, lt-leb, leb-true, leb-false}
-use Rattle.lists.specs.Basics.{pick, All, none, also, all-head, all-tail, all-map, flat}
+use borrow.Author.Tests.{ltb-true, ltb-false, lt-ltb, le-ltb, le-leb, lt-leb}
+use Rattle.lists.specs.Basics.{All, none, also, all-head, all-tail, all-map, flat}
 use Rattle.lists.specs.Tests.{cases, false-true}
 use Rattle.lists.specs.Sorting.{keep, count, sum, Order, ins, sort, insAll, offerAll, Sorted, end, next}
-use Rattle.lists.specs.SortingLaws.{ins-past, ins-here, all-insAll, all-sort, all-keep, none-before, sorted-ins, sorted-insAll, sorted-sort, sort-insAll, sort-canonical, insAll-append, offerAll-take, keep-append, keep-first, keep-none}
-use Rattle.lists.specs.Orders.{by, by-lower, by-refines}
+use Rattle.lists.specs.SortingLaws.{all-sort, all-keep, none-before, sorted-ins, sorted-insAll, sorted-sort, sort-insAll, sort-canonical, insAll-append, offerAll-take, keep-append, keep-first, keep-none}
+use Rattle.lists.specs.Orders.{by, by-lower}
 use Rattle.lists.specs.FlatLaws.{all-flat, count-flat, count-keep, sum-sort}
-use Rattle.bestfirst.specs.Nearest.{Ranking, rowOrder, candidates, nearest, kth, exceeds, inSet, Outcome, reading, offered, Floor, visit, bestFirst}
+use Rattle.bestfirst.specs.Nearest.{Ranking, rowOrder, candidates, nearest, kth, exceeds, inSet, reading, offered, Floor, visit, bestFirst}
 
 pub by-floor : {A : Type 0} (f : A → ℕ) (r : A → A → Bool) (x y : A) → by f r y x ≡ false → f x ≤ f y
 by-floor f r x y e = cases (ltb (f y) (f x)) (λ t. false-true (sym e ∙ by-lower f r y x (ltb-true (f y) (f x) t))) (λ t. ltb-false (f y) (f x) t)

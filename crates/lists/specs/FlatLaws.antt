@@ -1,11 +1,11 @@
 -- Laws of joined lists, of what holds of each element, and of sums.
 use mathlib.Core.Path.{_≡_, refl, ap, ap₂}
-use mathlib.Core.Bool.{Bool, true, false, _&&_}
-use mathlib.Core.List.{List, [], _∷_, _++_, map, append-assoc}
-use Prim.Native.Nat.{ℕ, zero, suc, _+_, _≤_, _<_}
+use mathlib.Core.Bool.{Bool, _&&_}
+use mathlib.Core.List.{List, [], _∷_, _++_, map}
+use Prim.Native.Nat.{ℕ, zero, suc, _+_, _<_}
 use native.Mathlib.Omega.{arith}
-use lib.ListN.{length, getD, take, drop}
-use Rattle.lists.specs.Basics.{All, none, also, flat, upFrom, all-append}
+use lib.ListN.{length, getD, take}
+use Rattle.lists.specs.Basics.{All, none, also, flat, all-append}
 use Rattle.lists.specs.Tests.{cases}
 use Rattle.lists.specs.Sorting.{keep, count, sum, ins, insAll, sort}
 use Rattle.lists.specs.SortingLaws.{count-append}

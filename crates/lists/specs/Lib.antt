@@ -6,3 +6,4 @@ pub mod Places
 pub mod Distinct
 pub mod Orders
 pub mod FlatLaws
+pub mod PlaceLaws

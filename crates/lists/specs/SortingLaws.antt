@@ -6,7 +6,7 @@ use mathlib.Core.List.{List, [], _∷_, _++_, map, append-nil}
 use Prim.Native.Nat.{ℕ, zero, suc, _+_, _≤_, _<_}
 use native.Mathlib.Omega.{arith}
 use native.Mathlib.Numerals.{add-one}
-use lib.ListN.{length, take, drop, getD, set}
+use lib.ListN.{length, take, getD, set}
 use lib.Seq.{take-take, take-suc, lt-length-set, getD-set-other}
 use lib.Dec.{ltb}
 use borrow.Author.Tests.{ltb-true, ltb-false, lt-ltb, le-ltb}
@@ -246,7 +246,7 @@ module _ {A : Type 0} (before : A → A → Bool) (o : Order before) where
 
   -- ---- a sorted list stands for what occurs how often
 
-  count-none : (p : A → Bool) (s : List A) → All (λ z. p z ≡ false) s → count p s ≡ 0
+  pub count-none : (p : A → Bool) (s : List A) → All (λ z. p z ≡ false) s → count p s ≡ 0
   unfolding count
   count-none p [] none = refl
   count-none p (x ∷ xs) (also h a) = let q = count-none p xs a in rw h (omega arith)

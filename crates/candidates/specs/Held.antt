@@ -1,0 +1,37 @@
+-- Rows held in two arrays: the distances, and the tags.
+use mathlib.Core.Path.{_≡_}
+use mathlib.Core.Bool.{Bool}
+use mathlib.Core.List.{List, [], _∷_}
+use Prim.Native.Nat.{ℕ, _≤_}
+use lib.ListN.{length, take}
+use Rattle.lists.specs.Sorting.{Sorted}
+use Rattle.lists.specs.Sorting as sorting
+use Rattle.bestfirst.specs.Nearest as nearest
+use Rattle.candidates.specs.declared.Row.{Row}
+use Rattle.candidates.specs.Rows.{rowOrder, rowOf, byDistance}
+
+-- the rows of distances and tags, one of each
+unfoldable pub rowsOf : List ℕ → List ℕ → List Row
+rowsOf [] tags = []
+rowsOf (d ∷ distances) [] = []
+rowsOf (d ∷ distances) (t ∷ tags) = rowOf d t ∷ rowsOf distances tags
+
+-- the first n of them
+abbrev pub rowsIn : List ℕ → List ℕ → ℕ → List Row
+rowsIn distances tags n = take n (rowsOf distances tags)
+
+-- the arrays hold n rows in row order, and have room for k
+pub record Held (distances tags : List ℕ) (n k : ℕ) : Type 0 where
+  pub few : n ≤ k
+  pub room : k ≤ length distances
+  pub roomTags : k ≤ length tags
+  pub sorted : Sorted rowOrder (rowsIn distances tags n)
+
+-- r rows are held after row x was offered to n of them, of which k are kept
+pub record Offered (distances tags : List ℕ) (n k : ℕ) (x : Row) (r : ℕ) (distances' tags' : List ℕ) : Type 0 where
+  pub held : Held distances' tags' r k
+  pub rows : rowsIn distances' tags' r ≡ sorting.offer rowOrder k x (rowsIn distances tags n)
+
+-- the stop test of the visit, whatever the tags and the choice of candidates
+pub record Stops (distances : List ℕ) (n k bound : ℕ) (r : Bool) : Type 0 where
+  pub value : (passes : Row → Bool) (tags : List ℕ) → k ≤ length tags → r ≡ nearest.exceeds (byDistance passes) k bound (rowsIn distances tags n)
