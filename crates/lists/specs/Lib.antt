@@ -7,3 +7,5 @@ pub mod Distinct
 pub mod Orders
 pub mod FlatLaws
 pub mod PlaceLaws
+pub mod Counts
+pub mod Runs

@@ -1,0 +1,118 @@
+-- How often a number stands in a list; distinct numbers below n are at most n.
+use mathlib.Core.Path.{_≡_, refl, ap, _∙_}
+use mathlib.Core.Bool.{Bool, true, false}
+use mathlib.Core.Logic.{_≢_}
+use mathlib.Core.List.{List, [], _∷_, _++_}
+use Prim.Native.Nat.{ℕ, zero, suc, _+_, _≤_, _<_}
+use native.Mathlib.Omega.{arith}
+use lib.Dec.{eqb}
+use lib.ListN.{length}
+use borrow.Author.Tests.{eqb-true, eqb-false, eq-eqb, ne-eqb}
+use Rattle.lists.specs.Basics.{tick, All, none, also, upFrom}
+
+-- how often q stands in the list
+unfoldable pub mult : ℕ → List ℕ → ℕ
+mult q [] = 0
+mult q (x ∷ xs) = tick (eqb q x) + mult q xs
+
+-- the two cases of a test, each with its equation
+pub by-cases : {P : Type 0} (t : Bool) → (t ≡ true → P) → (t ≡ false → P) → P
+by-cases true f g = f refl
+by-cases false f g = g refl
+
+pub mult-append : (q : ℕ) (xs ys : List ℕ) → mult q (xs ++ ys) ≡ mult q xs + mult q ys
+unfolding mult
+mult-append q [] ys = omega arith
+mult-append q (x ∷ xs) ys = omega (arith, mult-append q xs ys)
+
+pub mult-more : (q p : ℕ) (xs : List ℕ) → mult q xs ≤ mult q (p ∷ xs)
+unfolding mult
+mult-more q p xs = omega arith
+
+pub mult-self : (q : ℕ) (xs : List ℕ) → mult q (q ∷ xs) ≡ 1 + mult q xs
+unfolding mult
+mult-self q xs = rw (eq-eqb q q refl)
+
+pub mult-not : (q p : ℕ) (xs : List ℕ) → q ≢ p → mult q (p ∷ xs) ≡ mult q xs
+unfolding mult
+mult-not q p xs f = omega (arith, ap tick (ne-eqb q p f))
+
+-- what stands nowhere in a list is not its first element
+pub absent : (q p : ℕ) (xs : List ℕ) → mult q (p ∷ xs) ≡ 0 → q ≢ p
+unfolding mult
+absent q p xs h e = omega (arith, ap tick (eq-eqb q p e))
+
+pub all-of-mult : {P : ℕ → Type 0} (xs : List ℕ) → ((q : ℕ) → 0 < mult q xs → P q) → All P xs
+all-of-mult [] f = none
+all-of-mult (x ∷ xs) f = also (f x (omega (arith, mult-self x xs))) (all-of-mult xs (λ q h. f q (omega (arith, mult-more q x xs))))
+
+pub mult-of-all : {P : ℕ → Type 0} {xs : List ℕ} → All P xs → (q : ℕ) → 0 < mult q xs → P q
+unfolding mult
+mult-of-all none q h = absurd (omega arith)
+mult-of-all {P} (also {x = x} {xs = xs} a t) q h =
+    by-cases (eqb q x) (λ e. let g : q ≡ x = eqb-true q x e in rw g a) (λ e. mult-of-all t q (omega (arith, ap tick e)))
+
+-- ---- numbers counted up
+
+pub up-below : (q a n : ℕ) → q < a → mult q (upFrom a n) ≡ 0
+unfolding upFrom mult
+up-below q a zero h = refl
+up-below q a (suc n) h = mult-not q a (upFrom (suc a) n) (λ (e : q ≡ a). omega arith) ∙ up-below q (suc a) n (omega arith)
+
+pub up-past : (q a n : ℕ) → a + n ≤ q → mult q (upFrom a n) ≡ 0
+unfolding upFrom mult
+up-past q a zero h = refl
+up-past q a (suc n) h = mult-not q a (upFrom (suc a) n) (λ (e : q ≡ a). omega arith) ∙ up-past q (suc a) n (omega arith)
+
+pub up-within : (q a n : ℕ) → a ≤ q → q < a + n → mult q (upFrom a n) ≡ 1
+unfolding upFrom mult
+up-within q a zero h g = absurd (omega arith)
+up-within q a (suc n) h g =
+    by-cases (eqb q a)
+    (λ e. let same : q ≡ a = eqb-true q a e in omega (arith, ap tick e, up-below q (suc a) n (omega arith)))
+    (λ e. let other : q ≢ a = eqb-false q a e in
+    mult-not q a (upFrom (suc a) n) other ∙ up-within q (suc a) n (omega (arith, other)) (omega arith))
+
+-- ---- distinct numbers below n are at most n
+
+-- f at 0, 1, .. up to n - 1, added up
+sum : (ℕ → ℕ) → ℕ → ℕ
+sum f zero = 0
+sum f (suc n) = f n + sum f n
+
+sum-le : (f : ℕ → ℕ) (n : ℕ) → ((q : ℕ) → f q ≤ 1) → sum f n ≤ n
+unfolding sum
+sum-le f zero h = omega arith
+sum-le f (suc n) h = omega (arith, h n, sum-le f n h)
+
+sum-add : (f g : ℕ → ℕ) (n : ℕ) → sum (λ q. f q + g q) n ≡ sum f n + sum g n
+unfolding sum
+sum-add f g zero = refl
+sum-add f g (suc n) = omega (arith, sum-add f g n)
+
+sum-zero : (n : ℕ) → sum (λ q. 0) n ≡ 0
+unfolding sum
+sum-zero zero = refl
+sum-zero (suc n) = omega (arith, sum-zero n)
+
+sum-past : (x n : ℕ) → n ≤ x → sum (λ q. tick (eqb q x)) n ≡ 0
+unfolding sum
+sum-past x zero h = refl
+sum-past x (suc n) h = omega (arith, sum-past x n (omega arith), ap tick (ne-eqb n x (λ (e : n ≡ x). omega arith)))
+
+sum-one : (x n : ℕ) → x < n → sum (λ q. tick (eqb q x)) n ≡ 1
+unfolding sum
+sum-one x zero h = absurd (omega arith)
+sum-one x (suc n) h =
+    by-cases (eqb n x)
+    (λ e. let same : n ≡ x = eqb-true n x e in omega (arith, ap tick e, sum-past x n (omega arith)))
+    (λ e. let other : n ≢ x = eqb-false n x e in let l : x < n = omega (arith, other) in omega (arith, ap tick e, sum-one x n l))
+
+sum-length : (n : ℕ) {xs : List ℕ} → All (λ x. x < n) xs → sum (λ q. mult q xs) n ≡ length xs
+unfolding mult
+sum-length n none = sum-zero n
+sum-length n (also {x = x} {xs = xs} h t) =
+    sum-add (λ q. tick (eqb q x)) (λ q. mult q xs) n ∙ omega (arith, sum-one x n h, sum-length n t)
+
+pub pigeons : (n : ℕ) {xs : List ℕ} → All (λ x. x < n) xs → ((q : ℕ) → mult q xs ≤ 1) → length xs ≤ n
+pigeons n {xs} a h = omega (arith, sum-length n a, sum-le (λ q. mult q xs) n h)

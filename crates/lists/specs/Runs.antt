@@ -1,0 +1,100 @@
+-- Lists given by index, and elements written out one after the other at equal width.
+use mathlib.Core.Path.{_≡_, refl, sym, ap, _∙_}
+use mathlib.Core.List.{List, [], _∷_, _++_, append-assoc, append-nil}
+use mathlib.Core.Logic.{⊎-elim}
+use Prim.Native.Nat.{ℕ, zero, suc, _+_, _*_, _≤_, _<_}
+use native.Mathlib.Numerals.{add-one}
+use native.Mathlib.Nat.{eq-or-lt-of-le, mul-suc, add-comm, le-of-suc-le-suc, not-suc-le-zero}
+use native.Mathlib.Omega.{arith}
+use lib.ListN.{length, getD, set, take, drop, length-append, length-take, List·getD-append}
+use lib.Seq.{take-suc-set, take-suc, take-all, take-append-le, drop-cons, drop-append-add, getD-at, getD-take, ext-getD}
+use Rattle.lists.specs.Basics.{flat, flat-append, run, length-run, All, none, also}
+
+-- ---- a list by index
+
+module _ {ℓ} {A : Type ℓ} where
+  -- a loop that fills a list by index: a store at i takes it from i elements to i + 1
+  pub run-more : (f : ℕ → A) (xs : List A) (i : ℕ) (a : A) → i < length xs → take i xs ≡ run i f → a ≡ f i → take (i + 1) (set xs i a) ≡ run (i + 1) f
+  unfolding run
+  run-more f xs i a h e q = rw (add-one, take-suc-set xs i a h, e, q)
+
+  -- and at n elements it is done
+  pub run-done : (f : ℕ → A) (n : ℕ) (xs : List A) (i : ℕ) → i ≤ n → n ≤ i → length xs ≡ n → take i xs ≡ run i f → xs ≡ run n f
+  run-done f n xs i h k e t =
+      let same : i ≡ n = omega arith in
+      sym (take-all n xs (omega arith)) ∙ rw same at t
+
+  pub run-ext : (n : ℕ) (f g : ℕ → A) → ((i : ℕ) → i < n → f i ≡ g i) → run n f ≡ run n g
+  unfolding run
+  run-ext zero f g h = refl
+  run-ext (suc n) f g h = rw (run-ext n f g (λ i k. h i (omega arith)), h n (omega arith))
+
+  pub getD-run : (n : ℕ) (f : ℕ → A) (i : ℕ) (d : A) → i < n → getD (run n f) i d ≡ f i
+  unfolding run
+  getD-run zero f i d h = absurd (not-suc-le-zero h)
+  getD-run (suc n) f i d h =
+      ⊎-elim (λ (e : i ≡ n). rw e (getD-at (run n f) (f n) [] d n (length-run n f)))
+      (λ (k : i < n). List·getD-append (run n f) (f n ∷ []) d i (rw (length-run n f) k) ∙ getD-run n f i d k)
+      (eq-or-lt-of-le (le-of-suc-le-suc h))
+
+  pub take-run : (n m : ℕ) (f : ℕ → A) → n ≤ m → take n (run m f) ≡ run n f
+  unfolding run
+  take-run n zero f h = let z : n ≡ 0 = omega arith in rw z
+  take-run n (suc m) f h =
+      ⊎-elim (λ (e : n ≡ suc m). rw e (take-all (suc m) (run m f ++ (f m ∷ [])) (omega (arith, length-append (run m f) (f m ∷ []), length-run m f))))
+      (λ (k : n < suc m). take-append-le n (run m f) (f m ∷ []) (omega (arith, length-run m f)) ∙ take-run n m f (omega arith))
+      (eq-or-lt-of-le h)
+
+  -- the first m elements of a list, one by one
+  pub run-take : (xs : List A) (d : A) (m : ℕ) → m ≤ length xs → run m (λ i. getD xs i d) ≡ take m xs
+  unfolding run
+  run-take xs d zero h = refl
+  run-take xs d (suc m) h = rw (run-take xs d m (omega arith), take-suc xs m d (omega arith))
+
+module _ {A : Type 0} {P : A → Type 0} where
+  pub all-last : {xs : List A} (x : A) → All P xs → P x → All P (xs ++ (x ∷ []))
+  all-last x none p = also p none
+  all-last x (also q t) p = also q (all-last x t p)
+
+  pub all-take : (i : ℕ) {xs : List A} → All P xs → All P (take i xs)
+  all-take zero a = none
+  all-take (suc i) none = none
+  all-take (suc i) (also h t) = also h (all-take i t)
+
+  pub all-at : {xs : List A} → All P xs → (i : ℕ) (d : A) → i < length xs → P (getD xs i d)
+  all-at none i d h = absurd (not-suc-le-zero h)
+  all-at (also p t) zero d h = p
+  all-at (also p t) (suc i) d h = all-at t i d (le-of-suc-le-suc h)
+
+  pub all-run : (n : ℕ) (f : ℕ → A) → ((i : ℕ) → P (f i)) → All P (run n f)
+  unfolding run
+  all-run zero f h = none
+  all-run (suc n) f h = all-last (f n) (all-run n f h) (h n)
+
+-- ---- elements at equal width
+
+module _ {ℓ} {A : Type 0} {B : Type ℓ} (e : A → List B) (k : ℕ) (w : (x : A) → length (e x) ≡ k) where
+  pub length-flat : (xs : List A) → length (flat e xs) ≡ k * length xs
+  unfolding flat
+  length-flat [] = omega arith
+  length-flat (x ∷ xs) = length-append (e x) (flat e xs) ∙ rw (w x, length-flat xs) (omega arith)
+
+  pub flat-drop : (m : ℕ) (xs : List A) (t : List B) → m ≤ length xs → drop (k * m) (flat e xs ++ t) ≡ flat e (drop m xs) ++ t
+  unfolding flat
+  flat-drop zero xs t h = let z : k * 0 ≡ 0 = omega arith in rw z
+  flat-drop (suc m) [] t h = absurd (not-suc-le-zero h)
+  flat-drop (suc m) (x ∷ xs) t h =
+      let z : k * suc m ≡ length (e x) + k * m = rw (w x) (mul-suc k m ∙ add-comm (k * m) k) in
+      rw (z, append-assoc (e x) (flat e xs) t, drop-append-add (e x) (flat e xs ++ t) (k * m)) (flat-drop m xs t (le-of-suc-le-suc h))
+
+  -- what element m is written as comes first once the m before it are gone
+  pub flat-at : (m : ℕ) (xs : List A) (t : List B) (d : A) → m < length xs
+      → drop (k * m) (flat e xs ++ t) ≡ e (getD xs m d) ++ (flat e (drop (suc m) xs) ++ t)
+  unfolding flat
+  flat-at m xs t d h =
+      flat-drop m xs t (omega arith) ∙ ap (λ (l : List A). flat e l ++ t) (drop-cons xs m d h) ∙ append-assoc (e (getD xs m d)) (flat e (drop (suc m) xs)) t
+
+  -- one element more at the end
+  pub flat-more : (m : ℕ) (f : ℕ → A) → flat e (run (m + 1) f) ≡ flat e (run m f) ++ e (f m)
+  unfolding run flat
+  flat-more m f = rw (add-one) (flat-append e (run m f) (f m ∷ []) ∙ ap (λ (u : List B). flat e (run m f) ++ u) (append-nil (e (f m))))
