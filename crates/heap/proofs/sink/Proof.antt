@@ -1,0 +1,82 @@
+-- `sink` moves x down. The loop's invariant: with x at h the first n are a heap but for h, and hold what they held.
+use Prim.Native.Nat.{_-_, _≤_, _<_}
+use mathlib.Core.Path.{_≡_, refl, _∙_}
+use lib.ListN.{length, getD, set, drop, length-set}
+use lib.Seq.{drop-set-lt}
+use Rattle.heap.specs.Heap.{held}
+use Rattle.heap.specs.Sifting.{Sinking}
+use Rattle.heap.proofs.HeapLaws.{sunk, sinks, held-sinks, settled, fits-of}
+use native.Mathlib.Omega.{arith}
+use denote.Ref.{now}
+use Rattle.heap.proofs.sink.Statement.{statement}
+use Rattle.heap.proofs.sink.Tie as tie
+
+abbrev Inv-loop : tie.InvT-loop
+Inv-loop a₀ n x h₀ a h = (length a ≡ length a₀) × (n ≤ length a) × Sinking n h (set a h x) × (held n (set a h x) ≡ held n (set a₀ h₀ x)) × (drop n a ≡ drop n a₀)
+
+abbrev μ-loop : tie.MeasureT-loop
+μ-loop a₀ n x h₀ a h = n - h
+
+loop-holds : tie.Need-loop-holds Inv-loop μ-loop
+loop-holds c = let st = (c .before) in (refl, fits-of (now (st .args .a)) 0 (st .args .x) _ (st .pre .fits), st .pre, refl, refl)
+
+down-requires : tie.Need-down-requires Inv-loop μ-loop
+down-requires c κs = let l = c .before .loop in (l .inv .1, l .inv .2 .place)
+
+mul-a : tie.Need-mul-a Inv-loop μ-loop
+mul-a c = let q = c .before .before .before .loop .inv .2 .place in omega arith
+
+slice-write-a : tie.Need-slice-write-a Inv-loop μ-loop
+slice-write-a c = let q = c .before .before .before .loop .inv .2 .place in omega arith
+
+same-length : tie.Need-same-length Inv-loop μ-loop
+same-length c = simp length-set (c .before .before .before .loop .inv .0)
+
+returns : tie.Need-returns Inv-loop μ-loop
+returns c =
+    let l = c .before .before .before .loop in let i = l .inv in
+    settled _ (l .h) _ (l .a) _ _ (i .2 .place) (sunk _ (l .h) _ (l .a) _ (i .2) (c .before .down .ensures) (c .if1 .taken)) (i .3) (i .4)
+
+mul-a-2 : tie.Need-mul-a-2 Inv-loop μ-loop
+mul-a-2 c = let k = c .before .down .ensures .goes (c .if1 .left) .0 .within in omega arith
+
+slice-read-a : tie.Need-slice-read-a Inv-loop μ-loop
+slice-read-a c = let k = c .before .before .down .ensures .goes (c .before .if1 .left) .0 .within in omega arith
+
+mul-a-3 : tie.Need-mul-a-3 Inv-loop μ-loop
+mul-a-3 c = let q = c .before .before .before .before .loop .inv .2 .place in omega arith
+
+slice-write-a-2 : tie.Need-slice-write-a-2 Inv-loop μ-loop
+slice-write-a-2 c = let q = c .before .before .before .before .loop .inv .2 .place in omega arith
+
+loop-less : tie.Need-loop-less Inv-loop μ-loop
+loop-less c = let k = c .before .before .down .ensures .goes (c .before .if1 .left) .0 in let l = k .low in let w = k .within in omega arith
+
+loop-again : tie.Need-loop-again Inv-loop μ-loop
+loop-again c =
+    let l = c .before .before .before .before .loop in let i = l .inv in let d = c .before .before .down .ensures in let m = c .before .if1 .left in (
+      simp length-set (i .0),
+      simp length-set (i .1),
+      sinks _ (l .h) _ (l .a) _ (i .2) d m,
+      held-sinks _ (l .h) _ (l .a) _ (i .2) d m ∙ i .3,
+      drop-set-lt _ (l .a) (l .h) _ (i .2 .place) ∙ i .4,
+    )
+
+pub sink-spec : {M : Type 1} → statement M
+sink-spec =
+    tie.close
+    (tie.spec
+    Inv-loop
+    μ-loop
+    loop-holds
+    down-requires
+    mul-a
+    slice-write-a
+    same-length
+    returns
+    mul-a-2
+    slice-read-a
+    mul-a-3
+    slice-write-a-2
+    loop-less
+    loop-again)
