@@ -1,9 +1,9 @@
 -- Laws of a heap: a step down or up, the least at the top, what push and pop do to what is held.
 use Prim.Native.Nat.{ℕ, zero, suc, _+_, _*_, _-_, _/_, _≤_, _<_}
-use mathlib.Core.Bool.{Bool, true, false}
+use mathlib.Core.Bool.{false}
 use mathlib.Core.Path.{_≡_, refl, sym, ap, _∙_}
 use mathlib.Core.Logic.{_≢_}
-use mathlib.Core.List.{List, [], _∷_, _++_}
+use mathlib.Core.List.{List, [], _∷_}
 use native.Mathlib.Omega.{arith}
 use native.Mathlib.Numerals.{add-one}
 use lib.ListN.{length, take, drop, getD, set, length-set, length-take}
@@ -20,6 +20,9 @@ use Rattle.heap.specs.Sifting.{Sinking, Rising, LowerChild, Down, Up, Si
 
 decide : {P : Type 0} (m n : ℕ) → (m ≡ n → P) → (m ≢ n → P) → P
 decide m n t f = cases (eqb m n) (λ e. t (eqb-true m n e)) (λ e. f (eqb-false m n e))
+
+pub heap-none : (a : List ℕ) → Heap 0 a
+heap-none a = record { fits = omega arith; ordered = λ p j k. absurd (let q = k .within in omega arith) }
 
 -- ---- where a number goes
 

@@ -2,10 +2,10 @@ pub mod Basics
 pub mod Tests
 pub mod Sorting
 pub mod SortingLaws
-pub mod Places
-pub mod Distinct
 pub mod Orders
 pub mod FlatLaws
 pub mod PlaceLaws
 pub mod Counts
 pub mod Runs
+pub mod Places
+pub mod Distinct

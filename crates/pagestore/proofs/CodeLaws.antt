@@ -57,7 +57,7 @@ key-put l r s t u at k o p q g =
     let b : List ℕ = leBytes 2 (k .height .0) in
     let c : List ℕ = k .pyramid .0 ∷ [] in
     behind l t u at ((a ++ b) ++ c) (at + 7) (0 ∷ [])
-      (behind l s t at (a ++ b) (at + 6) c (behind l r s at a (at + 4) b o p refl) q refl) g refl
+    (behind l s t at (a ++ b) (at + 6) c (behind l r s at a (at + 4) b o p refl) q refl) g refl
 
 pub entry-put : (l s t u : List ℕ) (at : ℕ) (e : Entry) → s ≡ put l at (leBytes 4 (e .child)) → t ≡ put s (at + 4) (keyBytes (e .first))
     → u ≡ put t (at + 12) (keyBytes (e .last)) → u ≡ put l at (entryBytes e)
@@ -80,7 +80,7 @@ record-put l s t u v at r p q g h =
     let n : length (a ++ b) ≡ 36 = length-append a b ∙ omega (arith, length-le 4 (r .id), length-coords (r .coords)) in
     let m : length ((a ++ b) ++ z) ≡ 40 = length-append (a ++ b) z ∙ omega (arith, length-le 4 0) in
     behind l u v at ((a ++ b) ++ z) (at + 40) z
-      (behind l t u at (a ++ b) (at + 36) z (behind l s t at a (at + 4) b p q (past at 4 a (length-le 4 (r .id)))) g (past at 36 (a ++ b) n)) h (past at 40 ((a ++ b) ++ z) m)
+    (behind l t u at (a ++ b) (at + 36) z (behind l s t at a (at + 4) b p q (past at 4 a (length-le 4 (r .id)))) g (past at 36 (a ++ b) n)) h (past at 40 ((a ++ b) ++ z) m)
     ∙ ap (put l at) (append-assoc (a ++ b) z z ∙ append-assoc a b (z ++ z))
 
 -- the four bytes at the head of a page
@@ -120,9 +120,9 @@ pub capped : {A : Type 0} (xs : List A) (d : A) (c n : ℕ) → length xs ≡ 16
 capped xs d c n s e =
     run-take xs d n (omega arith)
     ∙ by-cases (leb 16 c)
-        (λ t. let g : 16 ≤ c = leb-true 16 c t in let f : n ≡ 16 = omega arith in rw f (sym (take-take 16 c xs g)))
-        (λ t. let g : c < 16 = leb-false 16 c t in let f : n ≡ c = omega arith in
-          rw f (sym (take-all 16 (take c xs) (omega (arith, length-take c xs)))))
+    (λ t. let g : 16 ≤ c = leb-true 16 c t in let f : n ≡ 16 = omega arith in rw f (sym (take-take 16 c xs g)))
+    (λ t. let g : c < 16 = leb-false 16 c t in let f : n ≡ c = omega arith in
+    rw f (sym (take-all 16 (take c xs) (omega (arith, length-take c xs)))))
 
 pub leaf-put : (s : List ℕ) (m : Leaf) (n : ℕ) → length (m .records) ≡ 16 → n ≡ min 16 (m .count)
     → s ≡ itemBytes recordBytes 44 0 (run n (λ i. getD (m .records) i noRecord)) → s ≡ leafBytes (recordsIn m)

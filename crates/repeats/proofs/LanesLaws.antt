@@ -1,9 +1,8 @@
 -- Laws of lanes: an identifier chained, one met, a turn of a walk, and what all walks say.
-use Prim.Native.Nat.{ℕ, zero, suc, _+_, _-_, _≤_, _<_, _/_, _%_}
-use mathlib.Core.Bool.{Bool, true, false}
+use Prim.Native.Nat.{ℕ, zero, suc, _+_, _-_, _≤_, _<_}
 use mathlib.Core.Path.{_≡_, refl, sym, ap, _∙_}
 use mathlib.Core.Logic.{_≢_, _⊎_, inl, inr, ⊎-elim}
-use mathlib.Core.List.{List, [], _∷_}
+use mathlib.Core.List.{List}
 use native.Mathlib.Omega.{arith}
 use native.Mathlib.Numerals.{add-one}
 use lib.ListN.{length, getD, set, replicate, length-replicate}
@@ -12,7 +11,7 @@ use lib.Dec.{eqb, leb}
 use borrow.Author.Tests.{leb-true, leb-false, eq-eqb, ne-eqb, eqb-true, eqb-false}
 use Rattle.lists.specs.Basics.{pick}
 use Rattle.lists.specs.Tests.{cases}
-use Rattle.repeats.specs.Repeats.{lowerPage, lowestRepeat, Repeated, Holds, Under, Lowest}
+use Rattle.repeats.specs.Repeats.{lowerPage, lowestRepeat, Repeated, Holds, Under}
 use Rattle.repeats.specs.Lanes.{laneOf, slotOf, latest, metOf, Heads, Chained, Room, Blank, Sofar, Stage, Probed}
 use Rattle.repeats.proofs.RepeatsLaws.{lower-left, lower-right, of-lower, lowest-unique}
 

@@ -1,7 +1,7 @@
 -- `sink` moves x down. The loop's invariant: with x at h the first n are a heap but for h, and hold what they held.
-use Prim.Native.Nat.{_-_, _≤_, _<_}
+use Prim.Native.Nat.{_-_, _≤_}
 use mathlib.Core.Path.{_≡_, refl, _∙_}
-use lib.ListN.{length, getD, set, drop, length-set}
+use lib.ListN.{length, set, drop, length-set}
 use lib.Seq.{drop-set-lt}
 use Rattle.heap.specs.Heap.{held}
 use Rattle.heap.specs.Sifting.{Sinking}

@@ -1,8 +1,8 @@
 -- `compare` chains each identifier and meets what `probe` finds. The loop's invariant: the first i are chained, and the lowest page so far is theirs.
-use Prim.Native.Nat.{_-_, _+_, _≤_, _<_}
+use Prim.Native.Nat.{_-_, _≤_, _<_}
 use mathlib.Core.Bool.{true, false}
-use mathlib.Core.Path.{_≡_, refl, sym, ap, _∙_}
-use lib.ListN.{length, getD}
+use mathlib.Core.Path.{_≡_, refl, _∙_}
+use lib.ListN.{length}
 use Rattle.lists.specs.Tests.{false-true}
 use Rattle.repeats.specs.Lanes.{Heads, Chained, Sofar}
 use Rattle.repeats.proofs.LanesLaws.{heads-none, chained-none, chained-less, room-kept, sofar-none, compared-more, compared}

@@ -1,9 +1,9 @@
--- `of_any` makes blank arrays for at most 65,535 identifiers.
+-- `lowest_of_many` makes blank arrays for at most 65,535 identifiers.
 use mathlib.Core.Path.{refl}
 use Rattle.repeats.proofs.LanesLaws.{blank, long, room}
 use borrow.Author.Needs.{needs}
-use Rattle.repeats.proofs.of_any.Statement.{statement}
-use Rattle.repeats.proofs.of_any.Tie as tie
+use Rattle.repeats.proofs.lowest_of_many.Statement.{statement}
+use Rattle.repeats.proofs.lowest_of_many.Tie as tie
 
 slice-aggregate-chain-and-walk : tie.Need-slice-aggregate-chain-and-walk
 slice-aggregate-chain-and-walk c = search needs
@@ -20,8 +20,8 @@ chain-and-walk-requires c κs = let p = c .before .before .before .before .befor
 returns : tie.Need-returns
 returns c = search needs
 
-pub of-any-spec : {M : Type 1} → statement M
-of-any-spec =
+pub lowest-of-many-spec : {M : Type 1} → statement M
+lowest-of-many-spec =
     tie.close
     (tie.spec
     slice-aggregate-chain-and-walk
