@@ -87,7 +87,7 @@ fn chain(ids: &[u32], head: &mut [u16], next: &mut [u16], i: usize) -> usize
 }
 
 // Looks along a chain, from the place that `from` links to, for the identifier at i: the link to it, 0 where the chain has none, or a link past i
-// where eight others come first.
+// where nine others come first.
 fn probe(ids: &[u32], next: &[u16], i: usize, from: usize) -> usize
     requires { ⌜ (length (now ids) ≤ length (now next)) × (i < length (now ids)) × Chained i (now ids) (now next)
         × (from ≡ latest (now ids) (laneOf (getD (now ids) i 0)) i) ⌝ }

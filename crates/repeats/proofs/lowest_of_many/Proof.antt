@@ -15,7 +15,9 @@ slice-aggregate-chain-and-walk-3 : tie.Need-slice-aggregate-chain-and-walk-3
 slice-aggregate-chain-and-walk-3 c = search needs
 
 chain-and-walk-requires : tie.Need-chain-and-walk-requires
-chain-and-walk-requires c κs = let p = c .before .before .before .before .before .pre in (room _ 16384 65535 refl (p .0) (p .0), p .1, long 262144, blank 16384, blank 262144)
+chain-and-walk-requires c κs =
+    let p = c .before .before .before .before .before .pre in
+    (room _ 16384 65535 refl (p .0) (p .0), p .1, long 262144, blank 16384, blank 262144)
 
 returns : tie.Need-returns
 returns c = search needs
