@@ -1,10 +1,10 @@
--- `of_few` makes blank arrays for at most 16,384 identifiers.
+-- `lowest_of_few` makes blank arrays for at most 16,384 identifiers.
 use mathlib.Core.Path.{refl}
 use Rattle.repeats.proofs.LanesLaws.{blank, room}
 use native.Mathlib.Omega.{arith}
 use borrow.Author.Needs.{needs}
-use Rattle.repeats.proofs.of_few.Statement.{statement}
-use Rattle.repeats.proofs.of_few.Tie as tie
+use Rattle.repeats.proofs.lowest_of_few.Statement.{statement}
+use Rattle.repeats.proofs.lowest_of_few.Tie as tie
 
 slice-aggregate-compare : tie.Need-slice-aggregate-compare
 slice-aggregate-compare c = search needs
@@ -18,6 +18,6 @@ compare-requires c κs = let p = c .before .before .before .before .pre in (room
 returns : tie.Need-returns
 returns c = search needs
 
-pub of-few-spec : {M : Type 1} → statement M
-of-few-spec =
+pub lowest-of-few-spec : {M : Type 1} → statement M
+lowest-of-few-spec =
     tie.close (tie.spec slice-aggregate-compare slice-aggregate-compare-2 compare-requires returns)
