@@ -8,3 +8,6 @@ pub mod RangesLaws
 pub mod Promises
 pub mod Frontier
 pub mod FrontierLaws
+pub mod Pages
+pub mod PagesLaws
+pub mod PagePromises
