@@ -11,3 +11,5 @@ pub mod FrontierLaws
 pub mod Pages
 pub mod PagesLaws
 pub mod PagePromises
+pub mod Turns
+pub mod Examples
