@@ -13,3 +13,4 @@ pub mod PagesLaws
 pub mod PagePromises
 pub mod Turns
 pub mod Examples
+pub mod Items

@@ -72,6 +72,11 @@ module _ {A : Type 0} where
   sum-sort before f (x ∷ xs) = let h = sum-sort before f xs in let g = sum-ins before f x (sort before xs) in omega arith
 
 module _ {A B : Type 0} where
+  pub sum-map : (f : B → ℕ) (g : A → B) (xs : List A) → sum f (map g xs) ≡ sum (λ x. f (g x)) xs
+  unfolding sum
+  sum-map f g [] = refl
+  sum-map f g (x ∷ xs) = let h = sum-map f g xs in omega arith
+
   pub all-flat : {P : B → Type 0} (f : A → List B) (xs : List A) → All (λ x. All P (f x)) xs → All P (flat f xs)
   unfolding flat
   all-flat f [] none = none
