@@ -91,16 +91,16 @@ record-round r v s at t e =
     let u : List ℕ = leBytes 4 0 ++ leBytes 4 0 in
     let z : List ℕ = u ++ t in
     let f : drop at s ≡ i ++ (flat (leBytes 2) cs ++ z) =
-      e ∙ append-assoc i (flat (leBytes 2) cs ++ u) t ∙ ap (λ (x : List ℕ). i ++ x) (append-assoc (flat (leBytes 2) cs) u t) in
+    e ∙ append-assoc i (flat (leBytes 2) cs ++ u) t ∙ ap (λ (x : List ℕ). i ++ x) (append-assoc (flat (leBytes 2) cs) u t) in
     let g : drop (at + 4) s ≡ flat (leBytes 2) cs ++ z = next-at s at i (flat (leBytes 2) cs ++ z) 4 (length-le 4 (r .id)) f in
     let l : length cs ≡ 16 = length-run 16 (λ m. getD (r .coords) m 0) in
     let one : (m : ℕ) → m < 16 → leAt 2 s (at + 4 + 2 * m) ≡ getD (r .coords) m 0 =
-      λ m h. le-at 2 (getD (r .coords) m 0) s (at + 4 + 2 * m) (flat (leBytes 2) (drop (suc m) cs) ++ z) (all-at (v .coords) m 0 (rw (v .slots) h))
-        (sym (drop-drop (2 * m) (at + 4) s) ∙ rw g (flat-at (leBytes 2) 2 (length-le 2) m cs z 0 (rw l h))
-          ∙ ap (λ (x : ℕ). leBytes 2 x ++ (flat (leBytes 2) (drop (suc m) cs) ++ z)) (getD-run 16 (λ m. getD (r .coords) m 0) m 0 h)) in
+    λ m h. le-at 2 (getD (r .coords) m 0) s (at + 4 + 2 * m) (flat (leBytes 2) (drop (suc m) cs) ++ z) (all-at (v .coords) m 0 (rw (v .slots) h))
+    (sym (drop-drop (2 * m) (at + 4) s) ∙ rw g (flat-at (leBytes 2) 2 (length-le 2) m cs z 0 (rw l h))
+    ∙ ap (λ (x : ℕ). leBytes 2 x ++ (flat (leBytes 2) (drop (suc m) cs) ++ z)) (getD-run 16 (λ m. getD (r .coords) m 0) m 0 h)) in
     let all : run 16 (λ m. leAt 2 s (at + 4 + 2 * m)) ≡ r .coords =
-      run-ext 16 (λ m. leAt 2 s (at + 4 + 2 * m)) (λ m. getD (r .coords) m 0) one
-      ∙ run-take (r .coords) 0 16 (omega (arith, v .slots)) ∙ take-all 16 (r .coords) (omega (arith, v .slots)) in
+    run-ext 16 (λ m. leAt 2 s (at + 4 + 2 * m)) (λ m. getD (r .coords) m 0) one
+    ∙ run-take (r .coords) 0 16 (omega (arith, v .slots)) ∙ take-all 16 (r .coords) (omega (arith, v .slots)) in
     rw (le-at 4 (r .id) s at (flat (leBytes 2) cs ++ z) (v .id) f, all)
 
 -- ---- pages of items, over the item

@@ -16,8 +16,8 @@ use crate::items::put_entry;
 use crate::items::put_record;
 use crate::numbers::clear;
 use crate::numbers::get_u8;
-use crate::numbers::put_u16;
 use crate::numbers::put_u8;
+use crate::numbers::put_u16;
 use geometry::Height;
 use geometry::Key;
 use geometry::Pyramid;
@@ -176,7 +176,7 @@ pub fn count_at(index: &[u8], page: u32) -> u8
     byte_of(index, page, 1)
 }
 
-fn empty_leaf() -> Leaf
+pub fn empty_leaf() -> Leaf
     ensures { λ r. ⌜ r ≡ leafOf [] ⌝ }
 {
     let records = [no_record(); 16];
@@ -186,7 +186,7 @@ fn empty_leaf() -> Leaf
     }
 }
 
-fn empty_inner() -> Inner
+pub fn empty_inner() -> Inner
     ensures { λ r. ⌜ r ≡ innerOf [] ⌝ }
 {
     let entries = [no_entry(); 16];
