@@ -16,7 +16,7 @@ use crate::numbers::get_u32;
 use crate::numbers::put_u32;
 use crate::pages::empty_leaf;
 use crate::pages::in_range;
-use crate::pages::pages;
+use crate::pages::page_count;
 use crate::pages::set_leaf;
 
 // The page that was freed before a freed page; 0 out of range.
@@ -92,7 +92,7 @@ fn clear_header(index: &mut [u8])
 pub fn make(index: &mut [u8], features: u8)
     ensures { λ _. ⌜ now (index .exit) ≡ newIndex (now (index .entry)) features ⌝ }
 {
-    let n = pages(index);
+    let n = page_count(index);
     clear_header(index);
     set_index_size(index, n);
     set_features(index, features);

@@ -10,12 +10,12 @@ use Rattle.pagestore.proofs.header.set_fresh_page.Reads as set-fresh-pa
 use Rattle.pagestore.proofs.header.set_index_size.Reads as set-index-size-reads
 use Rattle.pagestore.proofs.header.set_root_page.Reads as set-root-page-reads
 use Rattle.pagestore.proofs.pages.empty_leaf.Reads as empty-leaf-reads
-use Rattle.pagestore.proofs.pages.pages.Reads as pages-reads
+use Rattle.pagestore.proofs.pages.page_count.Reads as page-count-reads
 use Rattle.pagestore.proofs.pages.set_leaf.Reads as set-leaf-reads
 
 -- src/free.rt:95:9
-pages-requires : tie.Need-pages-requires
-pages-requires c κs = search needs
+page-count-requires : tie.Need-page-count-requires
+page-count-requires c κs = search needs
 
 -- src/free.rt:96:5
 clear-header-requires : tie.Need-clear-header-requires
@@ -51,13 +51,13 @@ same-length c = search needs
 
 -- src/free.rt:92:1
 returns : tie.Need-returns
-returns c = make-step _ _ _ _ _ _ _ _ _ _ (c .before .before .before .before .before .before .before .before .before .before .before .before .before .before .before .before .before .before .before .before .before .before .before .before .before .pages .ensures) (c .before .before .before .before .before .before .before .before .before .before .before .before .before .before .before .before .before .before .before .before .before .before .before .clear-header .ensures) (c .before .before .before .before .before .before .before .before .before .before .before .before .before .before .before .before .before .before .before .set-index-size .ensures) (c .before .before .before .before .before .before .before .before .before .before .before .before .before .before .before .set-features .ensures) (c .before .before .before .before .before .before .before .before .before .before .before .set-root-page .ensures) (c .before .before .before .before .before .before .before .set-fresh-page .ensures) (c .before .before .before .empty-leaf .ensures) (c .before .before .set-leaf .ensures)
+returns c = make-step _ _ _ _ _ _ _ _ _ _ (c .before .before .before .before .before .before .before .before .before .before .before .before .before .before .before .before .before .before .before .before .before .before .before .before .before .page-count .ensures) (c .before .before .before .before .before .before .before .before .before .before .before .before .before .before .before .before .before .before .before .before .before .before .before .clear-header .ensures) (c .before .before .before .before .before .before .before .before .before .before .before .before .before .before .before .before .before .before .before .set-index-size .ensures) (c .before .before .before .before .before .before .before .before .before .before .before .before .before .before .before .set-features .ensures) (c .before .before .before .before .before .before .before .before .before .before .before .set-root-page .ensures) (c .before .before .before .before .before .before .before .set-fresh-page .ensures) (c .before .before .before .empty-leaf .ensures) (c .before .before .set-leaf .ensures)
 
 pub make-spec : {M : Type 1} → statement M
 make-spec =
     tie.close
     (tie.spec
-    pages-requires
+    page-count-requires
     clear-header-requires
     set-index-size-requires
     set-features-requires
