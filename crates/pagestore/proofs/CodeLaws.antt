@@ -19,7 +19,7 @@ use Rattle.pagestore.specs.declared.Entry.{Entry}
 use Rattle.pagestore.specs.declared.Inner.{Inner}
 use Rattle.pagestore.specs.Bytes.{byteAt, leAt, leBytes, put}
 use Rattle.pagestore.specs.ByteLaws.{length-le, length-put, put-next, put-front}
-use Rattle.pagestore.specs.Layout.{keyAt, keyBytes, entryAt, entryBytes, recordAt, coordBytes, recordBytes, leafOf, innerOf, itemBytes, leafBytes, innerBytes, freedBytes}
+use Rattle.pagestore.specs.Layout.{keyBytes, entryAt, entryBytes, recordAt, coordBytes, recordBytes, leafOf, innerOf, itemBytes, leafBytes, innerBytes, freedBytes}
 use Rattle.pagestore.specs.LayoutLaws.{length-key, length-coords, noRecord, noEntry}
 use Rattle.pagestore.specs.Store.{pagesIn, inRange, stretch, setStretch, recordsIn, entriesIn, linkAt, setLink, setLeaf, fieldAt, setField, size, features, root, freed, fresh, pageTaken, takePage, freePage, clearHeader, setFields, newIndex}
 use Rattle.pagestore.specs.Store.RangeLaws.{range-whole}

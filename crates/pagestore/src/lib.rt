@@ -2,11 +2,11 @@
 // Every function is total: a page number out of range reads as an empty page, and a write there does nothing.
 use geometry::Key;
 
-mod numbers;
-mod items;
-mod pages;
-mod header;
 mod free;
+mod header;
+mod items;
+mod numbers;
+mod pages;
 
 // One page, handed over as a part of the index.
 pub use pages::read_inner;
@@ -32,8 +32,8 @@ pub use header::index_size;
 pub use header::root_level;
 pub use header::root_page;
 pub use header::set_features;
-pub use header::set_fresh_page;
 pub use header::set_freed_head;
+pub use header::set_fresh_page;
 pub use header::set_index_size;
 pub use header::set_root_level;
 pub use header::set_root_page;
