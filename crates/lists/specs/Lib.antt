@@ -1,3 +1,4 @@
 pub mod Basics
 pub mod Counts
 pub mod Runs
+pub mod Shift

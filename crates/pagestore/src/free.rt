@@ -2,8 +2,7 @@
 ghost use mathlib.Core.Path.{_≡_};
 ghost use lib.ListN.{length};
 ghost use Rattle.pagestore.specs.Layout.{freedBytes};
-ghost use Rattle.pagestore.specs.Store.{linkAt, setLink, pageTaken, takePage, freePage, clearHeader, newIndex};
-use crate::Leaf;
+ghost use Rattle.pagestore.specs.Store.{setLink, pageTaken, takePage, freePage, clearHeader, newIndex};
 use crate::header::freed_head;
 use crate::header::fresh_page;
 use crate::header::set_features;
@@ -12,25 +11,12 @@ use crate::header::set_fresh_page;
 use crate::header::set_index_size;
 use crate::header::set_root_page;
 use crate::numbers::clear;
-use crate::numbers::get_u32;
 use crate::numbers::put_u32;
 use crate::pages::empty_leaf;
 use crate::pages::in_range;
+use crate::pages::link_at;
 use crate::pages::page_count;
 use crate::pages::set_leaf;
-
-// The page that was freed before a freed page; 0 out of range.
-pub fn link_at(index: &[u8], page: u32) -> u32
-    ensures { λ r. ⌜ r ≡ linkAt (now (index .entry)) page ⌝ }
-{
-    if in_range(index, page) {
-        let at = page as usize * 1024;
-        let end = at + 1024;
-        get_u32(&index[at..end], 4)
-    } else {
-        0
-    }
-}
 
 fn write_freed(page: &mut [u8], next: u32)
     requires { ⌜ length (now page) ≡ 1024 ⌝ }

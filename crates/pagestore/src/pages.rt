@@ -5,7 +5,7 @@ ghost use Prim.Native.Nat.{_<_, _≤_, min};
 ghost use lib.ListN.{length};
 ghost use Rattle.pagestore.specs.Bytes.{byteAt, put};
 ghost use Rattle.pagestore.specs.Layout.{recordAt, entryAt, leafOf, innerOf, leafBytes, innerBytes};
-ghost use Rattle.pagestore.specs.Store.{pagesIn, inRange, stretch, leafAt, innerAt, levelAt, countAt, recordsIn, entriesIn, setLeaf, setInner};
+ghost use Rattle.pagestore.specs.Store.{pagesIn, inRange, stretch, leafAt, innerAt, levelAt, countAt, linkAt, recordsIn, entriesIn, setLeaf, setInner};
 use crate::Entry;
 use crate::Inner;
 use crate::Leaf;
@@ -16,6 +16,7 @@ use crate::items::put_entry;
 use crate::items::put_record;
 use crate::numbers::clear;
 use crate::numbers::get_u8;
+use crate::numbers::get_u32;
 use crate::numbers::put_u8;
 use crate::numbers::put_u16;
 use geometry::Height;
@@ -174,6 +175,19 @@ pub fn count_at(index: &[u8], page: u32) -> u8
     ensures { λ r. ⌜ r ≡ countAt (now (index .entry)) page ⌝ }
 {
     byte_of(index, page, 1)
+}
+
+// The page that was freed before a freed page; 0 out of range.
+pub fn link_at(index: &[u8], page: u32) -> u32
+    ensures { λ r. ⌜ r ≡ linkAt (now (index .entry)) page ⌝ }
+{
+    if in_range(index, page) {
+        let at = page as usize * 1024;
+        let end = at + 1024;
+        get_u32(&index[at..end], 4)
+    } else {
+        0
+    }
 }
 
 pub fn empty_leaf() -> Leaf

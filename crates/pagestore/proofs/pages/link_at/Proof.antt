@@ -5,8 +5,8 @@ use Rattle.pagestore.specs.Layout.{linkOf}
 use Rattle.pagestore.specs.Store.StretchLaws.{stretch-out, link-opens}
 use Rattle.pagestore.proofs.CodeLaws.{held, part-is, part-whole}
 use borrow.Author.Needs.{needs}
-use Rattle.pagestore.proofs.free.link_at.Statement.{statement}
-use Rattle.pagestore.proofs.free.link_at.Tie as tie
+use Rattle.pagestore.proofs.pages.link_at.Statement.{statement}
+use Rattle.pagestore.proofs.pages.link_at.Tie as tie
 
 in-range-requires : tie.Need-in-range-requires
 in-range-requires c κs = search needs
