@@ -13,10 +13,11 @@ use Rattle.trees.specs.Trees.{rankOf, identOf, treeOf, live}
 use Rattle.trees.specs.Sound.{SoundIndex}
 use Rattle.tree.specs.Deletion.{deleteRecord, deleteAt, lowerRoot, takeFromTotal, deleteFrom}
 use Rattle.tree.specs.Lookup.{findIn}
+use Rattle.tree_laws.specs.Shapes.{Shape}
 use Rattle.tree_laws.specs.DeleteTree.{Known}
-use Rattle.tree_laws.specs.DeleteRoot.{givenRoot, delete-root}
+use Rattle.tree_laws.specs.DeleteRoot.{deletedTree, givenRoot, delete-root}
 use Rattle.tree_laws.specs.LevelLaws.{given-root-below}
-use Rattle.tree_laws.specs.Wholes.{Whole, sound-whole, sound-right, view-d}
+use Rattle.tree_laws.specs.Wholes.{Whole, shapeAt, sound-whole, sound-right, view-d}
 use Rattle.tree_laws.specs.Depth.{level-small}
 use Rattle.tree_laws.specs.Header.{Changed, total-changed, changed-sound}
 use Rattle.tree_laws.specs.Idents.{del-all, del-one, ident-del}
@@ -47,14 +48,14 @@ module _ (b : List ℕ) (i : ℕ) (s : SoundIndex b) (h : 0 < mult i (map identO
   abbrev lowered : List ℕ
   lowered = lowerRoot (fieldAt level b) (deleteAt (fieldAt features b) (fieldAt level b) b (fieldAt root b) (findIn b i) .bytes) (fieldAt root b) (deleteAt (fieldAt features b) (fieldAt level b) b (fieldAt root b) (findIn b i) .count)
 
-  found : Changed d b lowered (deleteRecord (findIn b i .id) (live (viewOf b))) (pagesGiven b i ++ freeAt b)
+  found : Changed d b lowered (deletedTree (viewOf b .d) (findIn b i) (shapeAt b)) (deleteRecord (findIn b i .id) (live (viewOf b))) (pagesGiven b i ++ freeAt b)
   unfolding live pagesGiven
   found =
       let v = level-small b (viewOf b .level) (treeOf (viewOf b)) (w .ok) (w .own) in
       rw (w .features-are, w .level-is, w .root-is) (delete-root d b r (viewOf b .level) (treeOf (viewOf b)) (omega arith) w known)
 
-  changed : Changed d b lowered (deleteRecord i (live (viewOf b))) (pagesGiven b i ++ freeAt b)
-  changed = subst (λ (j : ℕ). Changed d b lowered (deleteRecord j (live (viewOf b))) (pagesGiven b i ++ freeAt b)) (find-ident b i s h) found
+  changed : Changed d b lowered (deletedTree (viewOf b .d) (findIn b i) (shapeAt b)) (deleteRecord i (live (viewOf b))) (pagesGiven b i ++ freeAt b)
+  changed = subst (λ (j : ℕ). Changed d b lowered (deletedTree (viewOf b .d) (findIn b i) (shapeAt b)) (deleteRecord j (live (viewOf b))) (pagesGiven b i ++ freeAt b)) (find-ident b i s h) found
 
   shorter : length (deleteRecord i (live (viewOf b))) + 1 ≡ length (live (viewOf b))
   shorter = del-one i (live (viewOf b)) h
@@ -84,6 +85,11 @@ module _ (b : List ℕ) (i : ℕ) (s : SoundIndex b) (h : 0 < mult i (map identO
   pub delete-order : Falling (map (levelAt b) (pagesGiven b i))
   unfolding pagesGiven
   delete-order = given-root-below d (viewOf b .level) b r (treeOf (viewOf b)) (w .ok) (w .held) .falling
+
+  -- level and tree: a child left with 7 is evened out with its partner, an inner root with one child gives way
+  pub delete-shape : _≡_ {A = Shape} (shapeAt (deleteIdent b i)) (deletedTree (viewOf b .d) (findIn b i) (shapeAt b))
+  unfolding deleteFrom takeFromTotal
+  delete-shape = total-changed (fieldAt total lowered - 1) changed .4
 
   pub delete-length : length (deleteIdent b i) ≡ length b
   unfolding deleteFrom takeFromTotal

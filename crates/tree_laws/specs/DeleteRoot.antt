@@ -1,6 +1,6 @@
 -- Deletion at the root: where an inner root is left with one child, that child is the root, and the old root is free.
 use mathlib.Core.Path.{_≡_, refl, sym, ap, _∙_, subst}
-use mathlib.Core.Bool.{true}
+use mathlib.Core.Bool.{Bool, true}
 use mathlib.Core.List.{List, [], _∷_, _++_, append-nil}
 use Prim.Native.Nat.{ℕ, zero, suc, _+_, _<_}
 use native.Mathlib.Omega.{arith}
@@ -19,7 +19,7 @@ use Rattle.pagestore.specs.Store.FreeLaws.{page-free, free-free}
 use Rattle.trees.specs.Trees.{Item, records, pages, rankOf}
 use Rattle.tree.specs.Entries.{childAt}
 use Rattle.tree.specs.Deletion.{Deleted, deleteRecord, deleteAt, lowerRoot}
-use Rattle.tree_laws.specs.Shapes.{Ok, Some, Root, ok-root, noTree, child-at}
+use Rattle.tree_laws.specs.Shapes.{Ok, Some, Root, ok-root, Shape, noTree, child-at}
 use Rattle.tree_laws.specs.Idents.{del-all, del-length, del-rising}
 use Rattle.tree_laws.specs.Frames.{Held, held-frame, Well, Kept, kept-range, kept-free, freed-le}
 use Rattle.tree_laws.specs.InsertSim.{inner-items}
@@ -32,6 +32,15 @@ use Rattle.tree_laws.specs.Header.{setRoot, root-length, root-field, roo
 unfoldable pub givenRoot : ℕ → (l : ℕ) → Record → Item (suc l) → List ℕ
 givenRoot d zero r t = []
 givenRoot d (suc l) r t = pick (eqb (length (deleteTree d (suc l) r [] t .tree .1)) 1) (t .0 ∷ []) [] ++ given d (suc l) r t
+
+-- the tree of a root x of level l, which gives way to a child that is alone
+unfoldable pub lowered : (l : ℕ) → Item (suc l) → Shape
+lowered zero x = (0, x)
+lowered (suc l) x = pick (eqb (length (x .1)) 1) (l, getD (x .1) 0 (noTree l)) (suc l, x)
+
+-- the tree after a deletion
+unfoldable pub deletedTree : ℕ → Record → Shape → Shape
+deletedTree d r s = lowered (s .0) (deleteTree d (s .0) r [] (s .1) .tree)
 
 -- the root p of b over the one tree c
 module _ (d l : ℕ) (b : List ℕ) (p : ℕ) (c : Item (suc l)) (v : suc l < 256) (well : Well b) (ok : Ok (suc l) c) (held : Held d (suc (suc l)) b (p, c ∷ []))
@@ -94,11 +103,9 @@ module _ (d l : ℕ) (b : List ℕ) (p : ℕ) (c : Item (suc l)) (v : suc l < 25
         order = s;
       }
 
-  pub low-changed : fieldAt features b ≡ d → Rising (rankOf d) (records (suc l) c) → Changed d b b3 (records (suc l) c) (p ∷ freeAt b)
+  pub low-changed : fieldAt features b ≡ d → Rising (rankOf d) (records (suc l) c) → Changed d b b3 (l, c) (records (suc l) c) (p ∷ freeAt b)
   low-changed ft s =
       record {
-        height = l;
-        tree = c;
         whole = low-whole ft s;
         records-are = refl;
         free-are = low-free;
@@ -146,11 +153,9 @@ module _ (d : ℕ) (b : List ℕ) (r : Record) (l : ℕ) (t : Item (suc l)) (v :
   features-o = sim .kept .field features refl refl ∙ w .features-are
 
   -- where the root stays
-  stay : Root l x → Changed d b (o .bytes) (deleteRecord (r .id) (records (suc l) t)) (given d l r t ++ freeAt b)
+  stay : Root l x → Changed d b (o .bytes) (l, x) (deleteRecord (r .id) (records (suc l) t)) (given d l r t ++ freeAt b)
   stay ro =
       record {
-        height = l;
-        tree = x;
         whole =
             record {
               features-are = features-o;
@@ -172,7 +177,7 @@ module _ (d : ℕ) (b : List ℕ) (r : Record) (l : ℕ) (t : Item (suc l)) (v :
 gives-way : (d : ℕ) (b : List ℕ) (r : Record) (l : ℕ) (t : Item (suc (suc l))) (v : suc l < 256) (w : Whole d b (suc l) t) (kn : All (Known d r) (records (suc (suc l)) t))
     → length (deleteTree d (suc l) r (freeAt b) t .tree .1) ≡ 1
     → Changed d b (freePage (setRoot (deleteAt d (suc l) b (t .0) r .bytes) (childAt (entriesIn (innerAt (deleteAt d (suc l) b (t .0) r .bytes) (t .0))) 0) l) (t .0))
-    (deleteRecord (r .id) (records (suc (suc l)) t)) (t .0 ∷ (given d (suc l) r t ++ freeAt b))
+    (l, getD (deleteTree d (suc l) r (freeAt b) t .tree .1) 0 (noTree l)) (deleteRecord (r .id) (records (suc (suc l)) t)) (t .0 ∷ (given d (suc l) r t ++ freeAt b))
 unfolding records flat
 gives-way d b r l t v w kn e =
     let x = deleteTree d (suc l) r (freeAt b) t .tree in
@@ -191,24 +196,35 @@ gives-way d b r l t v w kn e =
     let wl = sm .kept .well in
     changed-over (sm .kept)
     (ap (λ (z : ℕ). freePage (setRoot b1 z l) (t .0)) (sym (low-child d l b1 (t .0) c v wl okc held own)))
-    rs
+    refl rs
     (ap (λ (z : List ℕ). t .0 ∷ z) (free-o d b r (suc l) t v w kn))
     (low-changed d l b1 (t .0) c v wl okc held own (features-o d b r (suc l) t v w kn) rise)
 
--- THE DELETION
-pub delete-root : (d : ℕ) (b : List ℕ) (r : Record) (l : ℕ) (t : Item (suc l)) → l < 256 → Whole d b l t → All (Known d r) (records (suc l) t)
-    → Changed d b (lowerRoot l (deleteAt d l b (t .0) r .bytes) (t .0) (deleteAt d l b (t .0) r .count)) (deleteRecord (r .id) (records (suc l) t)) (givenRoot d l r t ++ freeAt b)
-unfolding lowerRoot givenRoot given Some
-delete-root d b r zero t v w kn = stay d b r zero t v w kn (leaf-root d r (freeAt b) t (w .ok))
-delete-root d b r (suc l) t v w kn =
+inner-root : (d : ℕ) (b : List ℕ) (r : Record) (l : ℕ) (t : Item (suc (suc l))) → suc l < 256 → Whole d b (suc l) t → All (Known d r) (records (suc (suc l)) t)
+    → Changed d b (lowerRoot (suc l) (deleteAt d (suc l) b (t .0) r .bytes) (t .0) (deleteAt d (suc l) b (t .0) r .count)) (lowered (suc l) (deleteTree d (suc l) r [] t .tree))
+    (deleteRecord (r .id) (records (suc (suc l)) t)) (givenRoot d (suc l) r t ++ freeAt b)
+unfolding lowerRoot lowered givenRoot Some
+inner-root d b r l t v w kn =
     let b1 = deleteAt d (suc l) b (t .0) r .bytes in
+    let x = deleteTree d (suc l) r (freeAt b) t .tree in
     let n = length (deleteTree d (suc l) r [] t .tree .1) in
     let low = freePage (setRoot b1 (childAt (entriesIn (innerAt b1 (t .0))) 0) l) (t .0) in
-    let ne : length (deleteTree d (suc l) r (freeAt b) t .tree .1) ≡ n = ap (λ (y : Item (suc (suc l))). length (y .1)) (delete-tree d (suc l) r (freeAt b) [] t) in
+    let xe : x ≡ deleteTree d (suc l) r [] t .tree = delete-tree d (suc l) r (freeAt b) [] t in
+    let ne : length (x .1) ≡ n = ap (λ (y : Item (suc (suc l))). length (y .1)) xe in
     let ce : deleteAt d (suc l) b (t .0) r .count ≡ n = sim d b r (suc l) t v w kn .count ∙ ne in
     let near = delete-after d l r (freeAt b) t (w .ok) in
+    let G : Bool → Item (suc (suc l)) → Type 0 =
+    λ c y. Changed d b (pick c low b1) (pick {A = Shape} c (l, getD (y .1) 0 (noTree l)) (suc l, y)) (deleteRecord (r .id) (records (suc (suc l)) t)) ((pick c (t .0 ∷ []) [] ++ given d (suc l) r t) ++ freeAt b) in
     rw ce
-    (bool-cases (λ c. Changed d b (pick c low b1) (deleteRecord (r .id) (records (suc (suc l)) t)) ((pick c (t .0 ∷ []) [] ++ given d (suc l) r t) ++ freeAt b)) (eqb n 1)
+    (subst (G (eqb n 1)) xe
+    (bool-cases (λ c. G c x) (eqb n 1)
     (λ e. gives-way d b r l t v w kn (ne ∙ eqb-true n 1 e))
     (λ e. let e' = eqb-false n 1 e in
-    stay d b r (suc l) t v w kn (record { some = omega (arith, near .low, ne, e'); most = near .high; subs = near .subs })))
+    stay d b r (suc l) t v w kn (record { some = omega (arith, near .low, ne, e'); most = near .high; subs = near .subs }))))
+
+-- THE DELETION
+pub delete-root : (d : ℕ) (b : List ℕ) (r : Record) (l : ℕ) (t : Item (suc l)) → l < 256 → Whole d b l t → All (Known d r) (records (suc l) t)
+    → Changed d b (lowerRoot l (deleteAt d l b (t .0) r .bytes) (t .0) (deleteAt d l b (t .0) r .count)) (deletedTree d r (l, t)) (deleteRecord (r .id) (records (suc l) t)) (givenRoot d l r t ++ freeAt b)
+unfolding lowerRoot deletedTree lowered givenRoot given deleteTree Some
+delete-root d b r zero t v w kn = stay d b r zero t v w kn (leaf-root d r (freeAt b) t (w .ok))
+delete-root d b r (suc l) t v w kn = inner-root d b r l t v w kn

@@ -14,8 +14,9 @@ use Rattle.pagestore.specs.Store.PageLaws.{length-set-field, field-same, field-
 use Rattle.pagestore.specs.Store.FreeLaws.{rest-field, free-field}
 use Rattle.trees.specs.Trees.{Item, records, pages, identOf, live}
 use Rattle.trees.specs.Sound.{Permitted, RecordOk, SoundIndex}
+use Rattle.tree_laws.specs.Shapes.{Shape}
 use Rattle.tree_laws.specs.Frames.{held-frame, Well, Kept}
-use Rattle.tree_laws.specs.Wholes.{Whole, Right, whole-live, whole-sound}
+use Rattle.tree_laws.specs.Wholes.{Whole, Right, shapeAt, whole-shape, whole-live, whole-sound}
 
 -- ANY FIELD BUT THOSE OF THE FREE PAGES
 
@@ -61,12 +62,10 @@ module _ (b : List ℕ) (p l : ℕ) where
 
 -- WHAT AN ACT COMES TO
 
--- c is b changed: it holds a tree with the records rs, and the pages fs are free
-pub record Changed (d : ℕ) (b c : List ℕ) (rs : List Record) (fs : List ℕ) : Type 0 where
-  pub height : ℕ
-  pub tree : Item (suc height)
-  pub whole : Whole d c height tree
-  pub records-are : records (suc height) tree ≡ rs
+-- c is b changed: it holds the tree of s, whose records are rs, and the pages fs are free
+pub record Changed (d : ℕ) (b c : List ℕ) (s : Shape) (rs : List Record) (fs : List ℕ) : Type 0 where
+  pub whole : Whole d c (s .0) (s .1)
+  pub records-are : records (suc (s .0)) (s .1) ≡ rs
   pub free-are : freeAt c ≡ fs
   pub length-is : length c ≡ length b
   pub others : (f : Field) → Apart freed f → Apart fresh f → Apart root f → Apart level f → fieldAt f c ≡ fieldAt f b
@@ -85,21 +84,22 @@ whole-total d b l t v w =
       order = w .order;
     }
 
-pub total-changed : {d : ℕ} {b c : List ℕ} {rs : List Record} {fs : List ℕ} (v : ℕ) → Changed d b c rs fs
-    → (live (viewOf (setField total c v)) ≡ rs) × (freeAt (setField total c v) ≡ fs) × (length (setField total c v) ≡ length b) × (fieldAt features (setField total c v) ≡ d)
-total-changed {d} {b} {c} {rs} {fs} v x =
-    let w = whole-total d c (x .height) (x .tree) v (x .whole) in (
-      whole-live d (setField total c v) (x .height) (x .tree) w ∙ x .records-are,
+pub total-changed : {d : ℕ} {b c : List ℕ} {s : Shape} {rs : List Record} {fs : List ℕ} (v : ℕ) → Changed d b c s rs fs
+    → (live (viewOf (setField total c v)) ≡ rs) × (freeAt (setField total c v) ≡ fs) × (length (setField total c v) ≡ length b) × (fieldAt features (setField total c v) ≡ d) × (_≡_ {A = Shape} (shapeAt (setField total c v)) s)
+total-changed {d} {b} {c} {s} {rs} {fs} v x =
+    let w = whole-total d c (s .0) (s .1) v (x .whole) in (
+      whole-live d (setField total c v) (s .0) (s .1) w ∙ x .records-are,
       free-field total c v refl refl ∙ x .free-are,
       length-set-field total c v ∙ x .length-is,
       w .features-are,
+      whole-shape d (setField total c v) (s .0) (s .1) w,
     )
 
 -- b was right for the records before; the changed index is sound with the records rs once its total is theirs
-pub changed-sound : {d : ℕ} {b c : List ℕ} {olds rs : List Record} {fs : List ℕ} (v : ℕ) → Right d b olds → Changed d b c rs fs
+pub changed-sound : {d : ℕ} {b c : List ℕ} {s : Shape} {olds rs : List Record} {fs : List ℕ} (v : ℕ) → Right d b olds → Changed d b c s rs fs
     → All (RecordOk d) rs → ((i : ℕ) → mult i (map identOf rs) ≤ 1) → v ≡ length rs → length rs ≤ 65535 → SoundIndex (setField total c v)
-changed-sound {d} {b} {c} {olds} {rs} {fs} v r x ok one e few =
-    let w = whole-total d c (x .height) (x .tree) v (x .whole) in
+changed-sound {d} {b} {c} {s} {olds} {rs} {fs} v r x ok one e few =
+    let w = whole-total d c (s .0) (s .1) v (x .whole) in
     let room : 1024 ≤ length c = omega (arith, x .length-is, r .lent .low) in
     let rt : Right d (setField total c v) rs =
     record {
@@ -112,19 +112,19 @@ changed-sound {d} {b} {c} {olds} {rs} {fs} v r x ok one e few =
       total-is = field-same total c v room (omega arith) ∙ e;
       most = few;
     } in
-    whole-sound d (setField total c v) (x .height) (x .tree) w (subst (Right d (setField total c v)) (sym (x .records-are)) rt)
+    whole-sound d (setField total c v) (s .0) (s .1) w (subst (Right d (setField total c v)) (sym (x .records-are)) rt)
 
 -- a change of b′, to which b was brought by steps that keep the header
-pub changed-over : {d : ℕ} {b b′ c c′ : List ℕ} {rs rs′ : List Record} {fs fs′ : List ℕ} → Kept b b′ → c ≡ c′ → rs ≡ rs′ → fs ≡ fs′ → Changed d b′ c rs fs → Changed d b c′ rs′ fs′
-changed-over {d} {b} {b′} {c} {c′} {rs} {rs′} {fs} {fs′} k e f g x =
-    let y : Changed d b c rs fs =
+pub changed-over : {d : ℕ} {b b′ c c′ : List ℕ} {s s′ : Shape} {rs rs′ : List Record} {fs fs′ : List ℕ}
+    → Kept b b′ → c ≡ c′ → s ≡ s′ → rs ≡ rs′ → fs ≡ fs′ → Changed d b′ c s rs fs → Changed d b c′ s′ rs′ fs′
+changed-over {d} {b} {b′} {c} {c′} {s} {s′} {rs} {rs′} {fs} {fs′} k e h f g x =
+    let y : Changed d b c s rs fs =
     record {
-      height = x .height;
-      tree = x .tree;
       whole = x .whole;
       records-are = x .records-are;
       free-are = x .free-are;
       length-is = x .length-is ∙ k .size;
       others = λ h u v m n. x .others h u v m n ∙ k .field h u v;
     } in
-    subst (λ (z : List ℕ). Changed d b z rs′ fs′) e (subst (λ (z : List Record). Changed d b c z fs′) f (subst (λ (z : List ℕ). Changed d b c rs z) g y))
+    subst (λ (z : List ℕ). Changed d b z s′ rs′ fs′) e
+    (subst (λ (z : Shape). Changed d b c z rs′ fs′) h (subst (λ (z : List Record). Changed d b c s z fs′) f (subst (λ (z : List ℕ). Changed d b c s rs z) g y)))

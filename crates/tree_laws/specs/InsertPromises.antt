@@ -16,11 +16,12 @@ use Rattle.pagestore.specs.Store.PageLaws.{page-level, page-field}
 use Rattle.trees.specs.Trees.{rankOf, identOf, treeOf, live}
 use Rattle.trees.specs.Sound.{RecordOk, SoundIndex}
 use Rattle.tree.specs.Insertion.{insertRecord, insertAt, growRoot, addToTotal, insertInto, pagesWanted}
-use Rattle.tree_laws.specs.InsertTree.{runOf}
+use Rattle.tree_laws.specs.Shapes.{Shape}
+use Rattle.tree_laws.specs.InsertTree.{insertedTree, runOf}
 use Rattle.tree_laws.specs.InsertSim.{full-run}
 use Rattle.tree_laws.specs.InsertRoot.{insert-root}
 use Rattle.tree_laws.specs.InsertOrder.{order-of}
-use Rattle.tree_laws.specs.Wholes.{Whole, sound-whole, sound-right, root-fit, view-d}
+use Rattle.tree_laws.specs.Wholes.{Whole, shapeAt, sound-whole, sound-right, root-fit, view-d}
 use Rattle.tree_laws.specs.Depth.{level-small}
 use Rattle.tree_laws.specs.Header.{Changed, total-changed, changed-sound}
 use Rattle.tree_laws.specs.Idents.{rank-new, distinct-ins}
@@ -32,6 +33,14 @@ pub record MayInsert (b : List ℕ) (r : Record) : Type 0 where
   pub new : mult (r .id) (map identOf (live (viewOf b))) ≡ 0
   pub room : viewOf b .total < 65535
   pub free : pagesWanted b r ≤ length (freeAt b)
+
+-- the pages wanted, by the tree: its run of full pages, plus one if that takes in the root
+pub pages-wanted : (b : List ℕ) (r : Record) → SoundIndex b
+    → let n = runOf (viewOf b .d) (viewOf b .level) (rankOf (viewOf b .d) r) (treeOf (viewOf b)) in pagesWanted b r ≡ n + tick (eqb n (suc (viewOf b .level)))
+unfolding pagesWanted
+pages-wanted b r s =
+    let w = sound-whole b s in
+    rw (w .features-are, w .level-is, w .root-is, full-run (viewOf b .d) (viewOf b .level) b (rankOf (viewOf b .d) r) (treeOf (viewOf b)) (w .ok) (w .held), add-one (viewOf b .level)) refl
 
 module _ (b : List ℕ) (r : Record) (s : SoundIndex b) (m : MayInsert b r) where
   abbrev d : ℕ
@@ -47,16 +56,14 @@ module _ (b : List ℕ) (r : Record) (s : SoundIndex b) (m : MayInsert b r) wher
   run = runOf (viewOf b .d) (viewOf b .level) (rankOf (viewOf b .d) r) (treeOf (viewOf b))
 
   wanted : pagesWanted b r ≡ run + tick (eqb run (suc (viewOf b .level)))
-  unfolding pagesWanted
-  wanted =
-      rw (w .features-are, w .level-is, w .root-is, full-run (viewOf b .d) (viewOf b .level) b (rankOf (viewOf b .d) r) (treeOf (viewOf b)) (w .ok) (w .held), add-one (viewOf b .level)) refl
+  wanted = pages-wanted b r s
 
   rise : Rising (rankOf (viewOf b .d)) (insertRecord (viewOf b .d) r (live (viewOf b)))
   unfolding live
   rise = ins-rising (rankOf d) r (rank-new d r (live (viewOf b)) (m .fits) (root-fit l (treeOf (viewOf b)) (w .ok)) (m .new)) (w .order)
 
   changed : Changed d b (growRoot (fieldAt level b) (insertAt (fieldAt features b) (fieldAt level b) b (fieldAt root b) r .bytes) (insertAt (fieldAt features b) (fieldAt level b) b (fieldAt root b) r .entries))
-      (insertRecord d r (live (viewOf b))) (drop (pagesWanted b r) (freeAt b))
+      (insertedTree d r (freeAt b) (shapeAt b)) (insertRecord d r (live (viewOf b))) (drop (pagesWanted b r) (freeAt b))
   unfolding live
   changed =
       let v = level-small b l (treeOf (viewOf b)) (w .ok) (w .own) in
@@ -108,6 +115,11 @@ module _ (b : List ℕ) (r : Record) (s : SoundIndex b) (m : MayInsert b r) wher
       sym (page-level (setField total grown ((fieldAt total grown + 1) % 2 ^ 32)) q) ∙ ap levelOf (page-field total grown ((fieldAt total grown + 1) % 2 ^ 32) q .page)
       ∙ rw (w .features-are, w .level-is, w .root-is)
       (order-of d b r l (treeOf (viewOf b)) (omega arith) (m .fits) w (rw wanted at (m .free)) rise k (rw wanted at h))
+
+  -- level and tree: a page of 17 is cut after the first 9, a split root gets a new one above it
+  pub insert-shape : _≡_ {A = Shape} (shapeAt (insertInto b r)) (insertedTree (viewOf b .d) r (freeAt b) (shapeAt b))
+  unfolding insertInto addToTotal
+  insert-shape = total-changed ((fieldAt total grown + 1) % 2 ^ 32) changed .4
 
   pub insert-length : length (insertInto b r) ≡ length b
   unfolding insertInto addToTotal

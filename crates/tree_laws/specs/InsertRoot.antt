@@ -18,7 +18,7 @@ use Rattle.pagestore.specs.Store.FreeLaws.{taken-first, free-take, page-take}
 use Rattle.trees.specs.Trees.{Item, records, pages, rankOf, entryOf, node}
 use Rattle.tree.specs.Insertion.{Inserted, insertRecord, insertAt, growRoot}
 use Rattle.tree_laws.specs.Shapes.{Ok, Some}
-use Rattle.tree_laws.specs.InsertTree.{insertTree, runOf, Res, one, two, insert-records, insert-res, insert-page, insert-took, insert-kept}
+use Rattle.tree_laws.specs.InsertTree.{insertTree, rooted, insertedTree, runOf, Res, one, two, insert-records, insert-res, insert-page, insert-took, insert-kept}
 use Rattle.tree_laws.specs.Frames.{Held, held-frame, held-list, Well, Kept, kept-range, kept-trans, kept-take}
 use Rattle.tree_laws.specs.InsertSim.{Sim, oneOf, one-sim, insert-sim, first-rest}
 use Rattle.tree_laws.specs.Wholes.{Whole}
@@ -76,11 +76,9 @@ module _ (d l : ℕ) (b : List ℕ) (a c : Item (suc l)) (n : ℕ) (fs : List �
         order = st;
       }
 
-  pub new-changed : fieldAt features b ≡ d → Rising (rankOf d) (records (suc (suc l)) (n, a ∷ c ∷ [])) → Changed d b b3 (records (suc (suc l)) (n, a ∷ c ∷ [])) fs
+  pub new-changed : fieldAt features b ≡ d → Rising (rankOf d) (records (suc (suc l)) (n, a ∷ c ∷ [])) → Changed d b b3 (suc l, (n, a ∷ c ∷ [])) (records (suc (suc l)) (n, a ∷ c ∷ [])) fs
   new-changed ft st =
       record {
-        height = suc l;
-        tree = (n, a ∷ c ∷ []);
         whole = new-whole ft st;
         records-are = refl;
         free-are = new-free;
@@ -112,16 +110,14 @@ module _ (d : ℕ) (b : List ℕ) (r : Record) (l : ℕ) (t : Item (suc l)) (v :
   done : (ts : List (Item (suc l))) → ts ≡ insertTree d l r (freeAt b) t .trees → Res l ts → All (Held d (suc l) (o .bytes)) ts
       → ((q : ℕ) → mult q (flat (pages (suc l)) ts) + mult q (freeAt (o .bytes)) ≡ tick (inRange (o .bytes) q))
       → flat (records (suc l)) ts ≡ insertRecord d r (records (suc l) t)
-      → Changed d b (growRoot l (o .bytes) (map (entryOf d l) ts)) (insertRecord d r (records (suc l) t)) (drop (run + tick (eqb run (suc l))) (freeAt b))
-  unfolding growRoot records flat
+      → Changed d b (growRoot l (o .bytes) (map (entryOf d l) ts)) (rooted l (getD (freeAt (o .bytes)) 0 0) ts) (insertRecord d r (records (suc l) t)) (drop (run + tick (eqb run (suc l))) (freeAt b))
+  unfolding growRoot rooted records flat
   done ts e (one {t = a} ra) held own rs =
       let ra' : records (suc l) a ≡ insertRecord d r (records (suc l) t) = sym (append-nil (records (suc l) a)) ∙ rs in
       let tk = insert-took d l r (freeAt b) t (w .ok) in
       let n : 1 ≡ length (insertTree d l r (freeAt b) t .trees) = ap (λ (z : List (Item (suc l))). length z) e in
       let z : run + tick (eqb run (suc l)) ≡ run = omega (arith, tk .trees) in
       record {
-        height = l;
-        tree = a;
         whole =
             record {
               features-are = sim .kept .field features refl refl ∙ w .features-are;
@@ -146,7 +142,7 @@ module _ (d : ℕ) (b : List ℕ) (r : Record) (l : ℕ) (t : Item (suc l)) (v :
       let m : length (freeAt b') ≡ length (freeAt b) - run = ap (λ (y : List ℕ). length y) free-o ∙ length-drop run (freeAt b) in
       let fr = first-rest (freeAt b') (omega (arith, room)) in
       let ft : fieldAt features b' ≡ d = sim .kept .field features refl refl ∙ w .features-are in
-      changed-over (sim .kept) (sym (grow-two d l b' a c v)) rs (ap (drop 1) free-o ∙ drop-drop 1 run (freeAt b) ∙ ap (λ (y : ℕ). drop y (freeAt b)) (sym z))
+      changed-over (sim .kept) (sym (grow-two d l b' a c v)) refl rs (ap (drop 1) free-o ∙ drop-drop 1 run (freeAt b) ∙ ap (λ (y : ℕ). drop y (freeAt b)) (sym z))
       (new-changed d l b' a c (getD (freeAt b') 0 0) (drop 1 (freeAt b')) fr (omega arith) (sim .kept .well) (also oa (also oc none)) own held ft (rw rs rise))
 
   pub own-o : (q : ℕ) → mult q (flat (pages (suc l)) (insertTree d l r (freeAt b) t .trees)) + mult q (freeAt (o .bytes)) ≡ tick (inRange (o .bytes) q)
@@ -154,7 +150,8 @@ module _ (d : ℕ) (b : List ℕ) (r : Record) (l : ℕ) (t : Item (suc l)) (v :
       ap (λ (z : List ℕ). mult q (flat (pages (suc l)) (insertTree d l r (freeAt b) t .trees)) + mult q z) (sim .free)
       ∙ insert-kept d l r q (freeAt b) t (w .ok) (omega arith) ∙ w .own q ∙ ap tick (sym (kept-range (sim .kept) q))
 
-  pub insert-root : Changed d b (growRoot l (o .bytes) (o .entries)) (insertRecord d r (records (suc l) t)) (drop (run + tick (eqb run (suc l))) (freeAt b))
+  pub insert-root : Changed d b (growRoot l (o .bytes) (o .entries)) (insertedTree d r (freeAt b) (l, t)) (insertRecord d r (records (suc l) t)) (drop (run + tick (eqb run (suc l))) (freeAt b))
+  unfolding insertedTree
   insert-root =
-      rw (sim .entries)
+      rw (sim .entries, ← sim .free)
       (done (insertTree d l r (freeAt b) t .trees) refl (insert-res d l r (freeAt b) t hr (w .ok)) (sim .held) own-o (insert-records d l r (freeAt b) t (w .ok) (w .order)))

@@ -19,7 +19,7 @@ use Rattle.pagestore.specs.Fits.{RecordFits}
 use Rattle.trees.specs.Trees.{Item, records, pages, rankOf}
 use Rattle.tree.specs.Entries.{replaced}
 use Rattle.tree.specs.Insertion.{insertRecord}
-use Rattle.tree_laws.specs.Shapes.{Ok, Some, Root, ok-root, noTree, flat-records, no-pages, chosen, chosen-lt, before-chosen, behind-chosen}
+use Rattle.tree_laws.specs.Shapes.{Ok, Some, Root, ok-root, Shape, noTree, flat-records, no-pages, chosen, chosen-lt, before-chosen, behind-chosen}
 
 -- what a page has become, and the pages then free
 pub record Cut (A : Type 0) : Type 0 where
@@ -38,6 +38,16 @@ insertTree d (suc l) r fs t =
     let i = chosen d l (rankOf d r) (t .1) in
     let c = insertTree d l r fs (getD (t .1) i (noTree l)) in
     cut (t .0) (c .free) (replaced i (c .trees) (t .1))
+
+-- the tree of the pages ts of level l: the one page, or a new root n over two
+unfoldable pub rooted : (l : ℕ) → ℕ → List (Item (suc l)) → Shape
+rooted l n [] = (l, noTree l)
+rooted l n (a ∷ []) = (l, a)
+rooted l n (a ∷ c ∷ ts) = (suc l, (n, a ∷ c ∷ []))
+
+-- the tree after an insertion; a new root takes the page that is then the first free
+unfoldable pub insertedTree : ℕ → Record → List ℕ → Shape → Shape
+insertedTree d r fs s = let u = insertTree d (s .0) r fs (s .1) in rooted (s .0) (getD (u .free) 0 0) (u .trees)
 
 -- the full pages in an unbroken run upward from the leaf
 unfoldable pub runOf : ℕ → (l : ℕ) → ℕ → Item (suc l) → ℕ

@@ -47,6 +47,10 @@ records-some (suc l) t o = go (t .1) (omega arith) (o .2) (records-some l)
     go [] h a f = absurd (omega arith)
     go (u ∷ us) h (also p a) f = let g : 0 < length (records l u) = f u p in rw (length-append (records l u) (flat (records l) us)) (omega arith)
 
+-- a tree with its level
+abbrev pub Shape : Type 0
+Shape = (l : ℕ) × Item (suc l)
+
 -- in the place of a tree where there is none
 abbrev pub noTree : (l : ℕ) → Item (suc l)
 noTree l = (0, [])

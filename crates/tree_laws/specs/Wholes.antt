@@ -17,7 +17,7 @@ use Rattle.pagestore.specs.Store.PageLaws.{records-fit as stored-fit}
 use Rattle.trees.specs.Trees.{Item, records, pages, rankOf, identOf, Rep, treeAt, treeOf, live}
 use Rattle.trees.specs.TreeLaws.{rep-is}
 use Rattle.trees.specs.Sound.{Permitted, isPage, freshPages, RootFilled, Filled, RecordOk, SoundIndex}
-use Rattle.tree_laws.specs.Shapes.{Ok, Some, Root}
+use Rattle.tree_laws.specs.Shapes.{Ok, Some, Root, Shape}
 use Rattle.tree_laws.specs.Frames.{Held, Well, records-fit}
 use Rattle.tree_laws.specs.InsertSim.{leaf-items}
 
@@ -161,6 +161,15 @@ pub whole-live : (d : ℕ) (b : List ℕ) (l : ℕ) (t : Item (suc l)) → Whole
 whole-live d b l t w =
     subst (λ (m : ℕ). (u : Item (suc m)) → Whole d b m u → live (viewOf b) ≡ records (suc m) u) (view-level b ∙ w .level-is)
     (λ u x. live-at d b u (sym (x .features-are) ∙ sym (view-d b)) x) t w
+
+-- the level and the tree of an index
+abbrev pub shapeAt : List ℕ → Shape
+shapeAt b = (viewOf b .level, treeOf (viewOf b))
+
+pub whole-shape : (d : ℕ) (b : List ℕ) (l : ℕ) (t : Item (suc l)) → Whole d b l t → _≡_ {A = Shape} (shapeAt b) (l, t)
+whole-shape d b l t w =
+    subst (λ (m : ℕ). (u : Item (suc m)) → Whole d b m u → _≡_ {A = Shape} (shapeAt b) (m, u)) (view-level b ∙ w .level-is)
+    (λ u x. ap (λ (y : Item (suc (viewOf b .level))). let z : Shape = (viewOf b .level, y) in z) (sym (whole-tree d b u (sym (x .features-are) ∙ sym (view-d b)) x))) t w
 
 sound-at : (b : List ℕ) (t : Item (suc (viewOf b .level))) → Whole (viewOf b .d) b (viewOf b .level) t → Right (viewOf b .d) b (records (suc (viewOf b .level)) t) → SoundIndex b
 unfolding viewOf live
