@@ -22,7 +22,7 @@ use Rattle.tree.specs.Entries.{noKey}
 coord-low : (x : ℕ) → x < 1000 → coordOf x ≡ negsuc (999 - x)
 coord-low x l = rw (lt-ltb x 1000 l) (ap negsuc (let e : 1000 - suc x ≡ 999 - x = omega arith in e))
 
-coord-high : (x : ℕ) → 1000 ≤ x → coordOf x ≡ pos (x - 1000)
+pub coord-high : (x : ℕ) → 1000 ≤ x → coordOf x ≡ pos (x - 1000)
 coord-high x l = rw (le-ltb x 1000 l)
 
 coord-fits : (x : ℕ) → x < 2 ^ 16 → natAbs (coordOf x) < 2 ^ 16

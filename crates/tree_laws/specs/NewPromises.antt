@@ -15,9 +15,9 @@ use Rattle.pagestore.specs.Store.RangeLaws.{range-is, range-high, range-zero, r
 use Rattle.pagestore.specs.Store.NewLaws.{New, length-new, new-index}
 use Rattle.trees.specs.Trees.{records, pages, identOf, node, live}
 use Rattle.trees.specs.Sound.{Permitted, SoundIndex}
-use Rattle.tree_laws.specs.Shapes.{Some}
+use Rattle.tree_laws.specs.Shapes.{Some, Shape}
 use Rattle.tree_laws.specs.Frames.{Held}
-use Rattle.tree_laws.specs.Wholes.{Whole, Right, whole-live, whole-sound, view-d}
+use Rattle.tree_laws.specs.Wholes.{Whole, Right, shapeAt, whole-shape, whole-live, whole-sound, view-d}
 
 none-there : (i : ℕ) → mult i (map identOf []) ≤ 1
 unfolding mult
@@ -86,3 +86,7 @@ module _ (b : List ℕ) (d : ℕ) (lent : Permitted (length b)) (low : 1 ≤ d) 
 
   pub new-features : viewOf (newIndex b d) .d ≡ d
   new-features = view-d (newIndex b d) ∙ new .features
+
+  -- a root leaf without record
+  pub new-shape : _≡_ {A = Shape} (shapeAt (newIndex b d)) (0, (1, []))
+  new-shape = whole-shape d (newIndex b d) 0 (1, []) whole
