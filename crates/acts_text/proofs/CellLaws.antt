@@ -1,5 +1,5 @@
 -- Steps of reading a line of values, each in the form of a branch or a turn of the code.
-use mathlib.Core.Path.{_≡_, refl, sym, ap, _∙_}
+use mathlib.Core.Path.{_≡_, sym, ap, _∙_}
 use mathlib.Core.Logic.{_≢_}
 use mathlib.Core.Bool.{Bool, true, false}
 use mathlib.Core.List.{List, [], _∷_}
@@ -15,7 +15,7 @@ use Rattle.lists.specs.Basics.{pick}
 use Rattle.lists.specs.Tests.{cases, false-true}
 use Rattle.acts_text.specs.Bytes.{space, until}
 use Rattle.acts_text.specs.Fields.{bad, withDigit, valueFrom, illFormed, natural, negative, signed}
-use Rattle.acts_text.specs.Lines.{limit, most, leading, fieldLength, cell, row, noneBad, readableCells, cells, coordinates, unreadable, lineOf, actOf}
+use Rattle.acts_text.specs.Lines.{limit, most, leading, fieldLength, cell, row, noneBad, readableCells, cells, coordinates, unreadable, actOf}
 use Rattle.acts_text.specs.declared.ActLine.{ActLine}
 use Rattle.acts_text.proofs.DigitLaws.{drop-end}
 

@@ -2,21 +2,19 @@
 -- same as their concatenation. `lines-kept`: fed to the end they give the lines of the input, as kept. `feeds-line`, `feeds-on`: a call of `feed`.
 use mathlib.Core.Path.{_≡_, refl, sym, ap, _∙_}
 use mathlib.Core.Logic.{_≢_}
-use mathlib.Core.Bool.{Bool, true, false}
+use mathlib.Core.Bool.{true, false}
 use mathlib.Core.List.{List, [], _∷_, _++_, map, append-assoc, append-nil}
 use Prim.Native.Nat.{ℕ, zero, suc, _+_, _-_, _≤_, _<_, min}
 use native.Mathlib.Omega.{arith}
 use lib.Dec.{ltb, eqb}
 use lib.ListN.{length, take, drop, length-append, length-take, length-drop}
-use lib.Seq.{take-all, take-at, take-append-add, drop-drop, append-snoc}
+use lib.Seq.{take-all, take-at, take-append-add, drop-drop}
 use borrow.Author.Tests.{eqb-true, eqb-false, ltb-true, ltb-false, ne-eqb}
 use Rattle.lists.specs.Basics.{All, none, also, all-append}
 use Rattle.lists.specs.Tests.{cases}
-use Rattle.acts_text.specs.Bytes.{newline, until, Written, Stored}
+use Rattle.acts_text.specs.Bytes.{newline, until, Stored}
 use Rattle.acts_text.specs.Input.{before, linesOf, kept, ended, current, lastLine, piece, Feeds}
 use Rattle.acts_text.specs.declared.Fed.{Fed}
-use Rattle.acts_text.proofs.DigitLaws.{drop-end}
-use Rattle.acts_text.proofs.CellLaws.{drop-next}
 use Rattle.acts_text.proofs.StoreLaws.{written}
 
 -- a line goes up to its newline
@@ -112,11 +110,11 @@ take-min a b l = cases (ltb a b)
 add-sub : (a b : ℕ) → a + b - a ≡ b
 add-sub a b = omega arith
 
-room : (h n x y z : ℕ) → n ≤ 257 → z ≡ 257 → h ≡ n + y → y ≡ min (257 - n) x → h ≤ z
+room : (h n x y z : ℕ) → n ≤ 257 → 257 ≤ z → h ≡ n + y → y ≡ min (257 - n) x → h ≤ z
 room h n x y z a b c d = omega arith
 
 -- what the code does is `Feeds`
-pub feeds : (held held' chunk : List ℕ) (n at e m h nx : ℕ) → length held ≡ 257 → n ≤ 257 → e ≡ at + until newline (drop at chunk) → m ≡ min (e - at) (257 - n)
+pub feeds : (held held' chunk : List ℕ) (n at e m h nx : ℕ) → 257 ≤ length held → n ≤ 257 → e ≡ at + until newline (drop at chunk) → m ≡ min (e - at) (257 - n)
     → Stored held held' n h (take (at + m - at) (drop at chunk)) → nx ≡ min (e + 1) (length chunk)
     → Feeds held held' n chunk at (record { ended = ltb e (length chunk); held = h; at = nx })
 feeds held held' chunk n at e m h nx l k p q s t =
@@ -131,7 +129,7 @@ feeds held held' chunk n at e m h nx l k p q s t =
       next = t ∙ ap (λ (x : ℕ). min (x + 1) (length chunk)) p;
     }
 
-module _ (held held' : List ℕ) (n : ℕ) (chunk : List ℕ) (at : ℕ) (r : Fed) (len : length held ≡ 257) (fits : n ≤ 257) (inside : at ≤ length chunk) (f : Feeds held held' n chunk at r) where
+module _ (held held' : List ℕ) (n : ℕ) (chunk : List ℕ) (at : ℕ) (r : Fed) (len : 257 ≤ length held) (fits : n ≤ 257) (inside : at ≤ length chunk) (f : Feeds held held' n chunk at r) where
   open-kept : kept (take n held) ≡ take n held
   open-kept = take-all 257 (take n held) (simp length-take (omega arith))
 

@@ -4,3 +4,7 @@ pub mod CellLaws
 pub mod PrefixLaws
 pub mod StoreLaws
 pub mod InputLaws
+pub mod FieldLaws
+pub mod LineLaws
+pub mod NameLaws
+pub mod ExampleLaws

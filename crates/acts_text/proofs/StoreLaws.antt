@@ -5,10 +5,10 @@ use mathlib.Core.List.{List, [], _∷_, _++_}
 use Prim.Native.Nat.{ℕ, zero, suc, _+_, _-_, _/_, _≤_, _<_}
 use native.Mathlib.Numerals.{add-one}
 use native.Mathlib.Omega.{arith}
-use lib.ListN.{length, take, drop, getD, set, length-append, length-take}
+use lib.ListN.{length, drop, getD, set, length-append}
 use lib.Seq.{sets, sets-eq, drop-cons, drop-length}
 use borrow.Author.Tests.{lt-ltb, le-ltb}
-use Rattle.acts_text.specs.Decimal.{lastDigit, decimal, text}
+use Rattle.acts_text.specs.Decimal.{lastDigit, decimal}
 use Rattle.acts_text.specs.Bytes.{Written, Stored}
 use Rattle.acts_text.specs.Output.{field, resultLine}
 

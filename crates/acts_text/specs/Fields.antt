@@ -1,6 +1,6 @@
 -- A field (01, "The acts program"): decimal, minus directly before, no leading zeros, no -0, in its range.
 -- `FieldLaws` shows that a field is readable exactly if it is the decimal writing of its value.
-use Prim.Native.Nat.{ℕ, zero, suc, _+_, _-_, _*_}
+use Prim.Native.Nat.{ℕ, zero, _+_, _-_, _*_}
 use mathlib.Core.Bool.{Bool, true, false}
 use mathlib.Core.List.{List, [], _∷_}
 use lib.Dec.{ltb, eqb}

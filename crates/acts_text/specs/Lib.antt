@@ -5,3 +5,4 @@ pub mod Lines
 pub mod Names
 pub mod Output
 pub mod Input
+pub mod Examples

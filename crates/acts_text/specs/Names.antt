@@ -1,6 +1,6 @@
 -- The line of names: `act id k c0 ..` up to the last coordinate.
 -- `NameLaws` shows that a line is read as d exactly if it is `names d` and d is 1 to 16.
-use Prim.Native.Nat.{ℕ, zero, suc, _+_, _-_, _*_, _/_, _%_}
+use Prim.Native.Nat.{ℕ, zero, suc, _+_, _-_, _/_, _%_}
 use mathlib.Core.Bool.{Bool, true, false}
 use mathlib.Core.List.{List, [], _∷_, _++_}
 use lib.Dec.{ltb, eqb}

@@ -1,7 +1,7 @@
 // The acts text (01, "The acts program"): reads the line of names and the lines of values, cuts input into lines, writes the output's lines.
 // Every function takes any bytes; one that writes asks only for room in the lent buffer.
-pub mod bytes;
-pub mod fields;
+mod bytes;
+mod fields;
 pub mod input;
 pub mod lines;
 pub mod names;

@@ -2,7 +2,7 @@
 ghost use mathlib.Core.Path.{_≡_};
 ghost use Prim.Native.Nat.{_+_, _≤_};
 ghost use lib.ListN.{length, drop};
-ghost use Rattle.acts_text.specs.Lines.{fieldLength, cell, cells, noneBad, readableCells, coordinates, unreadable, actOf};
+ghost use Rattle.acts_text.specs.Lines.{leading, most, fieldLength, cell, cells, noneBad, readableCells, coordinates, unreadable, actOf};
 use crate::ActLine;
 use crate::bytes::find;
 use crate::bytes::past;
@@ -17,7 +17,7 @@ pub const MOST: usize = 16;
 // The columns before the coordinates: act, id, k.
 pub const LEADING: usize = 3;
 // The columns of a line with the most coordinates.
-const COLUMNS: usize = 19;
+const COLUMNS: usize = LEADING + MOST;
 
 // Where the field at index at ends, if n more fields come behind it.
 fn field_end(line: &[u8], at: usize, n: usize) -> usize
@@ -46,8 +46,8 @@ fn read_cell(f: &[u8], j: usize) -> u64
 
 // The values of a line's columns, then zeros.
 fn read_cells(line: &[u8], d: usize) -> [u64; COLUMNS]
-    requires { ⌜ d ≤ 16 ⌝ }
-    ensures { λ r. ⌜ r ≡ cells (3 + d) (now (line .entry)) ⌝ }
+    requires { ⌜ d ≤ most ⌝ }
+    ensures { λ r. ⌜ r ≡ cells (leading + d) (now (line .entry)) ⌝ }
 {
     let n = LEADING + d;
     let mut v = [0u64; COLUMNS];
@@ -79,7 +79,7 @@ fn none_bad(v: &[u64]) -> bool
 
 // Whether all columns are readable, and the act is not 0.
 fn readable_cells(v: &[u64]) -> bool
-    requires { ⌜ length (now v) ≡ 19 ⌝ }
+    requires { ⌜ length (now v) ≡ leading + most ⌝ }
     ensures { λ r. ⌜ r ≡ readableCells (now (v .entry)) ⌝ }
 {
     if v[0] == 0 { false } else { none_bad(v) }
@@ -87,7 +87,7 @@ fn readable_cells(v: &[u64]) -> bool
 
 // The coordinates among the values.
 fn coordinates_of(v: &[u64]) -> [i16; MOST]
-    requires { ⌜ length (now v) ≡ 19 ⌝ }
+    requires { ⌜ length (now v) ≡ leading + most ⌝ }
     ensures { λ r. ⌜ r ≡ coordinates (now (v .entry)) ⌝ }
 {
     let mut c = [0i16; MOST];

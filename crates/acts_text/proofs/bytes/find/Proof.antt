@@ -1,14 +1,13 @@
+-- `bytes::find` meets its contract: what stands before b from here on, with the bytes passed, is what stood before it at the start.
 use Rattle.acts_text.specs.Bytes.{until}
 use Rattle.acts_text.proofs.CellLaws.{until-here, until-on, until-end}
-use lib.ListN.{length, drop, getD}
-use Prim.Native.Nat.{ℕ, _≤_, _+_, _-_}
-use mathlib.Core.Path.{_≡_, refl, sym, _∙_}
+use lib.ListN.{length, drop}
+use Prim.Native.Nat.{_≤_, _+_, _-_}
+use mathlib.Core.Path.{_≡_, refl}
 use borrow.Author.Needs.{needs}
 use native.Mathlib.Omega.{arith}
 use Rattle.acts_text.proofs.bytes.find.Statement.{statement}
 use Rattle.acts_text.proofs.bytes.find.Tie as tie
-use Rattle.acts_text.proofs.bytes.find.Reads as reads
-use Rattle.acts_text.proofs.bytes.find.Lts as lts
 
 abbrev Inv-loop : tie.InvT-loop
 Inv-loop s at b i₀ i = (i + until b (drop i s) ≡ at + until b (drop at s)) × (i ≤ length s)

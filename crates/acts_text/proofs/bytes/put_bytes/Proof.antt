@@ -8,8 +8,6 @@ use lib.Seq.{sets}
 use Rattle.acts_text.proofs.StoreLaws.{bytes-start, bytes-turn, bytes-done}
 use Rattle.acts_text.proofs.bytes.put_bytes.Statement.{statement}
 use Rattle.acts_text.proofs.bytes.put_bytes.Tie as tie
-use Rattle.acts_text.proofs.bytes.put_bytes.Reads as reads
-use Rattle.acts_text.proofs.bytes.put_bytes.Lts as lts
 
 abbrev Inv-loop : tie.InvT-loop
 Inv-loop out₀ at w i₀ out i = (sets out (at + i) (drop i w) ≡ sets out₀ at w) × (i ≤ length w) × (length out ≡ length out₀)

@@ -1,9 +1,8 @@
+-- `fields::ill_formed` meets its contract: one law for each branch.
 use Rattle.acts_text.proofs.DigitLaws.{ill-formed-none, ill-formed-zero, ill-formed-not}
 use borrow.Author.Needs.{needs}
 use Rattle.acts_text.proofs.fields.ill_formed.Statement.{statement}
 use Rattle.acts_text.proofs.fields.ill_formed.Tie as tie
-use Rattle.acts_text.proofs.fields.ill_formed.Reads as reads
-use Rattle.acts_text.proofs.fields.ill_formed.Lts as lts
 
 returns : tie.Need-returns
 returns c = search (ill-formed-none, needs)

@@ -1,9 +1,8 @@
+-- `fields::negated` meets its contract: one law for each branch.
 use Rattle.acts_text.proofs.DigitLaws.{negative-none, negative-bad, negative-fits, negative-wide}
 use borrow.Author.Needs.{needs}
 use Rattle.acts_text.proofs.fields.negated.Statement.{statement}
 use Rattle.acts_text.proofs.fields.negated.Tie as tie
-use Rattle.acts_text.proofs.fields.negated.Reads as reads
-use Rattle.acts_text.proofs.fields.negated.Lts as lts
 
 returns : tie.Need-returns
 returns c = search (negative-none, needs)

@@ -1,11 +1,10 @@
+-- `fields::of_bits` meets its contract: one law for each branch.
 use Rattle.acts_text.proofs.BitLaws.{bits-low, bits-high, bits-past, down-fits}
 use Prim.Native.Nat.{_-_}
 use native.Mathlib.Omega.{arith}
 use borrow.Author.Needs.{needs}
 use Rattle.acts_text.proofs.fields.of_bits.Statement.{statement}
 use Rattle.acts_text.proofs.fields.of_bits.Tie as tie
-use Rattle.acts_text.proofs.fields.of_bits.Reads as reads
-use Rattle.acts_text.proofs.fields.of_bits.Lts as lts
 
 cast-result : tie.Need-cast-result
 cast-result c = search needs

@@ -1,13 +1,10 @@
-use mathlib.Core.Path.{_≡_, refl, sym, _∙_}
+-- `fields::read_natural` meets its contract: one law for each branch.
+use mathlib.Core.Path.{sym, _∙_}
 use native.Mathlib.Omega.{arith}
 use Rattle.acts_text.proofs.DigitLaws.{natural-bad, natural-value}
 use borrow.Author.Needs.{needs}
 use Rattle.acts_text.proofs.fields.read_natural.Statement.{statement}
 use Rattle.acts_text.proofs.fields.read_natural.Tie as tie
-use Rattle.acts_text.proofs.fields.read_natural.Reads as reads
-use Rattle.acts_text.proofs.fields.read_natural.Lts as lts
-use Rattle.acts_text.proofs.fields.value_of.Reads as value-of-reads
-use Rattle.acts_text.proofs.fields.ill_formed.Reads as ill-formed-reads
 
 ill-formed-requires : tie.Need-ill-formed-requires
 ill-formed-requires c κs = search needs

@@ -1,13 +1,8 @@
-use mathlib.Core.Path.{_≡_, refl, sym, _∙_}
-use native.Mathlib.Omega.{arith}
+-- `fields::read_signed` meets its contract: one law for each branch.
 use Rattle.acts_text.proofs.DigitLaws.{signed-none, signed-minus, signed-plain}
 use borrow.Author.Needs.{needs}
 use Rattle.acts_text.proofs.fields.read_signed.Statement.{statement}
 use Rattle.acts_text.proofs.fields.read_signed.Tie as tie
-use Rattle.acts_text.proofs.fields.read_signed.Reads as reads
-use Rattle.acts_text.proofs.fields.read_signed.Lts as lts
-use Rattle.acts_text.proofs.fields.negated.Reads as negated-reads
-use Rattle.acts_text.proofs.fields.read_natural.Reads as read-natural-reads
 
 read-natural-requires : tie.Need-read-natural-requires
 read-natural-requires c κs = search needs

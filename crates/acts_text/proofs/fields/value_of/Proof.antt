@@ -1,15 +1,13 @@
-use Rattle.acts_text.specs.Fields.{withDigit, valueFrom}
+-- `fields::value_of` meets its contract: the value so far, with the digits left, is the value of all.
+use Rattle.acts_text.specs.Fields.{valueFrom}
 use Rattle.acts_text.proofs.DigitLaws.{value-step, value-end}
-use lib.ListN.{length, drop, getD}
-use Prim.Native.Nat.{ℕ, _≤_, _+_, _-_}
+use lib.ListN.{length, drop}
+use Prim.Native.Nat.{_≤_, _-_}
 use mathlib.Core.Path.{_≡_, refl, sym, _∙_}
 use borrow.Author.Needs.{needs}
 use native.Mathlib.Omega.{arith}
 use Rattle.acts_text.proofs.fields.value_of.Statement.{statement}
 use Rattle.acts_text.proofs.fields.value_of.Tie as tie
-use Rattle.acts_text.proofs.fields.value_of.Reads as reads
-use Rattle.acts_text.proofs.fields.value_of.Lts as lts
-use Rattle.acts_text.proofs.fields.with_digit.Reads as with-digit-reads
 
 abbrev Inv-loop : tie.InvT-loop
 Inv-loop f cap v₀ i₀ v i = (valueFrom cap v (drop i f) ≡ valueFrom cap 0 f) × (v ≤ 4294967296)

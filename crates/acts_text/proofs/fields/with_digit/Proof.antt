@@ -1,9 +1,8 @@
+-- `fields::with_digit` meets its contract: one law for each branch.
 use Rattle.acts_text.proofs.DigitLaws.{with-digit-low, with-digit-high, with-digit-over, with-digit-fits}
 use borrow.Author.Needs.{needs}
 use Rattle.acts_text.proofs.fields.with_digit.Statement.{statement}
 use Rattle.acts_text.proofs.fields.with_digit.Tie as tie
-use Rattle.acts_text.proofs.fields.with_digit.Reads as reads
-use Rattle.acts_text.proofs.fields.with_digit.Lts as lts
 
 returns : tie.Need-returns
 returns c = search (with-digit-low, needs)

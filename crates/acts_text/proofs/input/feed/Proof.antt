@@ -1,14 +1,8 @@
--- `input::feed` meets its contract.
+-- `input::feed` meets its contract: what is stored are the first bytes of the piece.
 use Rattle.acts_text.proofs.InputLaws.{feeds}
 use borrow.Author.Needs.{needs}
 use Rattle.acts_text.proofs.input.feed.Statement.{statement}
 use Rattle.acts_text.proofs.input.feed.Tie as tie
-use Rattle.acts_text.proofs.input.feed.Reads as reads
-use Rattle.acts_text.proofs.input.feed.Lts as lts
-use Rattle.acts_text.proofs.bytes.find.Reads as find-reads
-use Rattle.acts_text.proofs.bytes.past.Reads as past-reads
-use Rattle.acts_text.proofs.bytes.put_bytes.Reads as put-bytes-reads
-use Rattle.acts_text.proofs.input.lower.Reads as lower-reads
 
 find-requires : tie.Need-find-requires
 find-requires c κs = search needs

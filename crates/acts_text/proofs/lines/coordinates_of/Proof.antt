@@ -1,7 +1,8 @@
+-- `lines::coordinates_of` meets its contract: the coordinates so far are the first i.
 use mir.Facts.{toZ-ofZ}
 use mir.Val.{toZ, ofZ}
 use mir.Syntax.{w16}
-use mathlib.Core.Path.{_∙_}
+use mathlib.Core.Path.{_∙_, _≡_, refl}
 use Rattle.lists.specs.Basics.{run}
 use Rattle.lists.specs.Runs.{run-more, run-done}
 use Rattle.acts_text.specs.Fields.{ofBits}
@@ -10,14 +11,10 @@ use lib.ListN.{length, take, getD}
 use lib.IntN.{ℤ}
 use mathlib.Core.List.{List}
 use Prim.Native.Nat.{ℕ, _≤_, _<_, _-_, _+_}
-use mathlib.Core.Path.{_≡_, refl}
 use borrow.Author.Needs.{needs}
 use native.Mathlib.Omega.{arith}
 use Rattle.acts_text.proofs.lines.coordinates_of.Statement.{statement}
 use Rattle.acts_text.proofs.lines.coordinates_of.Tie as tie
-use Rattle.acts_text.proofs.lines.coordinates_of.Reads as reads
-use Rattle.acts_text.proofs.lines.coordinates_of.Lts as lts
-use Rattle.acts_text.proofs.fields.of_bits.Reads as of-bits-reads
 
 abbrev coordinate : List ℕ → ℕ → ℤ
 coordinate v m = ofBits (getD v (3 + m) 0)

@@ -1,17 +1,11 @@
-use Rattle.acts_text.specs.Lines.{fieldLength}
-use Rattle.acts_text.specs.Bytes.{until, space}
+-- `lines::field_end` meets its contract: the last field goes to the end, another to a space.
 use Rattle.acts_text.proofs.CellLaws.{field-length-last, field-length-word}
-use lib.ListN.{length-drop}
-use lib.ListN.{length, drop, getD}
-use Prim.Native.Nat.{ℕ, _≤_, _+_, _-_}
-use mathlib.Core.Path.{_≡_, refl, sym, _∙_}
+use lib.ListN.{length-drop, drop}
+use Prim.Native.Nat.{_-_}
 use native.Mathlib.Omega.{arith}
 use borrow.Author.Needs.{needs}
 use Rattle.acts_text.proofs.lines.field_end.Statement.{statement}
 use Rattle.acts_text.proofs.lines.field_end.Tie as tie
-use Rattle.acts_text.proofs.lines.field_end.Reads as reads
-use Rattle.acts_text.proofs.lines.field_end.Lts as lts
-use Rattle.acts_text.proofs.bytes.find.Reads as find-reads
 
 find-requires : tie.Need-find-requires
 find-requires c κs = search needs

@@ -1,14 +1,13 @@
+-- `lines::none_bad` meets its contract: what is left has no bad value exactly if all have none.
 use Rattle.acts_text.specs.Lines.{noneBad}
 use Rattle.acts_text.proofs.CellLaws.{none-bad-on, none-bad-bad, none-bad-end}
-use lib.ListN.{length, drop, getD}
-use Prim.Native.Nat.{ℕ, _≤_, _+_, _-_}
-use mathlib.Core.Path.{_≡_, refl, sym, _∙_}
+use lib.ListN.{length, drop}
+use Prim.Native.Nat.{_≤_, _-_}
+use mathlib.Core.Path.{_≡_, refl}
 use borrow.Author.Needs.{needs}
 use native.Mathlib.Omega.{arith}
 use Rattle.acts_text.proofs.lines.none_bad.Statement.{statement}
 use Rattle.acts_text.proofs.lines.none_bad.Tie as tie
-use Rattle.acts_text.proofs.lines.none_bad.Reads as reads
-use Rattle.acts_text.proofs.lines.none_bad.Lts as lts
 
 abbrev Inv-loop : tie.InvT-loop
 Inv-loop v i₀ i = (noneBad (drop i v) ≡ noneBad v) × (i ≤ length v)

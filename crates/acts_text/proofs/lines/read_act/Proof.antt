@@ -1,5 +1,5 @@
 -- `lines::read_act` meets its contract: each return is one branch of `actOf`; readable values fit 32 bits.
-use mathlib.Core.Path.{_≡_, sym, ap, _∙_}
+use mathlib.Core.Path.{sym, ap, _∙_}
 use Prim.Native.Nat.{_+_}
 use borrow.Author.Tests.{not-true, not-false}
 use Rattle.acts_text.specs.Lines.{readableCells}
@@ -7,13 +7,6 @@ use Rattle.acts_text.proofs.CellLaws.{act-long, act-wide, act-bad, act-
 use borrow.Author.Needs.{needs}
 use Rattle.acts_text.proofs.lines.read_act.Statement.{statement}
 use Rattle.acts_text.proofs.lines.read_act.Tie as tie
-use Rattle.acts_text.proofs.lines.read_act.Reads as reads
-use Rattle.acts_text.proofs.lines.read_act.Lts as lts
-use Rattle.acts_text.proofs.lines.coordinates_of.Reads as coordinates-of-reads
-use Rattle.acts_text.proofs.lines.narrow.Reads as narrow-reads
-use Rattle.acts_text.proofs.lines.no_line.Reads as no-line-reads
-use Rattle.acts_text.proofs.lines.read_cells.Reads as read-cells-reads
-use Rattle.acts_text.proofs.lines.readable_cells.Reads as readable-cells-reads
 
 no-line-requires : tie.Need-no-line-requires
 no-line-requires c κs = search needs

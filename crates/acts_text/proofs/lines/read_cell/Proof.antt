@@ -1,11 +1,8 @@
+-- `lines::read_cell` meets its contract: one law for each kind of column.
 use Rattle.acts_text.proofs.CellLaws.{cell-act, cell-wide, cell-coordinate}
 use borrow.Author.Needs.{needs}
 use Rattle.acts_text.proofs.lines.read_cell.Statement.{statement}
 use Rattle.acts_text.proofs.lines.read_cell.Tie as tie
-use Rattle.acts_text.proofs.lines.read_cell.Reads as reads
-use Rattle.acts_text.proofs.lines.read_cell.Lts as lts
-use Rattle.acts_text.proofs.fields.read_natural.Reads as read-natural-reads
-use Rattle.acts_text.proofs.fields.read_signed.Reads as read-signed-reads
 
 read-natural-requires : tie.Need-read-natural-requires
 read-natural-requires c κs = search needs

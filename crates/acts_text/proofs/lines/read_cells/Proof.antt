@@ -1,21 +1,14 @@
-use Rattle.acts_text.proofs.CellLaws.{row-start}
+-- `lines::read_cells` meets its contract: the values stored, with those of the columns left, are the values of the line.
+use Rattle.acts_text.proofs.CellLaws.{row-start, row-step, row-done, cells-are}
 use lib.Seq.{sets}
 use Rattle.acts_text.specs.Lines.{row}
-use Rattle.acts_text.proofs.CellLaws.{row-step, row-done, cells-are}
-use mathlib.Core.Path.{ap}
-use lib.ListN.{replicate, length-set}
-use lib.ListN.{length, drop, getD}
-use Prim.Native.Nat.{ℕ, _≤_, _+_, _-_}
-use mathlib.Core.Path.{_≡_, refl, sym, _∙_}
+use mathlib.Core.Path.{_≡_, refl}
+use lib.ListN.{replicate, length, drop}
+use Prim.Native.Nat.{_≤_, _+_, _-_}
 use borrow.Author.Needs.{needs}
 use native.Mathlib.Omega.{arith}
 use Rattle.acts_text.proofs.lines.read_cells.Statement.{statement}
 use Rattle.acts_text.proofs.lines.read_cells.Tie as tie
-use Rattle.acts_text.proofs.lines.read_cells.Reads as reads
-use Rattle.acts_text.proofs.lines.read_cells.Lts as lts
-use Rattle.acts_text.proofs.lines.read_cell.Reads as read-cell-reads
-use Rattle.acts_text.proofs.bytes.past.Reads as past-reads
-use Rattle.acts_text.proofs.lines.field_end.Reads as field-end-reads
 
 abbrev Inv-loop : tie.InvT-loop
 Inv-loop line d n v₀ at₀ j₀ v at j = (sets v j (row (n - j) j (drop at line)) ≡ sets (replicate 19 0) 0 (row n 0 line)) × (j ≤ n) × (at ≤ length line) × (length v ≡ 19)

@@ -1,10 +1,8 @@
+-- `lines::readable_cells` meets its contract: one law for each branch.
 use Rattle.acts_text.proofs.CellLaws.{readable-cells-none, readable-cells-sane}
 use borrow.Author.Needs.{needs}
 use Rattle.acts_text.proofs.lines.readable_cells.Statement.{statement}
 use Rattle.acts_text.proofs.lines.readable_cells.Tie as tie
-use Rattle.acts_text.proofs.lines.readable_cells.Reads as reads
-use Rattle.acts_text.proofs.lines.readable_cells.Lts as lts
-use Rattle.acts_text.proofs.lines.none_bad.Reads as none-bad-reads
 
 shared-slice-read-if1 : tie.Need-shared-slice-read-if1
 shared-slice-read-if1 c = search needs

@@ -1,9 +1,8 @@
+-- `names::features_in` meets its contract: one law for each branch.
 use Rattle.acts_text.proofs.PrefixLaws.{features-few, features-short, features-short-not, features-long, features-long-not}
 use borrow.Author.Needs.{needs}
 use Rattle.acts_text.proofs.names.features_in.Statement.{statement}
 use Rattle.acts_text.proofs.names.features_in.Tie as tie
-use Rattle.acts_text.proofs.names.features_in.Reads as reads
-use Rattle.acts_text.proofs.names.features_in.Lts as lts
 
 returns : tie.Need-returns
 returns c = search (features-few, needs)

@@ -1,14 +1,13 @@
+-- `names::is_prefix` meets its contract: what is left of the one begins what is left of the other.
 use Rattle.acts_text.specs.Names.{isPrefix}
 use Rattle.acts_text.proofs.PrefixLaws.{prefix-on, prefix-not, prefix-end, prefix-long}
-use lib.ListN.{length, drop, getD}
-use Prim.Native.Nat.{ℕ, _≤_, _+_, _-_}
-use mathlib.Core.Path.{_≡_, refl, sym, _∙_}
+use lib.ListN.{length, drop}
+use Prim.Native.Nat.{_≤_, _-_}
+use mathlib.Core.Path.{_≡_, refl}
 use borrow.Author.Needs.{needs}
 use native.Mathlib.Omega.{arith}
 use Rattle.acts_text.proofs.names.is_prefix.Statement.{statement}
 use Rattle.acts_text.proofs.names.is_prefix.Tie as tie
-use Rattle.acts_text.proofs.names.is_prefix.Reads as reads
-use Rattle.acts_text.proofs.names.is_prefix.Lts as lts
 
 abbrev Inv-loop : tie.InvT-loop
 Inv-loop l t i₀ i = (isPrefix (drop i l) (drop i t) ≡ isPrefix l t) × (i ≤ length l)

@@ -1,13 +1,9 @@
+-- `names::read_names` meets its contract: one law for each branch.
 use Rattle.acts_text.proofs.PrefixLaws.{names-in, names-out}
-use native.Mathlib.Omega.{arith}
-use mathlib.Core.Path.{_≡_, refl, sym, _∙_}
+use mathlib.Core.Path.{sym, _∙_}
 use borrow.Author.Needs.{needs}
 use Rattle.acts_text.proofs.names.read_names.Statement.{statement}
 use Rattle.acts_text.proofs.names.read_names.Tie as tie
-use Rattle.acts_text.proofs.names.read_names.Reads as reads
-use Rattle.acts_text.proofs.names.read_names.Lts as lts
-use Rattle.acts_text.proofs.names.is_prefix.Reads as is-prefix-reads
-use Rattle.acts_text.proofs.names.features_in.Reads as features-in-reads
 
 slice-aggregate-is-prefix : tie.Need-slice-aggregate-is-prefix
 slice-aggregate-is-prefix c = search needs

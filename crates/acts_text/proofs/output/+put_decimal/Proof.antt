@@ -1,3 +1,4 @@
+-- `output::put_decimal` meets its contract: by recursion on the number of digits allowed.
 use Rattle.acts_text.proofs.StoreLaws.{last-put, small-put, more-put}
 use borrow.Author.Needs.{needs}
 use Prim.Native.Nat.{ℕ, _<_}

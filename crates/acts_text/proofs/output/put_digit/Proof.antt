@@ -1,11 +1,8 @@
+-- `output::put_digit` meets its contract: one store.
 use Rattle.acts_text.proofs.StoreLaws.{digit-put}
-use mathlib.Core.Path.{refl}
 use borrow.Author.Needs.{needs}
 use Rattle.acts_text.proofs.output.put_digit.Statement.{statement}
 use Rattle.acts_text.proofs.output.put_digit.Tie as tie
-use Rattle.acts_text.proofs.output.put_digit.Reads as reads
-use Rattle.acts_text.proofs.output.put_digit.Lts as lts
-use Rattle.acts_text.proofs.output.last_digit.Reads as last-digit-reads
 
 last-digit-requires : tie.Need-last-digit-requires
 last-digit-requires c κs = search needs

@@ -1,10 +1,8 @@
+-- `output::put_field` meets its contract: a store behind the digits.
 use Rattle.acts_text.proofs.StoreLaws.{field-put}
 use borrow.Author.Needs.{needs}
 use Rattle.acts_text.proofs.output.put_field.Statement.{statement}
 use Rattle.acts_text.proofs.output.put_field.Tie as tie
-use Rattle.acts_text.proofs.output.put_field.Reads as reads
-use Rattle.acts_text.proofs.output.put_field.Lts as lts
-use Rattle.acts_text.proofs.output.put_decimal.Reads as put-decimal-reads
 
 put-decimal-requires : tie.Need-put-decimal-requires
 put-decimal-requires c κs = search needs

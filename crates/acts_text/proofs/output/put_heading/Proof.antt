@@ -1,13 +1,10 @@
--- `output::put_heading` meets its contract.
+-- `output::put_heading` meets its contract: the bytes stored lie within the buffer.
 use native.Mathlib.Omega.{arith}
 use Rattle.acts_text.specs.Output.{heading}
 use Rattle.acts_text.proofs.StoreLaws.{written}
 use borrow.Author.Needs.{needs}
 use Rattle.acts_text.proofs.output.put_heading.Statement.{statement}
 use Rattle.acts_text.proofs.output.put_heading.Tie as tie
-use Rattle.acts_text.proofs.output.put_heading.Reads as reads
-use Rattle.acts_text.proofs.output.put_heading.Lts as lts
-use Rattle.acts_text.proofs.bytes.put_bytes.Reads as put-bytes-reads
 
 slice-aggregate-put-bytes : tie.Need-slice-aggregate-put-bytes
 slice-aggregate-put-bytes c = search needs

@@ -1,12 +1,9 @@
+-- `output::put_result` meets its contract: five fields, one behind the other.
 use native.Mathlib.Omega.{arith}
-use mathlib.Core.Path.{_≡_, refl, sym, _∙_}
 use Rattle.acts_text.proofs.StoreLaws.{result-put}
 use borrow.Author.Needs.{needs}
 use Rattle.acts_text.proofs.output.put_result.Statement.{statement}
 use Rattle.acts_text.proofs.output.put_result.Tie as tie
-use Rattle.acts_text.proofs.output.put_result.Reads as reads
-use Rattle.acts_text.proofs.output.put_result.Lts as lts
-use Rattle.acts_text.proofs.output.put_field.Reads as put-field-reads
 
 put-field-requires : tie.Need-put-field-requires
 put-field-requires c κs = search needs
