@@ -17,7 +17,8 @@ use Rattle.lists.specs.Tests.{cases, false-true}
 use Rattle.acts_text.specs.Bytes.{space, until}
 use Rattle.acts_text.specs.Decimal.{text, signedText}
 use Rattle.acts_text.specs.Fields.{bad, natural, signed, ofBits}
-use Rattle.acts_text.specs.Lines.{leading, most, fieldLength, cell, row, noneBad, readableCells, cells, coordinates, joined, lineText, Coordinate, Ranged, limit, unreadable, actOf}
+use Rattle.acts_text.specs.Lines.{leading, most, fieldLength, cell, row, noneBad, readableCells, cells, coordinates, limit, unreadable, actOf}
+use Rattle.acts_text.specs.Grammar.{joined, lineText, Coordinate, Ranged}
 use Rattle.acts_text.specs.Input.{kept}
 use Rattle.acts_text.specs.declared.ActLine.{ActLine}
 use Rattle.acts_text.proofs.DigitLaws.{drop-end, natural-bad, ill-formed-none}
@@ -454,3 +455,9 @@ pub act-kept : (d : ℕ) (l : List ℕ) → actOf d (kept l) ≡ actOf d l
 act-kept d l = cases (ltb 257 (length l))
     (λ e. let g = ltb-true 257 (length l) e in let m = length-take 257 l in sym (act-long d (kept l) (omega arith)) ∙ act-long d l (omega arith))
     (λ e. ap (actOf d) (take-all 257 l (ltb-false 257 (length l) e)))
+
+-- a line of values in their ranges is within the limit, which so never decides by itself
+pub line-short : (d : ℕ) (a : ActLine) → Ranged d a → length (lineText a) ≤ limit
+line-short d a g = cases (ltb limit (length (lineText a)))
+    (λ e. false-true (ap (λ (x : ActLine). x .readable) (act-long d (lineText a) (ltb-true limit (length (lineText a)) e) ∙ act-reads d a g) ∙ g .says))
+    (λ e. ltb-false limit (length (lineText a)) e)

@@ -1,5 +1,5 @@
 -- A field (01, "The acts program"): decimal, minus directly before, no leading zeros, no -0, in its range.
--- `FieldLaws` shows that a field is readable exactly if it is the decimal writing of its value.
+-- How a field is read; `FieldLaws` shows that a field is readable exactly if it is the decimal writing of a number in its range.
 use Prim.Native.Nat.{ℕ, zero, _+_, _-_, _*_}
 use mathlib.Core.Bool.{Bool, true, false}
 use mathlib.Core.List.{List, [], _∷_}

@@ -1,16 +1,14 @@
 -- A line of values: `act id k`, then the coordinates, one space between.
--- `LineLaws` shows that a line is readable exactly if it is its values in decimal, joined by one space.
-use Prim.Native.Nat.{ℕ, zero, suc, _+_, _-_, _≤_}
-use mathlib.Core.Path.{_≡_}
+-- How a line is read; `Grammar` says which lines are readable.
+use Prim.Native.Nat.{ℕ, zero, suc, _+_}
 use mathlib.Core.Bool.{Bool, true, false}
-use mathlib.Core.List.{List, [], _∷_, _++_, map}
+use mathlib.Core.List.{List, [], _∷_}
 use lib.Dec.{ltb, eqb}
-use lib.IntN.{ℤ, pos, negsuc}
+use lib.IntN.{ℤ, pos}
 use lib.ListN.{length, getD, drop, take, replicate}
 use lib.Seq.{sets}
-use Rattle.lists.specs.Basics.{pick, run, All}
+use Rattle.lists.specs.Basics.{pick, run}
 use Rattle.acts_text.specs.Bytes.{space, until}
-use Rattle.acts_text.specs.Decimal.{text, signedText}
 use Rattle.acts_text.specs.Fields.{bad, natural, signed, ofBits}
 use Rattle.acts_text.specs.declared.ActLine.{ActLine}
 
@@ -68,30 +66,3 @@ lineOf d vs = record { readable = true; act = getD vs 0 0; id = getD vs 1 0; k =
 unfoldable pub actOf : ℕ → List ℕ → ActLine
 actOf d l = pick (ltb limit (length l)) unreadable (pick (ltb most d) unreadable
     (pick (readableCells (cells (leading + d) l)) (lineOf d (cells (leading + d) l)) unreadable))
-
--- ---- what a readable line is
-
--- fields with one space between
-unfoldable pub joined : List (List ℕ) → List ℕ
-joined [] = []
-joined (f ∷ []) = f
-joined (f ∷ g ∷ fs) = f ++ (space ∷ joined (g ∷ fs))
-
--- the line that says a: its values in decimal
-abbrev pub lineText : ActLine → List ℕ
-lineText a = joined (text (a .act) ∷ text (a .id) ∷ text (a .k) ∷ map signedText (take (a .d) (a .coords)))
-
--- a coordinate of the text: -32,768 to 32,767
-abbrev pub Coordinate : ℤ → Type 0
-Coordinate (pos n) = n ≤ 32767
-Coordinate (negsuc m) = m ≤ 32767
-
--- every value is in its range, where d coordinates are named; slots past them are 0
-pub record Ranged (d : ℕ) (a : ActLine) : Type 0 where
-  pub says : a .readable ≡ true
-  pub acts : (1 ≤ a .act) × (a .act ≤ 3)
-  pub ids : a .id ≤ 4294967295
-  pub ks : a .k ≤ 4294967295
-  pub named : (a .d ≡ d) × (d ≤ most)
-  pub coordinate : All Coordinate (take d (a .coords))
-  pub slots : (length (a .coords) ≡ most) × (drop d (a .coords) ≡ replicate (most - d) (pos 0))
