@@ -9,9 +9,9 @@ use native.Mathlib.Omega.{arith}
 use lib.Dec.{eqb}
 use lib.ListN.{length, drop, getD}
 use lib.Seq.{drop-cons}
-use borrow.Author.Tests.{lt-ltb, le-ltb, eq-eqb, ne-eqb}
+use borrow.Author.Tests.{le-leb, lt-leb, eq-eqb, ne-eqb}
 use Rattle.lists.specs.Tests.{cases}
-use Rattle.acts_text.specs.Names.{isPrefix, allNames, featuresIn, namesIn}
+use Rattle.acts_text.specs.Names.{lead, ten, isPrefix, allNames, featuresIn, namesIn}
 use Rattle.acts_text.proofs.DigitLaws.{drop-end}
 
 pub prefix-on : (l t : List ℕ) (i : ℕ) → i < length l → i < length t → getD l i 0 ≡ getD t i 0 → isPrefix (drop i l) (drop i t) ≡ isPrefix (drop (i + 1) l) (drop (i + 1) t)
@@ -40,22 +40,22 @@ pub names-out : (l : List ℕ) → isPrefix l allNames ≡ false → 0 ≡ names
 unfolding namesIn
 names-out l h = rw h
 
-pub features-few : (n : ℕ) → n < 11 → 0 ≡ featuresIn n
+pub features-few : (n : ℕ) → n ≤ lead → 0 ≡ featuresIn n
 unfolding featuresIn
-features-few n h = rw (lt-ltb n 11 h)
+features-few n h = rw (le-leb n lead h)
 
-pub features-short : (n : ℕ) → 11 ≤ n → n < 39 → (n - 8) % 3 ≡ 0 → (n - 8) / 3 ≡ featuresIn n
+pub features-short : (n : ℕ) → lead < n → n ≤ ten → (n - lead) % 3 ≡ 0 → (n - lead) / 3 ≡ featuresIn n
 unfolding featuresIn
-features-short n h k e = rw (le-ltb n 11 h, lt-ltb n 39 k, eq-eqb ((n - 8) % 3) 0 e)
+features-short n h k e = rw (lt-leb n lead h, le-leb n ten k, eq-eqb ((n - lead) % 3) 0 e)
 
-pub features-short-not : (n : ℕ) → 11 ≤ n → n < 39 → (n - 8) % 3 ≢ 0 → 0 ≡ featuresIn n
+pub features-short-not : (n : ℕ) → lead < n → n ≤ ten → (n - lead) % 3 ≢ 0 → 0 ≡ featuresIn n
 unfolding featuresIn
-features-short-not n h k e = rw (le-ltb n 11 h, lt-ltb n 39 k, ne-eqb ((n - 8) % 3) 0 e)
+features-short-not n h k e = rw (lt-leb n lead h, le-leb n ten k, ne-eqb ((n - lead) % 3) 0 e)
 
-pub features-long : (n : ℕ) → 11 ≤ n → 39 ≤ n → (n - 38) % 4 ≡ 0 → 10 + (n - 38) / 4 ≡ featuresIn n
+pub features-long : (n : ℕ) → lead < n → ten < n → (n - ten) % 4 ≡ 0 → 10 + (n - ten) / 4 ≡ featuresIn n
 unfolding featuresIn
-features-long n h k e = rw (le-ltb n 11 h, le-ltb n 39 k, eq-eqb ((n - 38) % 4) 0 e)
+features-long n h k e = rw (lt-leb n lead h, lt-leb n ten k, eq-eqb ((n - ten) % 4) 0 e)
 
-pub features-long-not : (n : ℕ) → 11 ≤ n → 39 ≤ n → (n - 38) % 4 ≢ 0 → 0 ≡ featuresIn n
+pub features-long-not : (n : ℕ) → lead < n → ten < n → (n - ten) % 4 ≢ 0 → 0 ≡ featuresIn n
 unfolding featuresIn
-features-long-not n h k e = rw (le-ltb n 11 h, le-ltb n 39 k, ne-eqb ((n - 38) % 4) 0 e)
+features-long-not n h k e = rw (lt-leb n lead h, lt-leb n ten k, ne-eqb ((n - ten) % 4) 0 e)

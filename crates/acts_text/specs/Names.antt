@@ -3,7 +3,7 @@
 use Prim.Native.Nat.{ℕ, zero, suc, _+_, _-_, _/_, _%_}
 use mathlib.Core.Bool.{Bool, true, false}
 use mathlib.Core.List.{List, [], _∷_, _++_}
-use lib.Dec.{ltb, eqb}
+use lib.Dec.{leb, eqb}
 use lib.ListN.{length}
 use Rattle.lists.specs.Basics.{pick}
 use Rattle.acts_text.specs.Bytes.{space}
@@ -24,9 +24,17 @@ isPrefix [] t = true
 isPrefix (a ∷ l) [] = false
 isPrefix (a ∷ l) (b ∷ t) = pick (eqb a b) (isPrefix l t) false
 
--- how many coordinates a line of names of n bytes has, or 0 if none has n bytes: `act id k` has 8, ` c0` to ` c9` 3, ` c10` and up 4
+-- the bytes of `act id k`
+abbrev pub lead : ℕ
+lead = 8
+
+-- the bytes of a line of ten names
+abbrev pub ten : ℕ
+ten = lead + 30
+
+-- how many coordinates a line of names of n bytes has, or 0 if none has n bytes: behind `act id k`, ` c0` to ` c9` have 3 bytes, ` c10` and up 4
 unfoldable pub featuresIn : ℕ → ℕ
-featuresIn n = pick (ltb n 11) 0 (pick (ltb n 39) (pick (eqb ((n - 8) % 3) 0) ((n - 8) / 3) 0) (pick (eqb ((n - 38) % 4) 0) (10 + (n - 38) / 4) 0))
+featuresIn n = pick (leb n lead) 0 (pick (leb n ten) (pick (eqb ((n - lead) % 3) 0) ((n - lead) / 3) 0) (pick (eqb ((n - ten) % 4) 0) (10 + (n - ten) / 4) 0))
 
 -- the d of a line of names, or 0 for a line that is none
 unfoldable pub namesIn : List ℕ → ℕ

@@ -19,21 +19,26 @@ fn is_prefix(l: &[u8], t: &[u8]) -> bool
     true
 }
 
+// The bytes of `act id k`; behind them a coordinate takes 3 up to c9, and 4 from c10 on.
+const LEAD: usize = 8;
+// The bytes of a line of ten names.
+const TEN: usize = LEAD + 30;
+
 // How many coordinates a line of names of n bytes has, or 0 if none has n bytes.
 fn features_in(n: usize) -> usize
     ensures { λ r. ⌜ r ≡ featuresIn n ⌝ }
 {
-    if n < 11 {
+    if n <= LEAD {
         return 0;
     }
-    if n < 39 {
-        if (n - 8) % 3 == 0 {
-            return (n - 8) / 3;
+    if n <= TEN {
+        if (n - LEAD) % 3 == 0 {
+            return (n - LEAD) / 3;
         }
         return 0;
     }
-    if (n - 38) % 4 == 0 {
-        return 10 + (n - 38) / 4;
+    if (n - TEN) % 4 == 0 {
+        return 10 + (n - TEN) / 4;
     }
     0
 }
