@@ -5,6 +5,7 @@ pub mod PrefixLaws
 pub mod StoreLaws
 pub mod InputLaws
 pub mod FieldLaws
+pub mod RowLaws
 pub mod LineLaws
 pub mod NameLaws
 pub mod ExampleLaws
