@@ -33,7 +33,8 @@ unfolding flat entryOf
 kids-under d l b f none = refl
 kids-under d l b f (also {x = t} h r) = λ i. f t h i ++ kids-under d l b f r i
 
-under-is : (d l : ℕ) (b : List ℕ) (t : Item (suc l)) → Held d (suc l) b t → recordsUnder l b (t .0) ≡ records (suc l) t
+-- below any page of the tree
+pub under-is : (d l : ℕ) (b : List ℕ) (t : Item (suc l)) → Held d (suc l) b t → recordsUnder l b (t .0) ≡ records (suc l) t
 unfolding recordsUnder records Held
 under-is d zero b t h = leaf-items d b t h ∙ sym (flat-records (t .1))
 under-is d (suc l) b t h = ap (flat (λ e. recordsUnder l b (e .child))) (inner-items d l b t h) ∙ kids-under d l b (under-is d l b) (h .1)
@@ -101,7 +102,8 @@ unfolding flat
 kids-leaves d l b f none = refl
 kids-leaves d l b f (also {x = t} {xs = ts} h r) = (λ i. f t h i ++ kids-leaves d l b f r i) ∙ sym (map-append (entryOf d 0) (leaves l t) (flat (leaves l) ts))
 
-entries-are : (d l : ℕ) (b : List ℕ) (t : Item (suc l)) → Held d (suc l) b t → leafEntries l b (entryOf d l t) ≡ map (entryOf d 0) (leaves l t)
+-- below the entry of any page of the tree
+pub entries-are : (d l : ℕ) (b : List ℕ) (t : Item (suc l)) → Held d (suc l) b t → leafEntries l b (entryOf d l t) ≡ map (entryOf d 0) (leaves l t)
 unfolding leafEntries leaves Held entryOf
 entries-are d zero b t h = refl
 entries-are d (suc l) b t h = ap (flat (leafEntries l b)) (inner-items d l b t h) ∙ kids-leaves d l b (entries-are d l b) (h .1)
@@ -112,7 +114,8 @@ unfolding flat sum entryOf
 kids-count d l b f none = refl
 kids-count d l b f (also {x = t} {xs = ts} h r) = omega (arith, f t h, kids-count d l b f r, length-append (leaves l t) (flat (leaves l) ts))
 
-count-is : (d l : ℕ) (b : List ℕ) (t : Item (suc l)) → Held d (suc l) b t → leafCount l b (t .0) ≡ length (leaves l t)
+-- below any page of the tree
+pub count-is : (d l : ℕ) (b : List ℕ) (t : Item (suc l)) → Held d (suc l) b t → leafCount l b (t .0) ≡ length (leaves l t)
 unfolding leafCount leaves Held
 count-is d zero b t h = refl
 count-is d (suc l) b t h = ap (sum (λ e. leafCount l b (e .child))) (inner-items d l b t h) ∙ kids-count d l b (count-is d l b) (h .1)

@@ -75,12 +75,12 @@ root-fit l t r = all-flat (records l) (t .1) (all-map (records-fit l) (r .subs))
 
 -- THE VIEW
 
-rep-held : (b : List ℕ) (l : ℕ) (x : Item l) → Rep l (viewOf b) x → Held (viewOf b .d) l b x
+pub rep-held : (b : List ℕ) (l : ℕ) (x : Item l) → Rep l (viewOf b) x → Held (viewOf b .d) l b x
 unfolding Rep Held viewOf
 rep-held b zero x r = tt
 rep-held b (suc l) t r = (r .0, all-map (rep-held b l) (r .1))
 
-held-rep : (b : List ℕ) (l : ℕ) (x : Item l) → Held (viewOf b .d) l b x → Rep l (viewOf b) x
+pub held-rep : (b : List ℕ) (l : ℕ) (x : Item l) → Held (viewOf b .d) l b x → Rep l (viewOf b) x
 unfolding Rep Held viewOf
 held-rep b zero x r = tt
 held-rep b (suc l) t r = (r .0, all-map (held-rep b l) (r .1))
