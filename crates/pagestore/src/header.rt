@@ -2,10 +2,10 @@
 ghost use mathlib.Core.Path.{_≡_};
 ghost use Prim.Native.Nat.{_+_, _≤_};
 ghost use Rattle.pagestore.specs.Store.{numberAt, setNumber, fieldAt, setField, size, features, root, level, total, freed, fresh};
-use crate::numbers::get_u32;
 use crate::numbers::get_u8;
-use crate::numbers::put_u32;
+use crate::numbers::get_u32;
 use crate::numbers::put_u8;
+use crate::numbers::put_u32;
 
 fn get_byte(index: &[u8], at: usize) -> u8
     requires { ⌜ at + 4 ≤ 1024 ⌝ }

@@ -2,10 +2,10 @@
 // Every function is total: a page number out of range reads as an empty page, and a write there does nothing.
 use geometry::Key;
 
-mod numbers;
-mod items;
-pub mod pages;
 pub mod header;
+mod items;
+mod numbers;
+pub mod pages;
 
 // A record as it is stored: its identifier, and 16 coordinate slots, each a coordinate with 1,000 added.
 pub struct Record {
