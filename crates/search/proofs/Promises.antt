@@ -1,5 +1,5 @@
 -- What is promised of the search on a sound index, in the words of demands 2 and 3.
-use mathlib.Core.Path.{_≡_, refl, sym, ap, ap₂, _∙_}
+use mathlib.Core.Path.{_≡_, refl, sym, ap, ap₂, subst, _∙_}
 use mathlib.Core.Bool.{Bool, true, false, not, _&&_, _||_}
 use mathlib.Core.List.{List, [], _∷_, _++_, map}
 use Prim.Native.Nat.{ℕ, zero, suc, _+_, _*_, _≤_, _<_}
@@ -9,7 +9,8 @@ use lib.Dec.{ltb, leb, eqb}
 use borrow.Author.Tests.{ltb-true, ltb-false, lt-ltb, le-ltb, eq-eqb, ne-eqb}
 use Rattle.lists.specs.Basics.{pick, All, none, also, all-map, flat, upFrom}
 use Rattle.lists.specs.Tests.{cases, false-true}
-use Rattle.lists.specs.Sorting.{keep, count, sort}
+use Rattle.lists.specs.Sorting.{keep, count, sort, Order}
+use Rattle.lists.specs.Orders.{by, lower, by-weak, by-same, lower-weak, lower-same, weak-order}
 use Rattle.lists.specs.SortingLaws.{keep-first, keep-past}
 use Rattle.lists.specs.FlatLaws.{all-both, all-every, all-mapped, map-append}
 use Rattle.lists.specs.Counts.{mult, mult-self, mult-more, mult-append, all-of-mult}
@@ -316,3 +317,88 @@ floor-no : (d : ℕ) (q : List ℕ) {ts : List (Item 1)} → All (LeafFloor d q)
 floor-no d q none p = none
 floor-no d q (also h a) zero = h
 floor-no d q (also h a) (suc p) = floor-no d q a p
+
+module _ (b c : List ℕ) (sb : SoundIndex b) (sc : SoundIndex c) (q : List ℕ) (same : length q ≡ viewOf b .d) (alike : viewOf c .d ≡ viewOf b .d) (k : ℕ) (one : 1 ≤ k)
+    (x : Exchanged (viewOf b .d) (toRead (viewOf b) q k) (leavesOf (viewOf b)) (leavesOf (viewOf c))) where
+  abbrev d : ℕ
+  d = viewOf b .d
+
+  abbrev ts : List (Item 1)
+  ts = leavesOf (viewOf b)
+
+  abbrev zs : List (Item 1)
+  zs = leavesOf (viewOf c)
+
+  abbrev positions : List ℕ
+  positions = upFrom 0 (length ts)
+
+  abbrev boundNo : ℕ → ℕ
+  boundNo p = leafBound d q (leafNo ts p)
+
+  abbrev byPlace : ℕ → ℕ → Bool
+  byPlace = by boundNo (lower (λ p. p))
+
+  place-order : Order byPlace
+  place-order =
+      weak-order (by-weak boundNo (lower (λ p. p)) (lower-weak (λ p. p)))
+      (λ m n e f. let w = by-same boundNo (lower (λ p. p)) m n e f in lower-same (λ p. p) m n (w .1) (w .2))
+
+  same-c : length q ≡ viewOf c .d
+  same-c = same ∙ sym alike
+
+  -- the bounds are the same
+  bound-kept : (t u : Item 1) (r : Bool) → Kept d r t u → leafBound d q u ≡ leafBound d q t
+  unfolding leafBound
+  bound-kept t u r h = rw (h .first, h .last)
+
+  floors-first : All (Floor ranking boundNo (rowsNo q ts)) positions
+  unfolding rowOf
+  floors-first = all-every (λ p. all-mapped (rowOf q p) (leafNo ts p .1) (floor-no d q (leaf-floors b sb q same k one) p)) positions
+
+  floors-second : All (Floor ranking boundNo (rowsNo q zs)) positions
+  unfolding rowOf
+  floors-second =
+      all-every (λ p. all-mapped (rowOf q p) (leafNo zs p .1)
+      (rw (bound-kept (leafNo ts p) (leafNo zs p) _ (kept-no x p)) at (floor-no d q (subst (λ (n : ℕ). All (LeafFloor n q) zs) alike (leaf-floors c sc q same-c k one)) p))) positions
+
+  rows-first : flat (rowsNo q ts) positions ≡ rowsOf (viewOf b) q
+  unfolding rowsOf
+  rows-first = rows-no q ts
+
+  rows-second : flat (rowsNo q zs) positions ≡ rowsOf (viewOf c) q
+  unfolding rowsOf
+  rows-second = ap (λ (n : ℕ). flat (rowsNo q zs) (upFrom 0 n)) (sym (exchanged-length x)) ∙ rows-no q zs
+
+  kept-rows : (p : ℕ) (t u : Item 1) → Kept d (toRead (viewOf b) q k t) t u → inSet ranking k (rowsOf (viewOf b) q) (leafBound d q t) ≡ true → map (rowOf q p) (u .1) ≡ map (rowOf q p) (t .1)
+  unfolding toRead
+  kept-rows p t u h w =
+      ap (map (rowOf q p))
+      (cases (ltb 0 (length (t .1)))
+      (λ e. h .same (rw e w))
+      (λ e. let z : length (t .1) ≡ 0 = omega (arith, ltb-false 0 (length (t .1)) e) in empty (u .1) (h .number ∙ z) ∙ sym (empty (t .1) z)))
+    where
+      empty : (rs : List Record) → length rs ≡ 0 → rs ≡ []
+      empty [] g = refl
+      empty (r ∷ rs) g = absurd (omega arith)
+
+  nearest-kept : nearest ranking k (rowsOf (viewOf c) q) ≡ nearest ranking k (rowsOf (viewOf b) q)
+  nearest-kept =
+      rw (← rows-first, ← rows-second)
+      (flatly.exchange-rows ranking row-order boundNo (lower (λ p. p)) place-order positions (rowsNo q ts) floors-first k one (rowsNo q zs) floors-second
+      (all-every (λ p w. kept-rows p (leafNo ts p) (leafNo zs p) (kept-no x p) (rw rows-first at w)) positions))
+
+  set-kept : (t u : Item 1) (r : Bool) → Kept d r t u → toRead (viewOf c) q k u ≡ toRead (viewOf b) q k t
+  unfolding toRead inSet
+  set-kept t u r h = rw (nearest-kept, alike, h .number, bound-kept t u r h)
+
+  count-kept : (r : Item 1 → Bool) {us ws : List (Item 1)} → Exchanged d r us ws → count (toRead (viewOf c) q k) ws ≡ count (toRead (viewOf b) q k) us
+  unfolding count
+  count-kept r end = refl
+  count-kept r (next {t = t} {u = u} h y) = rw (set-kept t u (r t) h, count-kept r y)
+
+  -- exchange: neither rows nor count change, and the rows are the k nearest of the records now held too
+  pub exchange : (found c q k ≡ found b q k) × ((found b q k) .rows ≡ nearest ranking k (rowsOf (viewOf c) q))
+  exchange =
+      let n = count-kept (toRead (viewOf b) q k) x in
+      let e : found c q k ≡ found b q k = found-exact c sc q same-c k one ∙ (λ i. record { rows = nearest-kept i; leaves = n i }) ∙ sym (found-exact b sb q same k one) in
+      (e, ap (λ (f : Found). f .rows) (sym e) ∙ rows-nearest c sc q same-c k one)
