@@ -19,9 +19,9 @@ use Rattle.bestfirst.specs.VisitLaws.{visit-read}
 use Rattle.candidates.specs.declared.Row.{Row}
 use Rattle.trees.specs.Trees.{Item, leaves}
 use Rattle.search.specs.Branches.{Branch, tied, before, isLeaf, opened, kids, rowsAt}
-use Rattle.search.specs.Visit.{ranking, Found, foundIn}
+use Rattle.search.specs.Visit.{ranking, Answer, answerOf}
 use Rattle.search.specs.Questions.{leafBound}
-use Rattle.search.proofs.FrameLaws.{Frame, Branching, not-leaf, inner, branchOf, branchesOf, leafBranch, leafBranches, opened-is, under-inner, under-is, Ordered, ordered-kids, leaves-floor}
+use Rattle.search.proofs.FrameLaws.{Frame, Branching, not-leaf, inner, itemBranch, itemBranches, leafBranch, leafBranches, opened-is, under-inner, under-is, Ordered, ordered-kids, leaves-floor}
 
 abbrev boundOf : Branch → ℕ
 boundOf x = x .bound
@@ -68,8 +68,8 @@ unfolding leafBranches leafBranch
 leaves-behind q d x n [] p l none = none
 leaves-behind q d x n (t ∷ ts) p l (also h a) = also (behind x (leafBranch q d n t) h p l) (leaves-behind q d x (suc n) ts (omega arith) l a)
 
-length-branches : (q : List ℕ) (d p l : ℕ) (ts : List (Item (suc l))) → length (branchesOf q d p l ts) ≡ length ts
-unfolding branchesOf
+length-branches : (q : List ℕ) (d p l : ℕ) (ts : List (Item (suc l))) → length (itemBranches q d p l ts) ≡ length ts
+unfolding itemBranches
 length-branches q d p l [] = refl
 length-branches q d p l (t ∷ ts) = ap suc (length-branches q d (p + length (leaves l t)) l ts)
 
@@ -77,14 +77,14 @@ module _ (c q : List ℕ) (d : ℕ) (low : 1 ≤ d) (high : d ≤ 16) (same : le
   abbrev Down : ℕ → Branch → Type 0
   Down l x = Descends isLeaf (kids c q) before l x
 
-  down-list : (l p : ℕ) (ts : List (Item (suc l))) → ((n : ℕ) (t : Item (suc l)) → Frame c d l t → Ordered d l t → Down l (branchOf q d n l t))
-      → All (Frame c d l) ts → All (Ordered d l) ts → All (Down l) (branchesOf q d p l ts)
-  unfolding branchesOf
+  down-list : (l p : ℕ) (ts : List (Item (suc l))) → ((n : ℕ) (t : Item (suc l)) → Frame c d l t → Ordered d l t → Down l (itemBranch q d n l t))
+      → All (Frame c d l) ts → All (Ordered d l) ts → All (Down l) (itemBranches q d p l ts)
+  unfolding itemBranches
   down-list l p [] h none none = none
   down-list l p (t ∷ ts) h (also f a) (also o b) = also (h p t f o) (down-list l (p + length (leaves l t)) ts h a b)
 
   -- a page of the tree, whatever its bound, if it is at most that of each leaf under it
-  down-inner : (l B p : ℕ) (t : Item (suc (suc l))) → ((n : ℕ) (u : Item (suc l)) → Frame c d l u → Ordered d l u → Down l (branchOf q d n l u))
+  down-inner : (l B p : ℕ) (t : Item (suc (suc l))) → ((n : ℕ) (u : Item (suc l)) → Frame c d l u → Ordered d l u → Down l (itemBranch q d n l u))
       → Frame c d (suc l) t → Ordered d (suc l) t → All (λ u. B ≤ leafBound d q u) (leaves (suc l) t) → Down (suc l) (inner B p l t)
   unfolding Descends Frame Branching
   down-inner l B p t h f o b = λ e.
@@ -94,8 +94,8 @@ module _ (c q : List ℕ) (d : ℕ) (low : 1 ≤ d) (high : d ≤ 16) (same : le
         rw k (down-list l p (t .1) h (f .2) (ordered-kids d l t o)),
       )
 
-  pub down : (l p : ℕ) (t : Item (suc l)) → Frame c d l t → Ordered d l t → Down l (branchOf q d p l t)
-  unfolding Descends branchOf
+  pub down : (l p : ℕ) (t : Item (suc l)) → Frame c d l t → Ordered d l t → Down l (itemBranch q d p l t)
+  unfolding Descends itemBranch
   down zero p t f o = refl
   down (suc l) p t f o = down-inner l _ p t (down l) f o (leaves-floor d low high q same (suc l) t o)
 
@@ -136,19 +136,19 @@ module _ (c q : List ℕ) (d : ℕ) (low : 1 ≤ d) (high : d ≤ 16) (same : le
 
   -- a root leaf is read, whatever its bound
   leaf-root : (k room m : ℕ) (one : 1 ≤ k) (t : Item 1)
-      → foundIn (seekFrom k room (suc m) one (record { bound = 0; place = 0; level = 0; page = t .0 })) ≡ foundIn (visitAll k room (suc m) one (leaves 0 t))
+      → answerOf (seekFrom k room (suc m) one (record { bound = 0; place = 0; level = 0; page = t .0 })) ≡ answerOf (visitAll k room (suc m) one (leaves 0 t))
   unfolding bestFirst leaves leafBranches leafBranch sort ins visit
   leaf-root k room m one t =
       let x : Branch = record { bound = 0; place = 0; level = 0; page = t .0 } in
       let y : Branch = leafBranch q d 0 t in
-      ap foundIn (seek-read ranking boundIn (rowsAt c q) before isLeaf (kids c q) k room m x [] [] (none-exceeds k 0 one) refl
+      ap answerOf (seek-read ranking boundIn (rowsAt c q) before isLeaf (kids c q) k room m x [] [] (none-exceeds k 0 one) refl
       ∙ ap (reading x) (seek-end ranking boundIn (rowsAt c q) before isLeaf (kids c q) k room m (offered ranking boundIn (rowsAt c q) k x [])))
-      ∙ sym (ap foundIn (visit-read ranking boundIn (rowsAt c q) k y [] [] (none-exceeds k (leafBound d q t) one)))
+      ∙ sym (ap answerOf (visit-read ranking boundIn (rowsAt c q) k y [] [] (none-exceeds k (leafBound d q t) one)))
 
   -- the search from the root of a tree gives what the visit of its leaves gives
   pub seek-is : (k room n : ℕ) (one : 1 ≤ k) (l : ℕ) (t : Item (suc l)) → Frame c d l t → Ordered d l t → length (leaves l t) ≤ room → 2 * length (leaves l t) ≤ n
-      → foundIn (seekFrom k room n one (record { bound = 0; place = 0; level = l; page = t .0 })) ≡ foundIn (visitAll k room n one (leaves l t))
+      → answerOf (seekFrom k room n one (record { bound = 0; place = 0; level = l; page = t .0 })) ≡ answerOf (visitAll k room n one (leaves l t))
   unfolding leaves
   seek-is k room zero one zero t f o r s = absurd (omega arith)
   seek-is k room (suc m) one zero t f o r s = leaf-root k room m one t
-  seek-is k room n one (suc l) t f o r s = ap foundIn (inner-root k room n one l t f o r s)
+  seek-is k room n one (suc l) t f o r s = ap answerOf (inner-root k room n one l t f o r s)

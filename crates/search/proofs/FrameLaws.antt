@@ -76,13 +76,13 @@ module _ (c : List ℕ) (d : ℕ) where
 
 module _ (q : List ℕ) (d : ℕ) where
   -- the branch of a page with its items, the first leaf under it at position p
-  unfoldable pub branchOf : ℕ → (l : ℕ) → Item (suc l) → Branch
-  branchOf p l t = record { bound = spanBound q (firstKey d (records (suc l) t)) (lastKey d (records (suc l) t)); place = p; level = l; page = t .0 }
+  unfoldable pub itemBranch : ℕ → (l : ℕ) → Item (suc l) → Branch
+  itemBranch p l t = record { bound = spanBound q (firstKey d (records (suc l) t)) (lastKey d (records (suc l) t)); place = p; level = l; page = t .0 }
 
-  unfoldable pub branchesOf : ℕ → (l : ℕ) → List (Item (suc l)) → List Branch
-  unfolding branchOf leaves
-  branchesOf p l [] = []
-  branchesOf p l (t ∷ ts) = branchOf p l t ∷ branchesOf (p + length (leaves l t)) l ts
+  unfoldable pub itemBranches : ℕ → (l : ℕ) → List (Item (suc l)) → List Branch
+  unfolding itemBranch leaves
+  itemBranches p l [] = []
+  itemBranches p l (t ∷ ts) = itemBranch p l t ∷ itemBranches (p + length (leaves l t)) l ts
 
   -- those of leaves, by position
   unfoldable pub leafBranch : ℕ → Item 1 → Branch
@@ -94,8 +94,8 @@ module _ (q : List ℕ) (d : ℕ) where
   leafBranches p [] = []
   leafBranches p (t ∷ ts) = leafBranch p t ∷ leafBranches (suc p) ts
 
-  pub leaf-branch : (p : ℕ) (t : Item 1) → branchOf p 0 t ≡ leafBranch p t
-  unfolding branchOf leafBranch leafBound
+  pub leaf-branch : (p : ℕ) (t : Item 1) → itemBranch p 0 t ≡ leafBranch p t
+  unfolding itemBranch leafBranch leafBound
   leaf-branch p t = rw (leaf-records t)
 
   pub leaf-append : (p : ℕ) (xs ys : List (Item 1)) → leafBranches p (xs ++ ys) ≡ leafBranches p xs ++ leafBranches (p + length xs) ys
@@ -110,25 +110,25 @@ inner B p l t = record { bound = B; place = p; level = suc l; page = t .0 }
 
 module _ (c q : List ℕ) (d : ℕ) where
   -- what an inner page gives when it is opened
-  pub kids-are : (p l : ℕ) (ts : List (Item (suc l))) → All (Frame c d l) ts → branches c q l p (map (entryOf d l) ts) ≡ branchesOf q d p l ts
-  unfolding branches branchesOf branchOf entryOf pageIn
+  pub kids-are : (p l : ℕ) (ts : List (Item (suc l))) → All (Frame c d l) ts → branches c q l p (map (entryOf d l) ts) ≡ itemBranches q d p l ts
+  unfolding branches itemBranches itemBranch entryOf pageIn
   kids-are p l [] none = refl
   kids-are p l (t ∷ ts) (also f a) = rw (frame-range c d l t f, count-leaves c d l t f, kids-are (p + length (leaves l t)) l ts a)
 
-  pub opened-is : (p l : ℕ) (t : Item (suc (suc l))) → Frame c d (suc l) t → opened c q (suc l) p (t .0) ≡ branchesOf q d p l (t .1)
+  pub opened-is : (p l : ℕ) (t : Item (suc (suc l))) → Frame c d (suc l) t → opened c q (suc l) p (t .0) ≡ itemBranches q d p l (t .1)
   unfolding opened Frame
   opened-is p l t f = ap (branches c q l p) (f .1) ∙ kids-are p l (t .1) (f .2)
 
-  under-list : (l p : ℕ) (ts : List (Item (suc l))) → ((n : ℕ) (t : Item (suc l)) → Frame c d l t → leavesUnder isLeaf (kids c q) l (branchOf q d n l t) ≡ leafBranches q d n (leaves l t))
-      → All (Frame c d l) ts → flat (leavesUnder isLeaf (kids c q) l) (branchesOf q d p l ts) ≡ leafBranches q d p (flat (leaves l) ts)
-  unfolding flat branchesOf leafBranches
+  under-list : (l p : ℕ) (ts : List (Item (suc l))) → ((n : ℕ) (t : Item (suc l)) → Frame c d l t → leavesUnder isLeaf (kids c q) l (itemBranch q d n l t) ≡ leafBranches q d n (leaves l t))
+      → All (Frame c d l) ts → flat (leavesUnder isLeaf (kids c q) l) (itemBranches q d p l ts) ≡ leafBranches q d p (flat (leaves l) ts)
+  unfolding flat itemBranches leafBranches
   under-list l p [] h none = refl
   under-list l p (t ∷ ts) h (also f a) =
       ap₂ (λ (x y : List Branch). x ++ y) (h p t f) (under-list l (p + length (leaves l t)) ts h a) ∙ sym (leaf-append q d p (leaves l t) (flat (leaves l) ts))
 
   -- the leaves under a branch
-  pub under-is : (l p : ℕ) (t : Item (suc l)) → Frame c d l t → leavesUnder isLeaf (kids c q) l (branchOf q d p l t) ≡ leafBranches q d p (leaves l t)
-  unfolding leavesUnder leaves leafBranches branchOf Frame
+  pub under-is : (l p : ℕ) (t : Item (suc l)) → Frame c d l t → leavesUnder isLeaf (kids c q) l (itemBranch q d p l t) ≡ leafBranches q d p (leaves l t)
+  unfolding leavesUnder leaves leafBranches itemBranch Frame
   under-is zero p t f = ap (λ (x : Branch). x ∷ []) (leaf-branch q d p t)
   under-is (suc l) p t f = rw (not-leaf l, opened-is p l t f) (under-list l p (t .1) (under-is l) (f .2))
 

@@ -29,7 +29,7 @@ use Rattle.pagestore.specs.Store.AgreeLaws.{AgreeBut, agree-pages, agree-range,
 use Rattle.trees.specs.Trees.{Item, pointIn, firstKey, lastKey, leaves, pages, treeOf, leavesOf}
 use Rattle.trees.specs.Sound.{SoundIndex}
 use Rattle.search.specs.Branches.{Branch, tied, before, isLeaf, spanBound, pageIn, kids, rootBranch, rowOf, rowsAt}
-use Rattle.search.specs.Visit.{ranking, Found, foundIn, visited, readsNone, found}
+use Rattle.search.specs.Visit.{ranking, Answer, answerOf, visited, readsNone, found}
 use Rattle.search.specs.Questions.{rowsFrom, rowsOf, leafBound, toRead, unreadPages, Kept, Exchanged, end, next}
 use Rattle.search.proofs.RecordLaws.{span-floor}
 use Rattle.search.proofs.FrameLaws.{Frame, Ordered, Branching, leaf-records, parts-right, frame-range, leafBranch, leafBranches}
@@ -102,7 +102,7 @@ module _ (b : List ℕ) (s : SoundIndex b) (q : List ℕ) (same : length q ≡ v
   unfolding viewOf
   like-self = record { level = refl; total = refl; root = refl; pages = refl; frame = tree-frame b s }
 
-  found-like : (c : List ℕ) → Like c → 0 < v .total → found c q k ≡ foundIn (bestFirst ranking boundIn (rowsAt c q) k tied ls)
+  found-like : (c : List ℕ) → Like c → 0 < v .total → found c q k ≡ answerOf (bestFirst ranking boundIn (rowsAt c q) k tied ls)
   unfolding found readsNone visited leavesOf pageIn
   found-like c h t =
       let z : eqb (fieldAt total c) 0 ≡ false = ne-eqb (fieldAt total c) 0 (omega (arith, h .total)) in
@@ -114,7 +114,7 @@ module _ (b : List ℕ) (s : SoundIndex b) (q : List ℕ) (same : length q ≡ v
       let enough : length (leaves (v .level) (treeOf v)) ≤ pagesIn b = tree-pages b s in
       let n : pagesIn c ≡ pagesIn b = h .pages in
       rw (z, w)
-      (ap (λ (x : Branch). foundIn (seek ranking boundIn (rowsAt c q) before isLeaf (kids c q) k 8192 (2 * pagesIn c) (x ∷ []) [])) r
+      (ap (λ (x : Branch). answerOf (seek ranking boundIn (rowsAt c q) before isLeaf (kids c q) k 8192 (2 * pagesIn c) (x ∷ []) [])) r
       ∙ seek-is c q (v .d) (s .d .0) (s .d .1) same k 8192 (2 * pagesIn c) one (v .level) (treeOf v) (h .frame) (tree-ordered b s t) (omega arith) (omega arith))
 
   -- ---- THE ROWS AND THE LEAVES
@@ -143,7 +143,7 @@ module _ (b : List ℕ) (s : SoundIndex b) (q : List ℕ) (same : length q ≡ v
   floors = row-floors b q (v .d) 0 us (tree-hold b s) leaf-floors
 
   -- what the search gives
-  abbrev pub asked : Found
+  abbrev pub asked : Answer
   asked = record { rows = nearest ranking k (rowsOf v q); leaves = count (toRead v q k) us }
 
   exact-some : 0 < v .total → found b q k ≡ asked
@@ -170,11 +170,11 @@ module _ (b : List ℕ) (s : SoundIndex b) (q : List ℕ) (same : length q ≡ v
 
   -- rows-nearest: the rows are the k nearest of the live records, by distance and then by identifier, or all if fewer live
   pub rows-nearest : (found b q k) .rows ≡ nearest ranking k (rowsOf v q)
-  rows-nearest = ap (λ (f : Found). f .rows) found-exact
+  rows-nearest = ap (λ (f : Answer). f .rows) found-exact
 
   -- leaves-exact: the count is the number of leaves in demand 3's set
   pub leaves-exact : (found b q k) .leaves ≡ count (toRead v q k) (leavesOf v)
-  leaves-exact = ap (λ (f : Found). f .leaves) found-exact
+  leaves-exact = ap (λ (f : Answer). f .leaves) found-exact
 
 -- ---- PAGES OF THE TREE
 
@@ -278,7 +278,7 @@ module _ (b : List ℕ) (s : SoundIndex b) (q : List ℕ) (same : length q ≡ v
         cases (ltb 0 (viewOf b .total))
         (λ e. let t : 0 < viewOf b .total = ltb-true 0 (viewOf b .total) e in
         found-like b s q same k one c like-rest t
-        ∙ ap foundIn (flatly.unread-anything ranking row-order boundIn tied branch-order (ls b s q same k one) (rowsAt b q) (floors b s q same k one) k one (rowsAt c q)
+        ∙ ap answerOf (flatly.unread-anything ranking row-order boundIn tied branch-order (ls b s q same k one) (rowsAt b q) (floors b s q same k one) k one (rowsAt c q)
         (rw (rows-all b s q same k one) (rows-same 0 (leavesOf (viewOf b)) unread-read (leaves-some b s q same k one t))))
         ∙ sym (found-like b s q same k one b (like-self b s q same k one) t))
         (λ e. let z : viewOf b .total ≡ 0 = omega (arith, ltb-false 0 (viewOf b .total) e) in
@@ -401,4 +401,4 @@ module _ (b c : List ℕ) (sb : SoundIndex b) (sc : SoundIndex c) (q : List ℕ)
   exchange =
       let n = count-kept (toRead (viewOf b) q k) x in
       let e : found c q k ≡ found b q k = found-exact c sc q same-c k one ∙ (λ i. record { rows = nearest-kept i; leaves = n i }) ∙ sym (found-exact b sb q same k one) in
-      (e, ap (λ (f : Found). f .rows) (sym e) ∙ rows-nearest c sc q same-c k one)
+      (e, ap (λ (f : Answer). f .rows) (sym e) ∙ rows-nearest c sc q same-c k one)

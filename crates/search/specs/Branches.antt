@@ -43,12 +43,15 @@ spanBound q f l = boundOf square (pointOf q) (f .pyramid .0) (f .height .0) (l .
 unfoldable pub pageIn : List ℕ → ℕ → ℕ
 pageIn b p = pick (inRange b p) p 0
 
--- the branches of entries whose children have level l, the first of them at position p
+-- the branch of an entry whose child has level l, its first leaf at position p
+abbrev pub branchOf : List ℕ → List ℕ → ℕ → ℕ → Entry → Branch
+branchOf b q l p e = record { bound = spanBound q (e .first) (e .last); place = p; level = l; page = pageIn b (e .child) }
+
+-- the branches of entries, one after the other
 unfoldable pub branches : List ℕ → List ℕ → ℕ → ℕ → List Entry → List Branch
 unfolding spanBound pageIn leafCount
 branches b q l p [] = []
-branches b q l p (e ∷ es) =
-    record { bound = spanBound q (e .first) (e .last); place = p; level = l; page = pageIn b (e .child) } ∷ branches b q l (p + leafCount l b (e .child)) es
+branches b q l p (e ∷ es) = branchOf b q l p e ∷ branches b q l (p + leafCount l b (e .child)) es
 
 -- the branches that page g of a level gives when it is opened, its first leaf at position p
 unfoldable pub opened : List ℕ → List ℕ → ℕ → ℕ → ℕ → List Branch

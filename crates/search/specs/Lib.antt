@@ -1,3 +1,5 @@
 pub mod Branches
 pub mod Visit
 pub mod Questions
+pub mod Keys
+pub mod Steps

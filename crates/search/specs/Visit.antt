@@ -17,13 +17,13 @@ use Rattle.search.specs.Branches.{Branch, before, isLeaf, spanBound, pag
 abbrev pub ranking : Ranking Row
 ranking = byDistance (λ x. true)
 
--- what a search gives: the rows, and the number of leaves read
-pub record Found : Type 0 where
+-- the answer to a question: the rows, and the number of leaves read
+pub record Answer : Type 0 where
   pub rows : List Row
   pub leaves : ℕ
 
-abbrev pub foundIn : Outcome Row Branch → Found
-foundIn o = record { rows = o .rows; leaves = length (o .read) }
+abbrev pub answerOf : Outcome Row Branch → Answer
+answerOf o = record { rows = o .rows; leaves = length (o .read) }
 
 -- The visit from the root on. The frontier has room for 8,192 branches, and as many steps are taken at most as twice the pages:
 -- in a sound index both are enough.
@@ -36,6 +36,6 @@ unfoldable pub readsNone : List ℕ → Bool
 readsNone b = eqb (fieldAt total b) 0 || ltb 4 (fieldAt level b)
 
 -- the k nearest of the index b to the point that is stored as q
-unfoldable pub found : List ℕ → List ℕ → ℕ → Found
+unfoldable pub found : List ℕ → List ℕ → ℕ → Answer
 unfolding visited readsNone
-found b q k = pick (readsNone b) (record { rows = []; leaves = 0 }) (foundIn (visited b q k))
+found b q k = pick (readsNone b) (record { rows = []; leaves = 0 }) (answerOf (visited b q k))
