@@ -6,3 +6,4 @@ pub mod Promises
 pub mod LeafLaws
 pub mod KeyLaws
 pub mod OpenLaws
+pub mod TurnLaws

@@ -9,7 +9,7 @@ use Rattle.lists.specs.Sorting as sorting
 use Rattle.geometry.specs.Points.{square}
 use Rattle.geometry.specs.Slices.{Nearest}
 use Rattle.geometry.specs.Stored.{pointOf}
-use Rattle.pagestore.specs.Store.{viewOf, innerAt, entriesIn}
+use Rattle.pagestore.specs.Store.{viewOf, Field, level, innerAt, entriesIn, fieldAt}
 use Rattle.pagestore.specs.Store.AgreeLaws.{AgreeBut}
 use Rattle.trees.specs.Trees.{leavesOf}
 use Rattle.trees.specs.Sound.{SoundIndex}
@@ -57,6 +57,16 @@ pub record Opened (slots : List ℕ) (n : ℕ) (index q : List ℕ) (level place
   pub heap : Heap r slots'
   pub good : All Good (held r slots')
   pub branches : frontier r slots' ≡ insAll before (branches index q level place (entriesIn (innerAt index page))) (frontier n slots)
+
+-- what a visit is lent: room for 8,192 branches and for k rows
+pub record Visits (index q heights : List ℕ) (k : ℕ) (slots distances marks : List ℕ) : Type 0 where
+  pub asked : Asked q
+  pub ready : Heights q heights
+  pub low : fieldAt level index ≤ 4
+  pub one : 1 ≤ k
+  pub room : length slots ≡ 8192
+  pub rows : k ≤ length distances
+  pub tags : k ≤ length marks
 
 -- the visit has been made: its rows are held, and its leaves counted
 pub record Visited (index q : List ℕ) (k : ℕ) (distances tags : List ℕ) (r : Seen) : Type 0 where
