@@ -7,3 +7,4 @@ pub mod LeafLaws
 pub mod KeyLaws
 pub mod OpenLaws
 pub mod TurnLaws
+pub mod AnswerLaws

@@ -3,9 +3,15 @@
 // Best first (01, "A question"): a heap holds branches, pages of every level, by bound, position of the first leaf, level
 // from the highest on, and page. The first one is taken until its bound exceeds the k-th distance: an inner page gives its
 // entries to the heap, a leaf page is handed to the one function that reads leaf pages.
-pub mod frontier;
-pub mod leaves;
-pub mod visit;
+ghost use Prim.Native.Nat.{_≤_};
+ghost use Rattle.search.specs.Steps.{Asked, Searched};
+use crate::visit::best_first;
+use crate::visit::reads_none;
+use geometry::bounds::nearest_heights;
+
+mod frontier;
+mod leaves;
+mod visit;
 
 // What is asked, apart from the point.
 pub struct Query {
@@ -24,4 +30,38 @@ pub struct Found {
     pub leaves: u32,
     pub distances: [u64; 64],
     pub tags: [u64; 64],
+}
+
+// The k nearest of the index's records to the asked point, whose coordinates are as stored, and the number of leaves read.
+pub fn search(index: &[u8], q: &[u16], query: Query) -> Found
+    requires { ⌜ Asked (now q) × (1 ≤ query .k) × (query .k ≤ 64) ⌝ }
+    ensures { λ r. ⌜ Searched (now (index .entry)) (now (q .entry)) (query .k) r ⌝ }
+{
+    let mut distances = [0u64; 64];
+    let mut tags = [0u64; 64];
+    if reads_none(index) {
+        return Found {
+            rows: 0,
+            leaves: 0,
+            distances: distances,
+            tags: tags,
+        };
+    }
+    let heights = nearest_heights(q);
+    let mut slots = [0u64; 8192];
+    let seen = best_first(
+        index,
+        q,
+        &heights,
+        query.k,
+        &mut slots,
+        &mut distances,
+        &mut tags,
+    );
+    Found {
+        rows: seen.rows,
+        leaves: seen.leaves,
+        distances: distances,
+        tags: tags,
+    }
 }

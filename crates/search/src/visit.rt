@@ -1,4 +1,4 @@
-// The visit, best first, and the search.
+// The visit, best first.
 ghost use mathlib.Core.Path.{_≡_};
 ghost use Prim.Native.Nat.{_≤_, _<_};
 ghost use lib.ListN.{length};
@@ -6,6 +6,7 @@ ghost use Rattle.pagestore.specs.Store.{level, innerAt, entriesIn, fieldAt};
 ghost use Rattle.search.specs.Branches.{rootBranch};
 ghost use Rattle.search.specs.Keys.{keyOf};
 ghost use Rattle.search.specs.Steps.{Visits, Visited};
+ghost use Rattle.search.specs.Visit.{readsNone};
 use crate::Seen;
 use crate::frontier::bound_in;
 use crate::frontier::key_of;
@@ -20,8 +21,19 @@ use candidates::exceeds;
 use heap::pop;
 use pagestore::header::root_level;
 use pagestore::header::root_page;
+use pagestore::header::total_records;
 use pagestore::pages::count_at;
 use pagestore::pages::pages;
+
+// Whether nothing is read: there are no records, or the root's level is that of no sound index.
+pub fn reads_none(index: &[u8]) -> bool
+    ensures { λ r. ⌜ r ≡ readsNone (now (index .entry)) ⌝ }
+{
+    if total_records(index) == 0 {
+        return true;
+    }
+    4 < root_level(index)
+}
 
 // The key of the root, which needs no bound.
 fn root_key(index: &[u8]) -> u64
@@ -41,7 +53,7 @@ fn entry_count(index: &[u8], page: u32) -> usize
 }
 
 // Takes branches from the root on, the first one first, until its bound exceeds the k-th distance.
-fn best_first(
+pub fn best_first(
     index: &[u8],
     q: &[u16],
     heights: &[u16],
