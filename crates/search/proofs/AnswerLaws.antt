@@ -1,18 +1,15 @@
 -- What the search returns, from what the visit leaves.
-use mathlib.Core.Path.{_≡_, refl, sym, ap, _∙_}
+use mathlib.Core.Path.{_≡_, sym, _∙_}
 use mathlib.Core.Bool.{Bool, true, false, _||_}
 use mathlib.Core.List.{List, []}
-use Prim.Native.Nat.{ℕ, _≤_, _<_}
+use Prim.Native.Nat.{ℕ, _≤_}
 use native.Mathlib.Omega.{arith}
-use lib.ListN.{length}
 use lib.Dec.{eqb, ltb}
 use borrow.Author.Tests.{eq-eqb, ne-eqb, ltb-false}
-use Rattle.pagestore.specs.Store.{Field, total, level, viewOf, fieldAt}
-use Rattle.candidates.specs.Held.{rowsIn}
-use Rattle.search.specs.declared.Seen.{Seen}
+use Rattle.pagestore.specs.Store.{total, level, fieldAt}
 use Rattle.search.specs.declared.Found.{Found}
-use Rattle.search.specs.Visit.{Answer, answerOf, visited, readsNone, found}
-use Rattle.search.specs.Steps.{Asked, Heights, Visits, Visited, answerIn, Searched}
+use Rattle.search.specs.Visit.{answerOf, visited, readsNone, found}
+use Rattle.search.specs.Steps.{answerIn, Searched}
 use Rattle.search.proofs.Promises.{found-exact, unread-bytes}
 
 pub none-total : (b : List ℕ) (n : ℕ) → n ≡ fieldAt total b → n ≡ 0 → true ≡ readsNone b

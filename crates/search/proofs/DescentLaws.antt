@@ -1,27 +1,26 @@
 -- The search from the root gives what the visit of all leaves by (bound, position) gives.
 use mathlib.Core.Path.{_≡_, refl, sym, ap, _∙_}
-use mathlib.Core.Bool.{Bool, true, false, _&&_}
-use mathlib.Core.List.{List, [], _∷_, _++_, map}
+use mathlib.Core.Bool.{Bool, false}
+use mathlib.Core.List.{List, [], _∷_}
 use Prim.Native.Nat.{ℕ, zero, suc, _+_, _*_, _-_, _≤_, _<_}
 use native.Mathlib.Omega.{arith}
-use native.Mathlib.Nat.{le-refl, le-trans, le-of-eq}
-use lib.ListN.{length, length-map}
-use lib.Dec.{ltb, leb, eqb}
+use native.Mathlib.Nat.{le-refl}
+use lib.ListN.{length}
 use borrow.Author.Tests.{lt-ltb, le-ltb, lt-leb}
-use Rattle.lists.specs.Basics.{pick, All, none, also, all-map}
-use Rattle.lists.specs.Tests.{three, false-true, from-one}
-use Rattle.lists.specs.Sorting.{keep, Order, sort, ins, insAll, offerAll}
+use Rattle.lists.specs.Basics.{All, none, also}
+use Rattle.lists.specs.Tests.{three, false-true}
+use Rattle.lists.specs.Sorting.{Order, sort, ins}
 use Rattle.lists.specs.Orders.{by, byHigher, lower, higher, by-lower, by-equal, by-higher, by-weak, by-same, byHigher-weak, byHigher-same, lower-weak, lower-same, lex-last, weak-order}
-use Rattle.bestfirst.specs.Nearest.{Outcome, reading, exceeds, kth, offered, visit, bestFirst}
+use Rattle.bestfirst.specs.Nearest.{Outcome, reading, exceeds, offered, visit, bestFirst}
 use Rattle.bestfirst.specs.Frontier.{leavesUnder, Descends, seek}
 use Rattle.bestfirst.specs.FrontierLaws.{seek-end, seek-read, seek-root}
 use Rattle.bestfirst.specs.VisitLaws.{visit-read}
 use Rattle.candidates.specs.declared.Row.{Row}
 use Rattle.trees.specs.Trees.{Item, leaves}
 use Rattle.search.specs.Branches.{Branch, tied, before, isLeaf, opened, kids, rowsAt}
-use Rattle.search.specs.Visit.{ranking, Answer, answerOf}
+use Rattle.search.specs.Visit.{ranking, answerOf}
 use Rattle.search.specs.Questions.{leafBound}
-use Rattle.search.proofs.FrameLaws.{Frame, Branching, not-leaf, inner, itemBranch, itemBranches, leafBranch, leafBranches, opened-is, under-inner, under-is, Ordered, ordered-kids, leaves-floor}
+use Rattle.search.proofs.FrameLaws.{Frame, Branching, inner, itemBranch, itemBranches, leafBranch, leafBranches, opened-is, under-inner, Ordered, ordered-kids, leaves-floor}
 
 abbrev boundOf : Branch → ℕ
 boundOf x = x .bound

@@ -1,26 +1,23 @@
 -- The leaves that the search can come to, where the inner pages hold a tree. Nothing is assumed of what its leaf pages hold.
 use mathlib.Core.Path.{_≡_, refl, sym, ap, ap₂, _∙_}
-use mathlib.Core.Bool.{Bool, true, false}
-use mathlib.Core.List.{List, [], _∷_, _++_, map, append-assoc}
-use Prim.Native.Nat.{ℕ, zero, suc, _+_, _*_, _-_, _≤_, _<_}
+use mathlib.Core.Bool.{true, false}
+use mathlib.Core.List.{List, [], _∷_, _++_, map}
+use Prim.Native.Nat.{ℕ, zero, suc, _+_, _-_, _≤_, _<_}
 use native.Mathlib.Omega.{arith}
-use native.Mathlib.Nat.{le-refl, le-trans, le-of-eq}
+use native.Mathlib.Nat.{le-refl, le-trans}
 use lib.Dec.{eqb}
-use borrow.Author.Tests.{ne-eqb, lt-ltb, le-ltb}
-use lib.ListN.{length, length-append, length-map}
-use Rattle.lists.specs.Basics.{pick, All, none, also, all-head, all-tail, all-map, all-append, all-left, all-right, flat}
-use Rattle.lists.specs.Tests.{three}
+use borrow.Author.Tests.{ne-eqb}
+use lib.ListN.{length, length-append}
+use Rattle.lists.specs.Basics.{All, none, also, all-map, all-left, all-right, flat}
 use Rattle.lists.specs.Sorting.{sum}
 use Rattle.lists.specs.FlatLaws.{all-flat, map-append, all-both}
-use Rattle.lists.specs.Orders.{by, byHigher, lower, higher, by-lower, by-equal, by-higher, lex-last}
-use Rattle.lists.specs.Ascending.{headOr, lastOr, Ascending, asc-left, asc-right}
-use Rattle.bestfirst.specs.Frontier.{leavesUnder, Descends}
+use Rattle.lists.specs.Ascending.{Ascending, asc-left, asc-right}
+use Rattle.bestfirst.specs.Frontier.{leavesUnder}
 use Rattle.pagestore.specs.declared.Record.{Record}
-use Rattle.pagestore.specs.declared.Entry.{Entry}
 use Rattle.pagestore.specs.Store.{inRange, innerAt, entriesIn}
 use Rattle.trees.specs.Trees.{Item, noRecord, rankOf, firstKey, lastKey, records, leaves, entryOf}
 use Rattle.tree.specs.Lookup.{leafCount}
-use Rattle.search.specs.Branches.{Branch, tied, before, isLeaf, spanBound, pageIn, branches, opened, kids}
+use Rattle.search.specs.Branches.{Branch, isLeaf, spanBound, pageIn, branches, opened, kids}
 use Rattle.search.specs.Questions.{leafBound}
 use Rattle.search.proofs.RecordLaws.{Right, from-first, to-last, span-part}
 

@@ -1,15 +1,14 @@
 -- The steps of counting leaves and of offering a leaf's records.
 use mathlib.Core.Path.{_≡_, refl, sym, ap, _∙_}
-use mathlib.Core.Bool.{Bool, true, false}
+use mathlib.Core.Bool.{true, false}
 use mathlib.Core.List.{List, [], _∷_, map}
 use lib.IntN.{ℤ}
 use Prim.Native.Nat.{ℕ, zero, suc, _+_, _*_, _-_, _^_, _≤_, _<_, min}
 use native.Mathlib.Omega.{arith}
-use native.Mathlib.Nat.{le-refl, le-trans, mul-le-mul, suc-mul, pow-succ', pow-le-pow-right}
+use native.Mathlib.Nat.{le-refl, mul-le-mul, suc-mul, pow-succ', pow-le-pow-right}
 use native.Mathlib.Numerals.{add-one}
-use lib.ListN.{length, take, drop, getD, length-take, length-drop, length-map}
+use lib.ListN.{length, take, drop, getD, length-take}
 use lib.Seq.{drop-cons, getD-take}
-use Rattle.lists.specs.Basics.{All, none, also}
 use Rattle.lists.specs.Tests.{cases}
 use Rattle.lists.specs.Sorting.{sum}
 use Rattle.lists.specs.Sorting as sorting
@@ -28,7 +27,7 @@ use Rattle.trees.specs.Trees.{pointIn}
 use Rattle.tree.specs.Lookup.{leafCount}
 use Rattle.candidates.specs.declared.Row.{Row}
 use Rattle.candidates.specs.Rows.{rowOrder}
-use Rattle.candidates.specs.Held.{rowsIn, Held, Offered}
+use Rattle.candidates.specs.Held.{Held}
 use Rattle.pagestore.specs.Store.RangeLaws.{range-fits}
 use Rattle.pagestore.specs.Store.StretchLaws.{stretch-out, leaf-opens}
 use Rattle.search.specs.Branches.{pageIn, rowOf}

@@ -8,3 +8,4 @@ pub mod KeyLaws
 pub mod OpenLaws
 pub mod TurnLaws
 pub mod AnswerLaws
+pub mod ExampleLaws

@@ -1,7 +1,7 @@
 -- The steps of opening an inner page.
 use mathlib.Core.Path.{_≡_, refl, sym, ap, _∙_}
-use mathlib.Core.List.{List, [], _∷_, map}
-use Prim.Native.Nat.{ℕ, zero, suc, _+_, _*_, _-_, _^_, _≤_, _<_, min}
+use mathlib.Core.List.{List, [], _∷_}
+use Prim.Native.Nat.{ℕ, suc, _+_, _*_, _-_, _^_, _≤_, _<_, min}
 use native.Mathlib.Omega.{arith}
 use native.Mathlib.Nat.{le-refl, mul-le-mul, suc-mul, pow-succ', one-le-pow}
 use native.Mathlib.Numerals.{add-one}
@@ -20,10 +20,9 @@ use Rattle.geometry.proofs.BoundLaws.{bound-small}
 use Rattle.pagestore.specs.declared.Entry.{Entry}
 use Rattle.pagestore.specs.declared.Inner.{Inner}
 use Rattle.pagestore.specs.Store.{innerAt, entriesIn}
-use Rattle.pagestore.specs.Store.PageLaws.{entries-slots}
 use Rattle.tree.specs.Lookup.{leafCount}
 use Rattle.heap.specs.Heap.{Heap, held, Pushed}
-use Rattle.search.specs.Branches.{Branch, before, spanBound, pageIn, branchOf, branches}
+use Rattle.search.specs.Branches.{Branch, before, spanBound, branchOf, branches}
 use Rattle.search.specs.Keys.{keyOf, branchIn, Good, frontier}
 use Rattle.search.specs.Steps.{Asked, Heights, Opens, Opened}
 use Rattle.search.proofs.RecordLaws.{in-range}

@@ -1,40 +1,41 @@
 -- What is promised of the search on a sound index, in the words of demands 2 and 3.
 use mathlib.Core.Path.{_≡_, refl, sym, ap, ap₂, subst, _∙_}
-use mathlib.Core.Bool.{Bool, true, false, not, _&&_, _||_}
+use mathlib.Core.Bool.{Bool, true, false, not}
 use mathlib.Core.List.{List, [], _∷_, _++_, map}
 use Prim.Native.Nat.{ℕ, zero, suc, _+_, _*_, _≤_, _<_}
 use native.Mathlib.Omega.{arith}
-use lib.ListN.{length, take, getD}
-use lib.Dec.{ltb, leb, eqb}
-use borrow.Author.Tests.{ltb-true, ltb-false, lt-ltb, le-ltb, eq-eqb, ne-eqb}
-use Rattle.lists.specs.Basics.{pick, All, none, also, all-map, flat, upFrom}
+use lib.ListN.{length, getD}
+use lib.Dec.{ltb, eqb}
+use borrow.Author.Tests.{eqb-true, eqb-false, eq-eqb, ltb-true, ltb-false, lt-ltb, le-ltb, ne-eqb}
+use Rattle.lists.specs.Basics.{All, none, also, all-map, flat, upFrom}
 use Rattle.lists.specs.Tests.{cases, false-true}
 use Rattle.lists.specs.Sorting.{keep, count, sort, Order}
 use Rattle.lists.specs.Orders.{by, lower, by-weak, by-same, lower-weak, lower-same, weak-order}
-use Rattle.lists.specs.SortingLaws.{keep-first, keep-past}
+use Rattle.lists.specs.SortingLaws.{keep-first, keep-past, count-append}
 use Rattle.lists.specs.FlatLaws.{all-both, all-every, all-mapped, map-append}
 use Rattle.lists.specs.Counts.{mult, mult-self, mult-more, mult-append, all-of-mult}
 use Rattle.geometry.specs.Points.{distance}
 use Rattle.geometry.specs.Stored.{pointOf}
-use Rattle.bestfirst.specs.Nearest.{Outcome, nearest, candidates, kth, inSet, Floor, bestFirst}
+use Rattle.bestfirst.specs.Nearest.{Outcome, nearest, candidates, inSet, Floor, bestFirst}
 use Rattle.bestfirst.specs.Frontier.{seek}
 use Rattle.bestfirst.specs.Promises as flatly
 use Rattle.candidates.specs.declared.Row.{Row}
-use Rattle.candidates.specs.RowLaws.{row-order}
+use Rattle.bestfirst.specs.Marks.{Strict}
+use Rattle.candidates.specs.RowLaws.{row-order, ofId, past, Distinct, candidates-strict}
 use Rattle.pagestore.specs.declared.Record.{Record}
 use Rattle.pagestore.specs.declared.Leaf.{Leaf}
-use Rattle.pagestore.specs.Store.{Field, level, total, root, View, viewOf, inRange, pagesIn, leafAt, innerAt, recordsIn, entriesIn, fieldAt}
+use Rattle.pagestore.specs.Store.{level, total, root, View, viewOf, inRange, pagesIn, leafAt, recordsIn, entriesIn, fieldAt}
 use Rattle.pagestore.specs.Store.PageLaws.{SamePage}
 use Rattle.pagestore.specs.Store.AgreeLaws.{AgreeBut, agree-pages, agree-range, agree-page, agree-field}
-use Rattle.trees.specs.Trees.{Item, pointIn, firstKey, lastKey, leaves, pages, treeOf, leavesOf}
+use Rattle.trees.specs.Trees.{Item, pointIn, leaves, pages, treeOf, leavesOf, identOf, live}
 use Rattle.trees.specs.Sound.{SoundIndex}
-use Rattle.search.specs.Branches.{Branch, tied, before, isLeaf, spanBound, pageIn, kids, rootBranch, rowOf, rowsAt}
+use Rattle.search.specs.Branches.{Branch, tied, before, isLeaf, pageIn, kids, rootBranch, rowOf, rowsAt}
 use Rattle.search.specs.Visit.{ranking, Answer, answerOf, visited, readsNone, found}
 use Rattle.search.specs.Questions.{rowsFrom, rowsOf, leafBound, toRead, unreadPages, Kept, Exchanged, end, next}
 use Rattle.search.proofs.RecordLaws.{span-floor}
 use Rattle.search.proofs.FrameLaws.{Frame, Ordered, Branching, leaf-records, parts-right, frame-range, leafBranch, leafBranches}
 use Rattle.search.proofs.DescentLaws.{branch-order, seek-is}
-use Rattle.search.proofs.SoundLaws.{tree-frame, tree-header, tree-hold, tree-level, tree-leaves, tree-pages, tree-ordered, tree-root, tree-once, none-held, leaves-ordered}
+use Rattle.search.proofs.SoundLaws.{leafItems, records-leaves, tree-frame, tree-header, tree-hold, tree-level, tree-leaves, tree-pages, tree-ordered, tree-root, tree-once, none-held, leaves-ordered}
 
 abbrev boundIn : Branch → ℕ
 boundIn x = x .bound
@@ -402,3 +403,31 @@ module _ (b c : List ℕ) (sb : SoundIndex b) (sc : SoundIndex c) (q : List ℕ)
       let n = count-kept (toRead (viewOf b) q k) x in
       let e : found c q k ≡ found b q k = found-exact c sc q same-c k one ∙ (λ i. record { rows = nearest-kept i; leaves = n i }) ∙ sym (found-exact b sb q same k one) in
       (e, ap (λ (f : Answer). f .rows) (sym e) ∙ rows-nearest c sc q same-c k one)
+
+-- ---- THE ORDER OF THE ROWS
+
+-- rows of identifier n
+count-idents : (n : ℕ) (q : List ℕ) (p : ℕ) (rs : List Record) → count (ofId n) (map (rowOf q p) rs) ≡ mult n (map identOf rs)
+unfolding count mult rowOf
+count-idents n q p [] = refl
+count-idents n q p (r ∷ rs) = let h = count-idents n q p rs in cases (eqb (r .id) n)
+    (λ e. let f : eqb n (r .id) ≡ true = eq-eqb n (r .id) (sym (eqb-true (r .id) n e)) in rw (e, f) (omega arith))
+    (λ e. let f : eqb n (r .id) ≡ false = ne-eqb n (r .id) (λ w. eqb-false (r .id) n e (sym w)) in rw (e, f) (omega arith))
+
+count-rows : (n : ℕ) (q : List ℕ) (p : ℕ) (us : List (Item 1)) → count (ofId n) (rowsFrom q p us) ≡ mult n (map identOf (flat leafItems us))
+unfolding rowsFrom flat count mult
+count-rows n q p [] = refl
+count-rows n q p (u ∷ us) =
+    let h = count-rows n q (suc p) us in let g = count-idents n q p (u .1) in
+    rw (count-append (ofId n) (map (rowOf q p) (u .1)) (rowsFrom q (suc p) us), map-append identOf (u .1) (flat leafItems us), mult-append n (map identOf (u .1)) (map identOf (flat leafItems us))) (omega arith)
+
+-- identifiers are distinct, so the rows go by distance and then by identifier: position never decides
+pub rows-distinct : (b : List ℕ) → SoundIndex b → (q : List ℕ) → Distinct (rowsOf (viewOf b) q)
+unfolding rowsOf leavesOf live
+rows-distinct b s q n =
+    let e = count-rows n q 0 (leavesOf (viewOf b)) in
+    let f = ap (λ (rs : List Record). mult n (map identOf rs)) (records-leaves (viewOf b .level) (treeOf (viewOf b))) in
+    let d = s .distinct n in omega arith
+
+pub rows-by-identifier : (b : List ℕ) → SoundIndex b → (q : List ℕ) → Strict past (candidates ranking (rowsOf (viewOf b) q))
+rows-by-identifier b s q = candidates-strict (λ x. true) (rowsOf (viewOf b) q) (rows-distinct b s q)

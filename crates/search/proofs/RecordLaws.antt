@@ -1,21 +1,19 @@
 -- Records in key order: their pairs are real and in the order of their keys, so that spans of parts have no smaller bounds.
-use mathlib.Core.Path.{_≡_, refl, sym, ap, _∙_}
-use mathlib.Core.Bool.{Bool, true, false}
+use mathlib.Core.Path.{_≡_, refl, sym, _∙_}
 use mathlib.Core.Logic.{inl, inr}
-use mathlib.Core.List.{List, [], _∷_, _++_, map}
-use lib.IntN.{ℤ, natAbs}
-use Prim.Native.Nat.{ℕ, zero, suc, _+_, _*_, _-_, _≤_, _<_}
+use mathlib.Core.List.{List, [], _∷_, map}
+use Prim.Native.Nat.{ℕ, _-_, _≤_, _<_}
 use native.Mathlib.Omega.{arith}
-use native.Mathlib.Nat.{le-refl, le-trans, le-of-eq}
-use lib.ListN.{length, take, drop}
+use native.Mathlib.Nat.{le-refl, le-trans}
+use lib.ListN.{length, take}
 use lib.Seq.{length-take-le}
-use Rattle.lists.specs.Basics.{All, none, also, all-head, all-tail, all-map, flat}
+use Rattle.lists.specs.Basics.{All, none, also, all-head, all-map}
 use Rattle.lists.specs.Tests.{three}
 use Rattle.lists.specs.Ascending.{headOr, lastOr, Ascending}
 use Rattle.lists.specs.Ascending as asc
 use Rattle.geometry.specs.Points.{InRange, heightOf, pyramidOf, PairLe, distBy, square}
 use Rattle.geometry.specs.Slices.{Real, boundOf}
-use Rattle.geometry.specs.Stored.{coordOf, pointOf}
+use Rattle.geometry.specs.Stored.{pointOf}
 use Rattle.geometry.specs.Keys.{keyNumber}
 use Rattle.geometry.proofs.StoredLaws.{coord-magnitude, length-point}
 use Rattle.geometry.proofs.ConvexLaws.{square-cost}

@@ -1,30 +1,26 @@
 -- What the search uses of a sound index: its inner pages hold its tree, records are in order and in range, and 4 levels, 8,192 branches and
 -- twice as many steps as pages are enough.
 use mathlib.Core.Path.{_≡_, refl, sym, ap, ap₂, _∙_}
-use mathlib.Core.Bool.{Bool, true, false, _&&_, _||_}
+use mathlib.Core.Bool.{Bool, true, false}
 use mathlib.Core.List.{List, [], _∷_, _++_, map, append-nil}
 use Prim.Native.Nat.{ℕ, zero, suc, _+_, _*_, _-_, _^_, _≤_, _<_}
 use native.Mathlib.Omega.{arith}
-use native.Mathlib.Nat.{le-refl, le-trans, le-of-eq, mul-le-mul, suc-mul, pow-le-pow-right, pow-succ'}
+use native.Mathlib.Nat.{le-refl, le-trans, mul-le-mul, suc-mul, pow-le-pow-right, pow-succ'}
 use lib.ListN.{length, length-append}
-use lib.Dec.{ltb, leb, eqb}
-use borrow.Author.Tests.{ltb-true, ltb-false, lt-ltb, le-ltb, eq-eqb, ne-eqb}
-use Rattle.lists.specs.Basics.{pick, tick, All, none, also, all-head, all-tail, all-map, all-append, flat, flat-append}
+use lib.Dec.{ltb}
+use borrow.Author.Tests.{ltb-true, ltb-false}
+use Rattle.lists.specs.Basics.{tick, All, none, also, all-head, all-tail, all-map, flat, flat-append}
 use Rattle.lists.specs.Tests.{cases}
 use Rattle.lists.specs.FlatLaws.{all-flat, all-both, all-every}
 use Rattle.lists.specs.Counts.{mult, mult-append, all-of-mult, pigeons}
-use Rattle.lists.specs.Ascending.{Ascending}
 use Rattle.pagestore.specs.declared.Record.{Record}
 use Rattle.pagestore.specs.Fits.{RecordFits}
-use Rattle.pagestore.specs.Store.{Field, level, root, total, View, viewOf, inRange, pagesIn, pageAt, leafAt, innerAt, recordsIn, entriesIn, fieldAt}
+use Rattle.pagestore.specs.Store.{level, root, total, View, viewOf, inRange, pagesIn, leafAt, recordsIn}
 use Rattle.pagestore.specs.Store.PageLaws.{leaf-view, inner-view, records-fit}
 use Rattle.pagestore.specs.Store.RangeLaws.{range-high}
-use Rattle.trees.specs.Trees.{Item, rankOf, records, pages, leaves, entryOf, node, Rep, treeAt, treeOf, live, leavesOf}
-use Rattle.trees.specs.Sound.{isPage, freshPages, RootFilled, Filled, RecordOk, Sound, SoundIndex}
-use Rattle.search.specs.Branches.{Branch, pageIn, rootBranch}
-use Rattle.search.specs.Visit.{readsNone}
-use Rattle.search.proofs.RecordLaws.{Right}
-use Rattle.search.proofs.FrameLaws.{Frame, Branching, Ordered, ordered-kids, flat-records, leaf-records, parts-right, parts-up}
+use Rattle.trees.specs.Trees.{Item, records, pages, leaves, entryOf, node, Rep, treeAt, treeOf, live, leavesOf}
+use Rattle.trees.specs.Sound.{isPage, freshPages, RootFilled, Filled, SoundIndex}
+use Rattle.search.proofs.FrameLaws.{Frame, Branching, Ordered, ordered-kids, flat-records, leaf-records, parts-right}
 
 -- ---- A TREE AND ITS LEAVES
 

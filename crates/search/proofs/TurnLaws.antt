@@ -2,12 +2,11 @@
 use mathlib.Core.Path.{_≡_, refl, sym, ap, _∙_}
 use mathlib.Core.Bool.{Bool, true, false}
 use mathlib.Core.List.{List, [], _∷_, map}
-use Prim.Native.Nat.{ℕ, zero, suc, _+_, _*_, _-_, _/_, _%_, _^_, _≤_, _<_, min}
+use Prim.Native.Nat.{ℕ, zero, suc, _+_, _*_, _-_, _^_, _≤_, _<_, min}
 use native.Mathlib.Omega.{arith}
 use native.Mathlib.Nat.{pow-le-pow-right, zero-add}
-use native.Mathlib.Numerals.{add-one}
-use lib.ListN.{length, take, drop, getD, set, length-set, length-take, length-map}
-use lib.Dec.{eqb, ltb, leb}
+use lib.ListN.{length, take, set, length-set, length-take, length-map}
+use lib.Dec.{ltb}
 use borrow.Author.Tests.{eq-eqb, ne-eqb}
 use Rattle.lists.specs.Basics.{All, none, also, all-head, all-tail}
 use Rattle.lists.specs.FlatLaws.{all-every}
@@ -15,18 +14,17 @@ use Rattle.lists.specs.Sorting.{keep, ins, sort, insAll, offerAll}
 use Rattle.lists.specs.Sorting as sorting
 use Rattle.lists.specs.SortingLaws.{keep-all, length-sort}
 use Rattle.pagestore.specs.declared.Entry.{Entry}
-use Rattle.pagestore.specs.Store.{Field, level, root, pagesIn, countAt, innerAt, entriesIn, leafAt, recordsIn, fieldAt}
+use Rattle.pagestore.specs.Store.{level, root, pagesIn, countAt, innerAt, entriesIn, leafAt, recordsIn, fieldAt}
 use Rattle.pagestore.specs.Store.PageLaws.{inner-counts, entries-slots}
 use Rattle.pagestore.specs.Store.RangeLaws.{pages-few}
 use Rattle.tree.specs.Lookup.{leafCount}
-use Rattle.heap.specs.Heap.{Heap, Child, held, Popped}
-use Rattle.bestfirst.specs.Nearest.{Outcome, reading, exceeds, offered}
+use Rattle.heap.specs.Heap.{Heap, held, Popped}
+use Rattle.bestfirst.specs.Nearest.{Outcome, exceeds, offered}
 use Rattle.bestfirst.specs.Frontier.{seek}
 use Rattle.bestfirst.specs.FrontierLaws.{seek-end, seek-stop, seek-read, seek-open, seek-full}
 use Rattle.candidates.specs.declared.Row.{Row}
 use Rattle.candidates.specs.Rows.{rowOrder}
 use Rattle.candidates.specs.Held.{rowsIn, Held, Stops}
-use Rattle.search.specs.declared.Seen.{Seen}
 use Rattle.search.specs.Branches.{Branch, before, isLeaf, branches, opened, kids, rootBranch, rowOf, rowsAt, pageIn}
 use Rattle.search.specs.Keys.{keyOf, boundIn, placeIn, levelIn, numberIn, branchIn, Good, frontier}
 use Rattle.search.specs.Visit.{ranking, Answer, answerOf, visited}

@@ -13,7 +13,7 @@ use Rattle.geometry.specs.Slices.{boundOf}
 use Rattle.geometry.specs.Stored.{pointOf}
 use Rattle.pagestore.specs.declared.Record.{Record}
 use Rattle.pagestore.specs.declared.Entry.{Entry}
-use Rattle.pagestore.specs.Store.{Field, root, level, inRange, leafAt, innerAt, recordsIn, entriesIn, fieldAt}
+use Rattle.pagestore.specs.Store.{root, level, inRange, leafAt, innerAt, recordsIn, entriesIn, fieldAt}
 use Rattle.trees.specs.Trees.{pointIn}
 use Rattle.tree.specs.Lookup.{leafCount}
 use Rattle.candidates.specs.declared.Row.{Row}

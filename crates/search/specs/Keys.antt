@@ -1,8 +1,6 @@
 -- A branch as one number, as the frontier's heap holds it.
-use mathlib.Core.Path.{_≡_}
 use mathlib.Core.List.{List, map}
 use Prim.Native.Nat.{ℕ, _+_, _*_, _-_, _/_, _%_, _^_, _≤_}
-use Rattle.lists.specs.Basics.{All}
 use Rattle.heap.specs.Heap.{held}
 use Rattle.search.specs.Branches.{Branch}
 

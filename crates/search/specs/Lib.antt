@@ -3,3 +3,4 @@ pub mod Visit
 pub mod Questions
 pub mod Keys
 pub mod Steps
+pub mod Examples

@@ -1,7 +1,7 @@
 -- What the parts of the search do.
 use mathlib.Core.Path.{_≡_}
 use mathlib.Core.List.{List}
-use Prim.Native.Nat.{ℕ, _+_, _*_, _^_, _≤_, _<_}
+use Prim.Native.Nat.{ℕ, _+_, _^_, _≤_}
 use lib.ListN.{length}
 use Rattle.lists.specs.Basics.{All}
 use Rattle.lists.specs.Sorting.{insAll, count}
@@ -9,7 +9,7 @@ use Rattle.lists.specs.Sorting as sorting
 use Rattle.geometry.specs.Points.{square}
 use Rattle.geometry.specs.Slices.{Nearest}
 use Rattle.geometry.specs.Stored.{pointOf}
-use Rattle.pagestore.specs.Store.{viewOf, Field, level, innerAt, entriesIn, fieldAt}
+use Rattle.pagestore.specs.Store.{viewOf, level, innerAt, entriesIn, fieldAt}
 use Rattle.pagestore.specs.Store.AgreeLaws.{AgreeBut}
 use Rattle.trees.specs.Trees.{leavesOf}
 use Rattle.trees.specs.Sound.{SoundIndex}
@@ -20,7 +20,7 @@ use Rattle.candidates.specs.Rows.{rowOrder}
 use Rattle.candidates.specs.Held.{rowsIn, Held}
 use Rattle.search.specs.declared.Found.{Found}
 use Rattle.search.specs.declared.Seen.{Seen}
-use Rattle.search.specs.Branches.{Branch, before, branches}
+use Rattle.search.specs.Branches.{before, branches}
 use Rattle.search.specs.Keys.{Good, frontier}
 use Rattle.search.specs.Visit.{ranking, Answer, answerOf, visited, found}
 use Rattle.search.specs.Questions.{rowsOf, toRead, unreadPages}

@@ -6,7 +6,7 @@ use lib.Dec.{eqb, ltb}
 use lib.ListN.{length}
 use Rattle.lists.specs.Basics.{pick}
 use Rattle.lists.specs.Sorting.{keep, insAll, offerAll}
-use Rattle.pagestore.specs.Store.{Field, level, total, pagesIn, fieldAt}
+use Rattle.pagestore.specs.Store.{level, total, pagesIn, fieldAt}
 use Rattle.bestfirst.specs.Nearest.{Ranking, Outcome, exceeds}
 use Rattle.bestfirst.specs.Frontier.{seek}
 use Rattle.candidates.specs.declared.Row.{Row}

@@ -1,8 +1,6 @@
 // The frontier: keys of branches in a heap.
 ghost use mathlib.Core.Path.{_≡_};
-ghost use Prim.Native.Nat.{_+_, _*_, _/_, _%_, _^_, _<_, _≤_};
-ghost use lib.ListN.{length};
-ghost use Rattle.heap.specs.Heap.{Heap};
+ghost use Prim.Native.Nat.{_/_, _%_, _<_, _≤_};
 ghost use Rattle.search.specs.Branches.{spanBound, pageIn, branchOf};
 ghost use Rattle.search.specs.Keys.{boundIn, placeIn, levelIn, numberIn, keyOf};
 ghost use Rattle.search.specs.Steps.{Asked, Heights, Opens, Opened};

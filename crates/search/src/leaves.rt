@@ -1,7 +1,7 @@
 // Leaves: how many are under a page, and the one function that reads leaf pages.
 ghost use mathlib.Core.Path.{_≡_};
 ghost use mathlib.Core.List.{map};
-ghost use Prim.Native.Nat.{_+_, _*_, _^_, _<_, _≤_, min};
+ghost use Prim.Native.Nat.{_^_, _≤_, min};
 ghost use lib.ListN.{length};
 ghost use Rattle.pagestore.specs.Store.{leafAt, recordsIn};
 ghost use Rattle.pagestore.specs.Layout.{leafOf};

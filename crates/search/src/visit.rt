@@ -1,6 +1,6 @@
 // The visit, best first.
 ghost use mathlib.Core.Path.{_≡_};
-ghost use Prim.Native.Nat.{_≤_, _<_};
+ghost use Prim.Native.Nat.{_≤_};
 ghost use lib.ListN.{length};
 ghost use Rattle.pagestore.specs.Store.{level, innerAt, entriesIn, fieldAt};
 ghost use Rattle.search.specs.Branches.{rootBranch};

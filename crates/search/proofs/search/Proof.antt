@@ -1,8 +1,6 @@
-use Prim.Native.Nat.{_≤_}
-use mathlib.Core.Path.{_≡_, refl, sym, _∙_}
+use mathlib.Core.Path.{refl, sym, _∙_}
 use native.Mathlib.Omega.{arith}
 use denote.Ref.{now}
-use lib.ListN.{length}
 use Rattle.pagestore.proofs.CodeLaws.{unmapped}
 use Rattle.search.proofs.AnswerLaws.{level-low, answer-none, answer-some, searched}
 use borrow.Author.Needs.{needs}

@@ -1,11 +1,7 @@
-use Prim.Native.Nat.{_+_, _-_, _≤_, _<_}
-use mathlib.Core.Path.{_≡_, _∙_}
+use Prim.Native.Nat.{_-_}
 use native.Mathlib.Omega.{arith}
-use denote.Ref.{now}
 use borrow.Author.Needs.{needs}
-use lib.ListN.{length}
 use Rattle.search.proofs.OpenLaws.{Opening, opening-start, opening-place, opening-places, opening-next, opening-end}
-use Rattle.search.proofs.LeafLaws.{count-most}
 use Rattle.search.proofs.frontier.open_page.Statement.{statement}
 use Rattle.search.proofs.frontier.open_page.Tie as tie
 use Rattle.search.proofs.frontier.open_page.Reads as reads
