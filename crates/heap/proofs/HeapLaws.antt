@@ -1,25 +1,25 @@
 -- Laws of a heap: a step down or up, the least at the top, what push and pop do to what is held.
 use Prim.Native.Nat.{ℕ, zero, suc, _+_, _*_, _-_, _/_, _≤_, _<_}
-use mathlib.Core.Bool.{Bool, true, false}
+use mathlib.Core.Bool.{false}
 use mathlib.Core.Path.{_≡_, refl, sym, ap, _∙_}
 use mathlib.Core.Logic.{_≢_}
-use mathlib.Core.List.{List, [], _∷_, _++_}
+use mathlib.Core.List.{List, [], _∷_}
 use native.Mathlib.Omega.{arith}
 use native.Mathlib.Numerals.{add-one}
 use lib.ListN.{length, take, drop, getD, set, length-set, length-take}
 use lib.Seq.{take-suc-set, getD-set-same, getD-set-other, getD-take, lt-length-set, set-set, take-set-lt, drop-set-lt, length-take-le}
-use lib.Dec.{ltb, eqb}
-use borrow.Author.Tests.{le-ltb, eqb-true, eqb-false}
+use lib.Dec.{ltb}
+use borrow.Author.Tests.{le-ltb}
 use Rattle.lists.specs.Basics.{All}
-use Rattle.lists.specs.Tests.{cases}
+use Rattle.lists.specs.Tests.{decide}
 use Rattle.lists.specs.Places.{all-places}
 use Rattle.lists.specs.Sorting.{sort, ins}
 use Rattle.lists.specs.SortingLaws.{ltb-order, ins-first, all-sort, sort-snoc, sort-take, sort-set, sort-swap}
 use Rattle.heap.specs.Heap.{Child, Heap, held, Pushed, Popped}
 use Rattle.heap.specs.Sifting.{Sinking, Rising, LowerChild, Down, Up, Sifted}
 
-decide : {P : Type 0} (m n : ℕ) → (m ≡ n → P) → (m ≢ n → P) → P
-decide m n t f = cases (eqb m n) (λ e. t (eqb-true m n e)) (λ e. f (eqb-false m n e))
+pub heap-none : (a : List ℕ) → Heap 0 a
+heap-none a = record { fits = omega arith; ordered = λ p j k. absurd (let q = k .within in omega arith) }
 
 -- ---- where a number goes
 

@@ -1,5 +1,5 @@
 -- A number on its way down or up in a heap.
-use Prim.Native.Nat.{ℕ, _+_, _*_, _-_, _/_, _≤_, _<_}
+use Prim.Native.Nat.{ℕ, _+_, _-_, _/_, _≤_, _<_}
 use mathlib.Core.Path.{_≡_}
 use mathlib.Core.Logic.{_≢_}
 use mathlib.Core.List.{List}
@@ -20,7 +20,7 @@ pub record Rising (n h : ℕ) (a : List ℕ) : Type 0 where
   pub except : (p j : ℕ) → j ≢ h → Child n p j → getD a p 0 ≤ getD a j 0
   pub over : (p j : ℕ) → Child n p h → Child n h j → getD a p 0 ≤ getD a j 0
 
--- c is the lower child of h, whose first child is left
+-- c is the place, of left and left + 1 below n, that holds the lower number
 pub record LowerChild (n left : ℕ) (a : List ℕ) (c : ℕ) : Type 0 where
   pub low : left ≤ c
   pub high : c ≤ left + 1

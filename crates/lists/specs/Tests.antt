@@ -1,16 +1,21 @@
 -- Proofs by cases of a test, and by comparison of two numbers.
 use mathlib.Core.Path.{_≡_, refl, ap}
 use mathlib.Core.Bool.{Bool, true, false}
+use mathlib.Core.Logic.{_≢_}
 use Prim.Native.Nat.{ℕ, zero, suc, _≤_, _<_}
 use native.Mathlib.Omega.{arith}
-use lib.Dec.{ltb}
-use borrow.Author.Tests.{ltb-true, ltb-false}
+use lib.Dec.{ltb, eqb}
+use borrow.Author.Tests.{ltb-true, ltb-false, eqb-true, eqb-false}
 use Rattle.lists.specs.Basics.{tick}
 
 -- by cases of a test, with its equation
 pub cases : {P : Type 0} (b : Bool) → (b ≡ true → P) → (b ≡ false → P) → P
 cases true t f = t refl
 cases false t f = f refl
+
+-- m is n, or another number
+pub decide : {P : Type 0} (m n : ℕ) → (m ≡ n → P) → (m ≢ n → P) → P
+decide m n t f = cases (eqb m n) (λ e. t (eqb-true m n e)) (λ e. f (eqb-false m n e))
 
 pub false-true : {P : Type 0} → false ≡ true → P
 false-true e = let z : _≡_ {A = ℕ} 0 1 = ap tick e in absurd (omega arith)

@@ -5,7 +5,7 @@ ghost use Prim.Native.Nat.{_<_, _≤_, min};
 ghost use lib.ListN.{length};
 ghost use Rattle.pagestore.specs.Bytes.{byteAt, put};
 ghost use Rattle.pagestore.specs.Layout.{recordAt, entryAt, leafOf, innerOf, leafBytes, innerBytes};
-ghost use Rattle.pagestore.specs.Store.{pagesIn, inRange, stretch, leafAt, innerAt, levelAt, countAt, recordsIn, entriesIn, setLeaf, setInner};
+ghost use Rattle.pagestore.specs.Store.{pagesIn, inRange, stretch, leafAt, innerAt, levelAt, countAt, linkAt, recordsIn, entriesIn, setLeaf, setInner};
 use crate::Entry;
 use crate::Inner;
 use crate::Leaf;
@@ -16,6 +16,7 @@ use crate::items::put_entry;
 use crate::items::put_record;
 use crate::numbers::clear;
 use crate::numbers::get_u8;
+use crate::numbers::get_u32;
 use crate::numbers::put_u8;
 use crate::numbers::put_u16;
 use geometry::Height;
@@ -133,7 +134,7 @@ pub fn write_inner(page: &mut [u8], inner: Inner)
 }
 
 // The number of whole pages lent; no index has more than 16,384.
-pub fn pages(index: &[u8]) -> u32
+pub fn page_count(index: &[u8]) -> u32
     ensures { λ r. ⌜ r ≡ pagesIn (now (index .entry)) ⌝ }
 {
     let n = index.len() / 1024;
@@ -144,7 +145,7 @@ pub fn pages(index: &[u8]) -> u32
 pub fn in_range(index: &[u8], page: u32) -> bool
     ensures { λ r. ⌜ r ≡ inRange (now (index .entry)) page ⌝ }
 {
-    let n = pages(index);
+    let n = page_count(index);
     0 < page && page < n
 }
 
@@ -176,7 +177,20 @@ pub fn count_at(index: &[u8], page: u32) -> u8
     byte_of(index, page, 1)
 }
 
-fn empty_leaf() -> Leaf
+// The page that was freed before a freed page; 0 out of range.
+pub fn link_at(index: &[u8], page: u32) -> u32
+    ensures { λ r. ⌜ r ≡ linkAt (now (index .entry)) page ⌝ }
+{
+    if in_range(index, page) {
+        let at = page as usize * 1024;
+        let end = at + 1024;
+        get_u32(&index[at..end], 4)
+    } else {
+        0
+    }
+}
+
+pub fn empty_leaf() -> Leaf
     ensures { λ r. ⌜ r ≡ leafOf [] ⌝ }
 {
     let records = [no_record(); 16];
@@ -186,7 +200,7 @@ fn empty_leaf() -> Leaf
     }
 }
 
-fn empty_inner() -> Inner
+pub fn empty_inner() -> Inner
     ensures { λ r. ⌜ r ≡ innerOf [] ⌝ }
 {
     let entries = [no_entry(); 16];

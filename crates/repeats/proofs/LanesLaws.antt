@@ -1,9 +1,8 @@
 -- Laws of lanes: an identifier chained, one met, a turn of a walk, and what all walks say.
-use Prim.Native.Nat.{ℕ, zero, suc, _+_, _-_, _≤_, _<_, _/_, _%_}
-use mathlib.Core.Bool.{Bool, true, false}
+use Prim.Native.Nat.{ℕ, zero, suc, _+_, _-_, _≤_, _<_}
 use mathlib.Core.Path.{_≡_, refl, sym, ap, _∙_}
 use mathlib.Core.Logic.{_≢_, _⊎_, inl, inr, ⊎-elim}
-use mathlib.Core.List.{List, [], _∷_}
+use mathlib.Core.List.{List}
 use native.Mathlib.Omega.{arith}
 use native.Mathlib.Numerals.{add-one}
 use lib.ListN.{length, getD, set, replicate, length-replicate}
@@ -11,13 +10,10 @@ use lib.Seq.{getD-set-same, getD-set-other}
 use lib.Dec.{eqb, leb}
 use borrow.Author.Tests.{leb-true, leb-false, eq-eqb, ne-eqb, eqb-true, eqb-false}
 use Rattle.lists.specs.Basics.{pick}
-use Rattle.lists.specs.Tests.{cases}
-use Rattle.repeats.specs.Repeats.{lowerPage, lowestRepeat, Repeated, Holds, Under, Lowest}
+use Rattle.lists.specs.Tests.{cases, decide}
+use Rattle.repeats.specs.Repeats.{lowerPage, lowestRepeat, Repeated, Holds, Under}
 use Rattle.repeats.specs.Lanes.{laneOf, slotOf, latest, metOf, Heads, Chained, Room, Blank, Sofar, Stage, Probed}
 use Rattle.repeats.proofs.RepeatsLaws.{lower-left, lower-right, of-lower, lowest-unique}
-
-decide : {P : Type 0} (m n : ℕ) → (m ≡ n → P) → (m ≢ n → P) → P
-decide m n t f = cases (eqb m n) (λ e. t (eqb-true m n e)) (λ e. f (eqb-false m n e))
 
 -- ---- chains
 

@@ -1,2 +1,3 @@
 pub mod RepeatsLaws
 pub mod LanesLaws
+pub mod Examples

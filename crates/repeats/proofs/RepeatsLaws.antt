@@ -1,19 +1,19 @@
 -- What `lowestRepeat` is: 0 where the identifiers are distinct; else a page that holds a repeated identifier, and no lower page does.
-use Prim.Native.Nat.{ℕ, zero, suc, min, _+_, _≤_, _<_}
-use mathlib.Core.Bool.{Bool, true, false}
-use mathlib.Core.Path.{_≡_, refl, sym, ap, _∙_}
+use Prim.Native.Nat.{ℕ, zero, suc, min, _≤_, _<_}
+use mathlib.Core.Bool.{true}
+use mathlib.Core.Path.{_≡_, refl}
 use mathlib.Core.Logic.{_≢_}
 use mathlib.Core.List.{List, [], _∷_}
 use native.Mathlib.Omega.{arith}
-use lib.Dec.{eqb, ltb}
+use lib.Dec.{eqb}
 use lib.ListN.{length, getD}
 use borrow.Author.Tests.{lt-ltb, ltb-true, eq-eqb, ne-eqb, eqb-true, eqb-false}
-use Rattle.lists.specs.Basics.{pick, tick, All}
-use Rattle.lists.specs.Tests.{cases, false-true, three}
-use Rattle.lists.specs.Sorting.{count}
-use Rattle.lists.specs.Places.{all-place}
+use Rattle.lists.specs.Basics.{pick, All}
+use Rattle.lists.specs.Tests.{cases, three}
+use Rattle.lists.specs.FlatLaws.{all-at}
+use Rattle.lists.specs.Places.{elsewhere, twice}
 use Rattle.lists.specs.Distinct.{Distinct, distinct-places, places-distinct}
-use Rattle.repeats.specs.Repeats.{repeated, lowerPage, lowestOf, lowestRepeat, Repeated, Holds, Under, Lowest}
+use Rattle.repeats.specs.Repeats.{repeated, lowerPage, lowestOf, lowestRepeat, Repeated, Under, Lowest}
 
 -- ---- the lower of two pages
 
@@ -48,51 +48,7 @@ of-lower P a b f g =
     (λ l. let m : min a b ≡ a = omega arith in rw m (f (omega arith)))
     (λ l. let m : min a b ≡ b = omega arith in rw m (g (omega arith))))))
 
--- ---- places and counts
-
--- another place of an identifier
-record Elsewhere (x : ℕ) (xs : List ℕ) (i : ℕ) : Type 0 where
-  at : ℕ
-  within : at < length xs
-  apart : at ≢ i
-  is : getD xs at 0 ≡ x
-
-record Somewhere (x : ℕ) (xs : List ℕ) : Type 0 where
-  at : ℕ
-  within : at < length xs
-  is : getD xs at 0 ≡ x
-
-somewhere : (x : ℕ) (xs : List ℕ) → 0 < count (eqb x) xs → Somewhere x xs
-unfolding count
-somewhere x [] h = absurd (omega arith)
-somewhere x (y ∷ ys) h =
-    cases (eqb x y) (λ e. record { at = 0; within = omega arith; is = sym (eqb-true x y e) })
-    (λ e. let s = somewhere x ys (omega (arith, ap tick e)) in record { at = suc (s .at); within = let q = s .within in omega arith; is = s .is })
-
-elsewhere : (x : ℕ) (xs : List ℕ) (i : ℕ) → getD xs i 0 ≡ x → i < length xs → 1 < count (eqb x) xs → Elsewhere x xs i
-unfolding count
-elsewhere x [] i e l h = absurd (omega arith)
-elsewhere x (y ∷ ys) zero e l h =
-    let s = somewhere x ys (let q : tick (eqb x y) ≡ 1 = ap tick (eq-eqb x y (sym e)) in omega arith) in
-    record { at = suc (s .at); within = let q = s .within in omega arith; apart = omega arith; is = s .is }
-elsewhere x (y ∷ ys) (suc i) e l h =
-    cases (eqb x y) (λ d. record { at = 0; within = omega arith; apart = omega arith; is = sym (eqb-true x y d) })
-    (λ d. let s = elsewhere x ys i e (omega arith) (omega (arith, ap tick d)) in
-    record { at = suc (s .at); within = let q = s .within in omega arith; apart = omega (arith, s .apart); is = s .is })
-
-counted : (x : ℕ) (xs : List ℕ) (i : ℕ) → i < length xs → getD xs i 0 ≡ x → 0 < count (eqb x) xs
-unfolding count
-counted x [] i h e = absurd (omega arith)
-counted x (y ∷ ys) zero h e = rw (eq-eqb x y (sym e)) (omega arith)
-counted x (y ∷ ys) (suc i) h e = let q = counted x ys i (omega arith) e in omega arith
-
-counted-twice : (x : ℕ) (xs : List ℕ) (i k : ℕ) → i < length xs → k < length xs → k ≢ i → getD xs i 0 ≡ x → getD xs k 0 ≡ x → 1 < count (eqb x) xs
-unfolding count
-counted-twice x [] i k h g n e d = absurd (omega arith)
-counted-twice x (y ∷ ys) zero zero h g n e d = absurd (n refl)
-counted-twice x (y ∷ ys) zero (suc k) h g n e d = let q = counted x ys k (omega arith) d in rw (eq-eqb x y (sym e)) (omega arith)
-counted-twice x (y ∷ ys) (suc i) zero h g n e d = let q = counted x ys i (omega arith) e in rw (eq-eqb x y (sym d)) (omega arith)
-counted-twice x (y ∷ ys) (suc i) (suc k) h g n e d = let q = counted-twice x ys i k (omega arith) (omega arith) (omega (arith, n)) e d in omega arith
+-- ---- the test and the places
 
 pub test-repeated : (ids : List ℕ) (i : ℕ) → i < length ids → repeated ids (getD ids i 0) ≡ true → Repeated ids i
 test-repeated ids i h e =
@@ -100,7 +56,7 @@ test-repeated ids i h e =
     record { here = h; other = s .at; there = s .within; apart = s .apart; same = s .is }
 
 pub repeated-test : (ids : List ℕ) (i : ℕ) → Repeated ids i → repeated ids (getD ids i 0) ≡ true
-repeated-test ids i r = lt-ltb 1 _ (counted-twice (getD ids i 0) ids i (r .other) (r .here) (r .there) (r .apart) refl (r .same))
+repeated-test ids i r = lt-ltb 1 _ (twice (getD ids i 0) ids i (r .other) (r .here) (r .there) (r .apart) refl (r .same))
 
 -- ---- the definition
 
@@ -159,7 +115,7 @@ module _ (ids pages : List ℕ) (each : length pages ≡ length ids) (real : All
   pub none-distinct : lowestRepeat ids pages ≡ 0 → Distinct ids
   none-distinct z =
       places-distinct 0 ids (λ i k h g n e.
-      let q = lowest-repeat ids pages .least i (record { here = h; other = k; there = g; apart = n; same = e }) (all-place 0 real i (omega arith)) in
+      let q = lowest-repeat ids pages .least i (record { here = h; other = k; there = g; apart = n; same = e }) (all-at pages i 0 (omega arith) real) in
       let p = q .0 in omega arith)
 
   pub distinct-none : Distinct ids → lowestRepeat ids pages ≡ 0

@@ -1,7 +1,7 @@
 -- How the code finds repeated identifiers. Identifiers with the same low 14 bits are in one lane; each lane is a chain from its last identifier to its
 -- first; while a lane is walked, a stamp at the high 18 bits of each identifier says where it was met last.
 -- A link or a stamp is one more than a place, or 0 for none.
-use Prim.Native.Nat.{ℕ, zero, suc, _+_, _≤_, _<_, _/_, _%_}
+use Prim.Native.Nat.{ℕ, zero, suc, _≤_, _<_, _/_, _%_}
 use mathlib.Core.Path.{_≡_}
 use mathlib.Core.Logic.{_≢_}
 use mathlib.Core.List.{List}

@@ -7,11 +7,11 @@ use mathlib.Core.List.{List, [], _∷_}
 use lib.Dec.{eqb, ltb}
 use lib.ListN.{length, getD}
 use Rattle.lists.specs.Basics.{pick}
-use Rattle.lists.specs.Sorting.{count}
+use Rattle.lists.specs.Counts.{mult}
 
 -- x stands at two places or more
 abbrev pub repeated : List ℕ → ℕ → Bool
-repeated ids x = ltb 1 (count (eqb x) ids)
+repeated ids x = ltb 1 (mult x ids)
 
 -- the lower of two pages, 0 being no page
 abbrev pub lowerPage : ℕ → ℕ → ℕ
@@ -28,7 +28,9 @@ unfoldable pub lowestRepeat : List ℕ → List ℕ → ℕ
 unfolding lowestOf
 lowestRepeat ids pages = lowestOf ids ids pages
 
--- the same in words: the identifier at i stands at another place too
+-- ---- what the lowest page is, said of places
+
+-- the identifier at i stands at another place too
 pub record Repeated (ids : List ℕ) (i : ℕ) : Type 0 where
   pub here : i < length ids
   pub other : ℕ
@@ -42,7 +44,7 @@ pub record Holds (ids pages : List ℕ) (r : ℕ) : Type 0 where
   pub twice : Repeated ids at
   pub page : getD pages at 0 ≡ r
 
--- r is a page, and not above the page p
+-- where p is a page, r is one too and not above it
 abbrev pub Under : ℕ → ℕ → Type 0
 Under r p = 0 < p → (0 < r) × (r ≤ p)
 

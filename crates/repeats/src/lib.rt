@@ -87,7 +87,7 @@ fn chain(ids: &[u32], head: &mut [u16], next: &mut [u16], i: usize) -> usize
 }
 
 // Looks along a chain, from the place that `from` links to, for the identifier at i: the link to it, 0 where the chain has none, or a link past i
-// where eight others come first.
+// where nine others come first.
 fn probe(ids: &[u32], next: &[u16], i: usize, from: usize) -> usize
     requires { ⌜ (length (now ids) ≤ length (now next)) × (i < length (now ids)) × Chained i (now ids) (now next)
         × (from ≡ latest (now ids) (laneOf (getD (now ids) i 0)) i) ⌝ }
@@ -207,7 +207,7 @@ fn chain_and_walk(
 }
 
 // The arrays for few identifiers.
-fn of_few(ids: &[u32], pages: &[u16]) -> Attempt
+fn lowest_of_few(ids: &[u32], pages: &[u16]) -> Attempt
     requires { ⌜ (length (now ids) ≤ 16384) × (length (now pages) ≡ length (now ids)) ⌝ }
     ensures { λ r. ⌜ (r .settled ≡ true → r .page ≡ lowestRepeat (now (ids .entry)) (now (pages .entry))) ⌝ }
 {
@@ -217,7 +217,7 @@ fn of_few(ids: &[u32], pages: &[u16]) -> Attempt
 }
 
 // The arrays for any identifiers.
-fn of_any(ids: &[u32], pages: &[u16]) -> u16
+fn lowest_of_many(ids: &[u32], pages: &[u16]) -> u16
     requires { ⌜ (length (now ids) ≤ 65535) × (length (now pages) ≡ length (now ids)) ⌝ }
     ensures { λ r. ⌜ r ≡ lowestRepeat (now (ids .entry)) (now (pages .entry)) ⌝ }
 {
@@ -233,12 +233,12 @@ pub fn lowest_repeat(ids: &[u32], pages: &[u16]) -> u16
     ensures { λ r. ⌜ r ≡ lowestRepeat (now (ids .entry)) (now (pages .entry)) ⌝ }
 {
     if ids.len() <= 16384 {
-        let a = of_few(ids, pages);
+        let a = lowest_of_few(ids, pages);
         if a.settled {
             return a.page;
         }
     }
-    of_any(ids, pages)
+    lowest_of_many(ids, pages)
 }
 
 // The same of the first n.

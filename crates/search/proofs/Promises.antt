@@ -2,7 +2,7 @@
 use mathlib.Core.Path.{_≡_, refl, sym, ap, ap₂, subst, _∙_}
 use mathlib.Core.Bool.{Bool, true, false, not}
 use mathlib.Core.List.{List, [], _∷_, _++_, map}
-use Prim.Native.Nat.{ℕ, zero, suc, _+_, _*_, _≤_, _<_}
+use Prim.Native.Nat.{ℕ, zero, suc, _+_, _*_, _≤_, _<_, _/_}
 use native.Mathlib.Omega.{arith}
 use lib.ListN.{length, getD}
 use lib.Dec.{ltb, eqb}
@@ -24,14 +24,14 @@ use Rattle.bestfirst.specs.Marks.{Strict}
 use Rattle.candidates.specs.RowLaws.{row-order, ofId, past, Distinct, candidates-strict}
 use Rattle.pagestore.specs.declared.Record.{Record}
 use Rattle.pagestore.specs.declared.Leaf.{Leaf}
-use Rattle.pagestore.specs.Store.{level, total, root, View, viewOf, inRange, pagesIn, leafAt, recordsIn, entriesIn, fieldAt}
-use Rattle.pagestore.specs.Store.PageLaws.{SamePage}
-use Rattle.pagestore.specs.Store.AgreeLaws.{AgreeBut, agree-pages, agree-range, agree-page, agree-field}
+use Rattle.pagestore.specs.Store.{Field, level, total, root, View, viewOf, inRange, pagesIn, leafAt, recordsIn, entriesIn, fieldAt}
+use Rattle.pagestore.specs.Store.PageLaws.{SamePage, bytes-page, bytes-field}
+use Rattle.pagestore.specs.Store.RangeLaws.{pages-same, range-same}
 use Rattle.trees.specs.Trees.{Item, pointIn, leaves, pages, treeOf, leavesOf, identOf, live}
 use Rattle.trees.specs.Sound.{SoundIndex}
 use Rattle.search.specs.Branches.{Branch, tied, before, isLeaf, pageIn, kids, rootBranch, rowOf, rowsAt}
 use Rattle.search.specs.Visit.{ranking, Answer, answerOf, visited, readsNone, found}
-use Rattle.search.specs.Questions.{rowsFrom, rowsOf, leafBound, toRead, unreadPages, Kept, Exchanged, end, next}
+use Rattle.search.specs.Questions.{rowsFrom, rowsOf, leafBound, toRead, unreadPages, Kept, Exchanged, end, next, AgreeBut}
 use Rattle.search.proofs.RecordLaws.{span-floor}
 use Rattle.search.proofs.FrameLaws.{Frame, Ordered, Branching, leaf-records, parts-right, frame-range, leafBranch, leafBranches}
 use Rattle.search.proofs.DescentLaws.{branch-order, seek-is}
@@ -221,6 +221,14 @@ module _ (f : Item 1 → Bool) where
       (all-map (λ x (h : f x ≡ true → 0 < mult (x .0) (map pageOf (keep f us))) w. let g = h w in omega (arith, mult-more (x .0) (u .0) (map pageOf (keep f us)))) (keep-there us))))
       (λ e. rw (keep-past f u us e) (also {x = u} (λ w. false-true (sym e ∙ w)) (keep-there us)))
 
+-- two indexes that agree but for the pages ps
+module _ (ps b c : List ℕ) (h : AgreeBut ps b c) where
+  agree-page : (p : ℕ) → mult p ps ≡ 0 → SamePage b c p
+  agree-page p z = bytes-page b c p (h .lent) (λ i k. let e : (p * 1024 + i) / 1024 ≡ p = omega arith in h .bytes (p * 1024 + i) (rw e z))
+
+  agree-field : mult 0 ps ≡ 0 → (f : Field) → fieldAt f c ≡ fieldAt f b
+  agree-field z f = bytes-field f b c (h .lent) (λ i k. let e : i / 1024 ≡ 0 = omega arith in h .bytes i (rw e z))
+
 -- the inner pages are the same, and the same numbers are pages
 frame-same : (b c : List ℕ) (d : ℕ) → ((p : ℕ) → inRange c p ≡ inRange b p) → (l : ℕ) (t : Item (suc l)) → All (λ p. SamePage b c p) (innerPages l t) → Frame b d l t → Frame c d l t
 unfolding Frame innerPages
@@ -259,8 +267,8 @@ module _ (b : List ℕ) (s : SoundIndex b) (q : List ℕ) (same : length q ≡ v
           level = agree-field unread b c h unread-header level;
           total = agree-field unread b c h unread-header total;
           root = agree-field unread b c h unread-header root;
-          pages = agree-pages unread b c h;
-          frame = frame-same b c (viewOf b .d) (agree-range unread b c h) (viewOf b .level) (treeOf (viewOf b)) (all-map (agree-page unread b c h) unread-inner) (tree-frame b s);
+          pages = pages-same b c (h .lent);
+          frame = frame-same b c (viewOf b .d) (λ p. range-same b c p (h .lent)) (viewOf b .level) (treeOf (viewOf b)) (all-map (agree-page unread b c h) unread-inner) (tree-frame b s);
         }
 
     rows-same : (p : ℕ) (us : List (Item 1)) → All (λ u. toRead (viewOf b) q k u ≡ true → mult (u .0) unread ≡ 0) us → All (λ u. 0 < length (u .1)) us

@@ -9,6 +9,7 @@ use lib.ListN.{length, take}
 use lib.Seq.{length-take-le}
 use Rattle.lists.specs.Basics.{All, none, also, all-head, all-map}
 use Rattle.lists.specs.Tests.{three}
+use Rattle.lists.specs.Parts.{head-of, last-of}
 use Rattle.lists.specs.Ascending.{headOr, lastOr, Ascending}
 use Rattle.lists.specs.Ascending as asc
 use Rattle.geometry.specs.Points.{InRange, heightOf, pyramidOf, PairLe, distBy, square}
@@ -24,18 +25,6 @@ use Rattle.pagestore.specs.Fits.{RecordFits}
 use Rattle.trees.specs.Trees.{pointIn, keyOf, rankOf, noRecord, firstKey, lastKey}
 use Rattle.trees.specs.Sound.{RecordOk}
 use Rattle.search.specs.Branches.{spanBound}
-
-module _ {A : Type 0} {P : A → Type 0} where
-  pub all-first : (d : A) {xs : List A} → 0 < length xs → All P xs → P (headOr d xs)
-  unfolding headOr
-  all-first d h none = absurd (omega arith)
-  all-first d h (also p a) = p
-
-  pub all-last : (d : A) {xs : List A} → 0 < length xs → All P xs → P (lastOr d xs)
-  unfolding lastOr
-  all-last d h none = absurd (omega arith)
-  all-last d h (also {x = x} p none) = p
-  all-last d h (also {x = x} p (also {x = y} r a)) = all-last x (omega arith) (also r a)
 
 module _ {A : Type 0} (f : A → ℕ) where
   -- in an ascending list none is below the first, and none above the last
@@ -135,7 +124,7 @@ module _ (d : ℕ) (low : 1 ≤ d) (high : d ≤ 16) where
               → All (λ r. boundBetween d q first last ≤ distBy square 0 (pointOf q) (pointIn d r)) xs
           floor xs none none none = none
           floor xs (also {x = x} g a) (also l b) (also m c) =
-              also (record-below first last x (all-first noRecord some right) (all-last noRecord some right) g l m) (floor _ a b c)
+              also (record-below first last x (head-of noRecord some right) (last-of noRecord some right) g l m) (floor _ a b c)
 
       -- and at most the bound of some of them in a row
       pub span-part : (ys : List Record) → 0 < length ys → Ascending (map (rankOf d) ys) → All (Right d) ys
@@ -143,6 +132,6 @@ module _ (d : ℕ) (low : 1 ≤ d) (high : d ≤ 16) where
           → spanBound q (firstKey d rs) (lastKey d rs) ≤ spanBound q (firstKey d ys) (lastKey d ys)
       span-part ys more upy gy l m =
           rw (span-between d q rs, span-between d q ys)
-          (span-within first last (headOr noRecord ys) (lastOr noRecord ys) (all-first noRecord some right) (all-last noRecord some right)
-          (all-first noRecord more gy) (all-last noRecord more gy)
-          (all-first noRecord more l) (all-last noRecord more (from-first (rankOf d) noRecord ys upy)) (all-last noRecord more m))
+          (span-within first last (headOr noRecord ys) (lastOr noRecord ys) (head-of noRecord some right) (last-of noRecord some right)
+          (head-of noRecord more gy) (last-of noRecord more gy)
+          (head-of noRecord more l) (last-of noRecord more (from-first (rankOf d) noRecord ys upy)) (last-of noRecord more m))

@@ -2,9 +2,10 @@
 use mathlib.Core.Path.{_≡_}
 use mathlib.Core.Bool.{Bool, true, not, _&&_}
 use mathlib.Core.List.{List, [], _∷_, _++_, map}
-use Prim.Native.Nat.{ℕ, suc}
+use Prim.Native.Nat.{ℕ, suc, _/_}
 use lib.Dec.{ltb}
-use lib.ListN.{length}
+use lib.ListN.{length, getD}
+use Rattle.lists.specs.Counts.{mult}
 use Rattle.lists.specs.Sorting.{keep}
 use Rattle.bestfirst.specs.Nearest.{inSet}
 use Rattle.candidates.specs.declared.Row.{Row}
@@ -50,3 +51,8 @@ pub record Kept (d : ℕ) (read : Bool) (t u : Item 1) : Type 0 where
 pub data Exchanged (d : ℕ) (read : Item 1 → Bool) : List (Item 1) → List (Item 1) → Type 0 where
   end : Exchanged d read [] []
   next : {t u : Item 1} {ts us : List (Item 1)} → Kept d (read t) t u → Exchanged d read ts us → Exchanged d read (t ∷ ts) (u ∷ us)
+
+-- c has the length of the index b and its bytes, but for those of the pages ps
+pub record AgreeBut (ps b c : List ℕ) : Type 0 where
+  pub lent : length c ≡ length b
+  pub bytes : (i : ℕ) → mult (i / 1024) ps ≡ 0 → getD c i 0 ≡ getD b i 0

@@ -10,7 +10,6 @@ use Rattle.geometry.specs.Points.{square}
 use Rattle.geometry.specs.Slices.{Nearest}
 use Rattle.geometry.specs.Stored.{pointOf}
 use Rattle.pagestore.specs.Store.{viewOf, level, innerAt, entriesIn, fieldAt}
-use Rattle.pagestore.specs.Store.AgreeLaws.{AgreeBut}
 use Rattle.trees.specs.Trees.{leavesOf}
 use Rattle.trees.specs.Sound.{SoundIndex}
 use Rattle.heap.specs.Heap.{Heap, held}
@@ -23,7 +22,7 @@ use Rattle.search.specs.declared.Seen.{Seen}
 use Rattle.search.specs.Branches.{before, branches}
 use Rattle.search.specs.Keys.{Good, frontier}
 use Rattle.search.specs.Visit.{ranking, Answer, answerOf, visited, found}
-use Rattle.search.specs.Questions.{rowsOf, toRead, unreadPages}
+use Rattle.search.specs.Questions.{rowsOf, toRead, unreadPages, AgreeBut}
 
 -- a point that can be asked: 1 to 16 coordinates in range, as stored
 pub record Asked (q : List ℕ) : Type 0 where

@@ -11,8 +11,8 @@ use geometry::Pair;
 use geometry::bounds::bound;
 use heap::push;
 use pagestore::Entry;
-use pagestore::pages::in_range;
-use pagestore::pages::inner_at;
+use pagestore::in_range;
+use pagestore::inner_at;
 
 // The branch of a key, field by field.
 pub fn bound_in(key: u64) -> u64

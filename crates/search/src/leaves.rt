@@ -13,10 +13,10 @@ use candidates::Row;
 use candidates::offer;
 use geometry::points::squared_distance;
 use pagestore::Record;
-use pagestore::pages::count_at;
-use pagestore::pages::in_range;
-use pagestore::pages::inner_at;
-use pagestore::pages::read_leaf;
+use pagestore::count_at;
+use pagestore::in_range;
+use pagestore::inner_at;
+use pagestore::read_leaf;
 
 // How many items a page with this count has: there are 16 slots.
 pub fn filled(count: usize) -> usize

@@ -19,11 +19,11 @@ use crate::leaves::filled;
 use crate::leaves::visit_leaf;
 use candidates::exceeds;
 use heap::pop;
-use pagestore::header::root_level;
-use pagestore::header::root_page;
-use pagestore::header::total_records;
-use pagestore::pages::count_at;
-use pagestore::pages::pages;
+use pagestore::root_level;
+use pagestore::root_page;
+use pagestore::total_records;
+use pagestore::count_at;
+use pagestore::page_count;
 
 // Whether nothing is read: there are no records, or the root's level is that of no sound index.
 pub fn reads_none(index: &[u8]) -> bool
@@ -69,7 +69,7 @@ pub fn best_first(
     let mut n = 1;
     let mut rows = 0;
     let mut leaves = 0;
-    let mut steps = 2 * pages(index);
+    let mut steps = 2 * page_count(index);
     while 0 < steps {
         steps -= 1;
         if n == 0 {

@@ -1,5 +1,5 @@
 -- `down` compares x with the lower child.
-use Rattle.heap.proofs.HeapLaws.{down-leaf, down-goes, down-stays}
+use Rattle.heap.proofs.HeapLaws.{down-goes, down-stays}
 use borrow.Author.Needs.{needs}
 use Rattle.heap.proofs.down.Statement.{statement}
 use Rattle.heap.proofs.down.Tie as tie

@@ -1,7 +1,7 @@
 -- `rise` moves x up. The loop's invariant: with x at h the first n + 1 are a heap but for h, and hold what they held.
-use Prim.Native.Nat.{_+_, _≤_, _<_}
+use Prim.Native.Nat.{_+_, _≤_}
 use mathlib.Core.Path.{_≡_, refl, _∙_}
-use lib.ListN.{length, getD, set, drop, length-set}
+use lib.ListN.{length, set, drop, length-set}
 use lib.Seq.{drop-set-lt}
 use Rattle.heap.specs.Heap.{held}
 use Rattle.heap.specs.Sifting.{Rising}
@@ -19,7 +19,9 @@ abbrev μ-loop : tie.MeasureT-loop
 μ-loop a₀ n x h₀ a h = h
 
 loop-holds : tie.Need-loop-holds Inv-loop μ-loop
-loop-holds c = let st = (c .before) in (refl, fits-of (now (st .args .a)) (st .args .n) (st .args .x) _ (st .pre .fits), st .pre, refl, refl)
+loop-holds c =
+    let st = (c .before) in
+    (refl, fits-of (now (st .args .a)) (st .args .n) (st .args .x) _ (st .pre .fits), st .pre, refl, refl)
 
 up-requires : tie.Need-up-requires Inv-loop μ-loop
 up-requires c κs = let l = c .before .loop in let q = l .inv .2 .place in omega arith
@@ -39,10 +41,14 @@ returns c =
     settled _ (l .h) _ (l .a) _ _ (i .2 .place) (risen _ (l .h) _ (l .a) _ (i .2) (c .before .up .ensures) (c .if1 .taken)) (i .3) (i .4)
 
 mul-a-2 : tie.Need-mul-a-2 Inv-loop μ-loop
-mul-a-2 c = let g = c .before .up .ensures .goes (c .if1 .left) in let p = g .1 in let q = c .before .before .before .loop .inv .2 .place in omega arith
+mul-a-2 c =
+    let g = c .before .up .ensures .goes (c .if1 .left) in
+    let p = g .1 in let q = c .before .before .before .loop .inv .2 .place in omega arith
 
 slice-read-a : tie.Need-slice-read-a Inv-loop μ-loop
-slice-read-a c = let g = c .before .before .up .ensures .goes (c .before .if1 .left) in let p = g .1 in let q = c .before .before .before .before .loop .inv .2 .place in omega arith
+slice-read-a c =
+    let g = c .before .before .up .ensures .goes (c .before .if1 .left) in
+    let p = g .1 in let q = c .before .before .before .before .loop .inv .2 .place in omega arith
 
 mul-a-3 : tie.Need-mul-a-3 Inv-loop μ-loop
 mul-a-3 c = let q = c .before .before .before .before .loop .inv .2 .place in omega arith
@@ -55,7 +61,8 @@ loop-less c = let g = c .before .before .up .ensures .goes (c .before .if1 .left
 
 loop-again : tie.Need-loop-again Inv-loop μ-loop
 loop-again c =
-    let l = c .before .before .before .before .loop in let i = l .inv in let d = c .before .before .up .ensures in let m = c .before .if1 .left in (
+    let l = c .before .before .before .before .loop in
+    let i = l .inv in let d = c .before .before .up .ensures in let m = c .before .if1 .left in (
       simp length-set (i .0),
       simp length-set (i .1),
       rises _ (l .h) _ (l .a) _ (i .2) d m,

@@ -1,7 +1,7 @@
 -- `sink` moves x down. The loop's invariant: with x at h the first n are a heap but for h, and hold what they held.
-use Prim.Native.Nat.{_-_, _≤_, _<_}
+use Prim.Native.Nat.{_-_, _≤_}
 use mathlib.Core.Path.{_≡_, refl, _∙_}
-use lib.ListN.{length, getD, set, drop, length-set}
+use lib.ListN.{length, set, drop, length-set}
 use lib.Seq.{drop-set-lt}
 use Rattle.heap.specs.Heap.{held}
 use Rattle.heap.specs.Sifting.{Sinking}
@@ -54,7 +54,8 @@ loop-less c = let k = c .before .before .down .ensures .goes (c .before .if1 .le
 
 loop-again : tie.Need-loop-again Inv-loop μ-loop
 loop-again c =
-    let l = c .before .before .before .before .loop in let i = l .inv in let d = c .before .before .down .ensures in let m = c .before .if1 .left in (
+    let l = c .before .before .before .before .loop in
+    let i = l .inv in let d = c .before .before .down .ensures in let m = c .before .if1 .left in (
       simp length-set (i .0),
       simp length-set (i .1),
       sinks _ (l .h) _ (l .a) _ (i .2) d m,

@@ -1,7 +1,6 @@
 -- `chain` puts the identifier at the head of its lane and links it to what stood there.
-use mathlib.Core.Path.{_≡_, sym, ap, _∙_}
-use Prim.Native.Nat.{_+_, _<_}
-use lib.ListN.{length, getD}
+use mathlib.Core.Path.{_≡_, _∙_}
+use lib.ListN.{getD}
 use Rattle.repeats.specs.Lanes.{laneOf, latest}
 use Rattle.repeats.proofs.LanesLaws.{heads-more, chained-more}
 use native.Mathlib.Omega.{arith}

@@ -9,7 +9,8 @@ chains-requires c κs = search needs
 
 walks-requires : tie.Need-walks-requires
 walks-requires c κs =
-    let st = c .before .before .before .before .before .before .before .before .before .before .before .before .before .before .before .pre in let k = c .before .before .before .before .before .before .before .chains in
+    let st = c .before .before .before .before .before .before .before .before .before .before .before .before .before .before .before .pre in
+    let k = c .before .before .before .before .before .before .before .chains in
     (room-kept _ _ _ _ _ (st .0) (k .kept .1 .0) (k .kept .1 .1 .0), st .1, st .2, k .ensures .0, k .ensures .1, st .4)
 
 same-length : tie.Need-same-length

@@ -1,5 +1,5 @@
 -- `chains` chains one identifier a turn.
-use Prim.Native.Nat.{_-_, _+_, _≤_, _<_}
+use Prim.Native.Nat.{_-_, _≤_}
 use mathlib.Core.Path.{_≡_, refl, _∙_}
 use lib.ListN.{length}
 use Rattle.repeats.specs.Lanes.{Heads, Chained}
@@ -19,7 +19,9 @@ loop-holds : tie.Need-loop-holds Inv-loop μ-loop
 loop-holds c = (refl, refl, (omega arith), heads-none _ _ (c .before .before .before .pre .1), chained-none _ _)
 
 chain-requires : tie.Need-chain-requires Inv-loop μ-loop
-chain-requires c κs = let l = c .before .before .before .loop in (room-kept _ _ _ _ _ (c .before .before .before .before .before .before .before .pre .0) (l .inv .0) (l .inv .1), (omega arith), l .inv .3, l .inv .4)
+chain-requires c κs =
+    let l = c .before .before .before .loop in
+    (room-kept _ _ _ _ _ (c .before .before .before .before .before .before .before .pre .0) (l .inv .0) (l .inv .1), (omega arith), l .inv .3, l .inv .4)
 
 add-i : tie.Need-add-i Inv-loop μ-loop
 add-i c = omega arith

@@ -1,8 +1,8 @@
 -- `compare` chains each identifier and meets what `probe` finds. The loop's invariant: the first i are chained, and the lowest page so far is theirs.
-use Prim.Native.Nat.{_-_, _+_, _≤_, _<_}
+use Prim.Native.Nat.{_-_, _≤_, _<_}
 use mathlib.Core.Bool.{true, false}
-use mathlib.Core.Path.{_≡_, refl, sym, ap, _∙_}
-use lib.ListN.{length, getD}
+use mathlib.Core.Path.{_≡_, refl, _∙_}
+use lib.ListN.{length}
 use Rattle.lists.specs.Tests.{false-true}
 use Rattle.repeats.specs.Lanes.{Heads, Chained, Sofar}
 use Rattle.repeats.proofs.LanesLaws.{heads-none, chained-none, chained-less, room-kept, sofar-none, compared-more, compared}
@@ -30,14 +30,20 @@ chain-requires c κs =
 
 probe-requires : tie.Need-probe-requires Inv-loop μ-loop
 probe-requires c κs =
-    let st = (c .before .before .before .before .before .before .before .before .before .before .before .before .before .before) in let l = c .before .before .before .before .before .before .before .before .before .loop in let k = c .before .before .before .before .before .chain in let n = k .kept .1 .1 .0 in
+    let st = (c .before .before .before .before .before .before .before .before .before .before .before .before .before .before) in
+    let l = c .before .before .before .before .before .before .before .before .before .loop in
+    let k = c .before .before .before .before .before .chain in let n = k .kept .1 .1 .0 in
     ((let r = st .pre .0 .links in omega arith), (omega arith), chained-less _ _ _ (k .ensures .2), k .ensures .0)
 
 same-length : tie.Need-same-length Inv-loop μ-loop
-same-length c = let k = c .before .before .before .before .before .before .before .chain in k .kept .1 .0 ∙ c .before .before .before .before .before .before .before .before .before .before .before .loop .inv .0
+same-length c =
+    let k = c .before .before .before .before .before .before .before .chain in
+    k .kept .1 .0 ∙ c .before .before .before .before .before .before .before .before .before .before .before .loop .inv .0
 
 same-length-2 : tie.Need-same-length-2 Inv-loop μ-loop
-same-length-2 c = let k = c .before .before .before .before .before .before .before .chain in k .kept .1 .1 .0 ∙ c .before .before .before .before .before .before .before .before .before .before .before .loop .inv .1
+same-length-2 c =
+    let k = c .before .before .before .before .before .before .before .chain in
+    k .kept .1 .1 .0 ∙ c .before .before .before .before .before .before .before .before .before .before .before .loop .inv .1
 
 returns : tie.Need-returns Inv-loop μ-loop
 returns c = λ (e : false ≡ true). false-true e
@@ -53,7 +59,9 @@ loop-less c = omega arith
 
 loop-again : tie.Need-loop-again Inv-loop μ-loop
 loop-again c =
-    let st = (c .before .before .before .before .before .before .before .before .before .before .before .before .before .before .before .before .before) in let l = c .before .before .before .before .before .before .before .before .before .before .before .before .loop in let k = c .before .before .before .before .before .before .before .before .chain in (
+    let st = (c .before .before .before .before .before .before .before .before .before .before .before .before .before .before .before .before .before) in
+    let l = c .before .before .before .before .before .before .before .before .before .before .before .before .loop in
+    let k = c .before .before .before .before .before .before .before .before .chain in (
       k .kept .1 .0 ∙ l .inv .0,
       k .kept .1 .1 .0 ∙ l .inv .1,
       (omega arith),

@@ -1,6 +1,5 @@
 -- `met` is `metOf`.
-use Prim.Native.Nat.{_-_, _<_}
-use mathlib.Core.Path.{_≡_, ap, _∙_}
+use mathlib.Core.Path.{ap, _∙_}
 use Rattle.repeats.specs.Repeats.{lowerPage}
 use Rattle.repeats.proofs.LanesLaws.{met-none, met-apart, met-same}
 use native.Mathlib.Omega.{arith}

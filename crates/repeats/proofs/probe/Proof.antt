@@ -1,7 +1,7 @@
 -- `probe` looks along the chain. The loop's invariant is `Probing`: no place that was passed holds the identifier.
-use Prim.Native.Nat.{suc, _-_, _+_, _≤_, _<_}
-use mathlib.Core.Path.{_≡_, refl, sym, ap, _∙_}
-use lib.ListN.{length, getD}
+use Prim.Native.Nat.{suc, _-_}
+use mathlib.Core.Path.{_≡_, refl, _∙_}
+use lib.ListN.{getD}
 use Rattle.repeats.proofs.LanesLaws.{Probing, probing-start, probing-more, probed-found, probed-past, probed-none, link-le}
 use native.Mathlib.Omega.{arith}
 use denote.Ref.{now}

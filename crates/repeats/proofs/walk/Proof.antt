@@ -1,7 +1,7 @@
 -- `walk` meets the identifiers of one lane, last to first. The loop's invariant is `Walking`.
-use Prim.Native.Nat.{suc, _-_, _+_, _≤_, _<_}
-use mathlib.Core.Path.{_≡_, refl, sym, ap, _∙_}
-use lib.ListN.{length, getD, set, length-set}
+use Prim.Native.Nat.{suc, _-_}
+use mathlib.Core.Path.{_≡_, refl, _∙_}
+use lib.ListN.{length, length-set}
 use Rattle.repeats.proofs.LanesLaws.{Walking, walking-start, walking-more, walking-done, stamps-le, link-le}
 use native.Mathlib.Omega.{arith}
 use denote.Ref.{now}

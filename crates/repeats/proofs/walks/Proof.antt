@@ -1,5 +1,5 @@
 -- `walks` walks the lanes 0, 1, .. 16,383.
-use Prim.Native.Nat.{_-_, _+_, _≤_, _<_}
+use Prim.Native.Nat.{_-_, _≤_}
 use mathlib.Core.Path.{_≡_, refl, _∙_}
 use lib.ListN.{length}
 use Rattle.repeats.specs.Lanes.{Stage}

@@ -7,7 +7,7 @@ use Rattle.search.proofs.frontier.open_page.Tie as tie
 use Rattle.search.proofs.frontier.open_page.Reads as reads
 use Rattle.search.proofs.frontier.open_page.Lts as lts
 use Rattle.heap.proofs.push.Reads as push-reads
-use Rattle.pagestore.proofs.pages.inner_at.Reads as inner-at-reads
+use Rattle.pagestore.proofs.inner_at.Reads as inner-at-reads
 use Rattle.search.proofs.frontier.entry_key.Reads as entry-key-reads
 use Rattle.search.proofs.leaves.filled.Reads as filled-reads
 use Rattle.search.proofs.leaves.leaf_count.Reads as leaf-count-reads

@@ -6,7 +6,7 @@ use Rattle.search.proofs.frontier.page_of.Statement.{statement}
 use Rattle.search.proofs.frontier.page_of.Tie as tie
 use Rattle.search.proofs.frontier.page_of.Reads as reads
 use Rattle.search.proofs.frontier.page_of.Lts as lts
-use Rattle.pagestore.proofs.pages.in_range.Reads as in-range-reads
+use Rattle.pagestore.proofs.in_range.Reads as in-range-reads
 
 -- src/frontier.rt:58:8
 in-range-requires : tie.Need-in-range-requires

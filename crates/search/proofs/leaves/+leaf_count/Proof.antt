@@ -14,8 +14,8 @@ use borrow.Fn.PlainCycle.{Measures, is, falls, and}
 use Rattle.search.proofs.leaves.leaf_count.Reads as leaf-count
 use Rattle.search.proofs.leaves.leaf_count.Kinds as leaf-count-kinds
 use Rattle.search.proofs.leaves.+leaf_count.Lts-leaf_count as leaf-count-lts
-use Rattle.pagestore.proofs.pages.count_at.Reads as count-at-reads
-use Rattle.pagestore.proofs.pages.inner_at.Reads as inner-at-reads
+use Rattle.pagestore.proofs.count_at.Reads as count-at-reads
+use Rattle.pagestore.proofs.inner_at.Reads as inner-at-reads
 use Rattle.search.proofs.leaves.filled.Reads as filled-reads
 use Rattle.search.proofs.leaves.+leaf_count.{statement}
 use Rattle.search.proofs.leaves.+leaf_count.Tie.{close}

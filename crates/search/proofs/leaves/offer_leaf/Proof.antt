@@ -13,7 +13,7 @@ use Rattle.search.proofs.leaves.offer_leaf.Tie as tie
 use Rattle.search.proofs.leaves.offer_leaf.Reads as reads
 use Rattle.search.proofs.leaves.offer_leaf.Lts as lts
 use Rattle.candidates.proofs.offer.Reads as offer-reads
-use Rattle.pagestore.proofs.pages.read_leaf.Reads as read-leaf-reads
+use Rattle.pagestore.proofs.read_leaf.Reads as read-leaf-reads
 use Rattle.search.proofs.leaves.filled.Reads as filled-reads
 use Rattle.search.proofs.leaves.row_of.Reads as row-of-reads
 

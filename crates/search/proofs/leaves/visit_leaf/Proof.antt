@@ -7,7 +7,7 @@ use Rattle.search.proofs.leaves.visit_leaf.Statement.{statement}
 use Rattle.search.proofs.leaves.visit_leaf.Tie as tie
 use Rattle.search.proofs.leaves.visit_leaf.Reads as reads
 use Rattle.search.proofs.leaves.visit_leaf.Lts as lts
-use Rattle.pagestore.proofs.pages.in_range.Reads as in-range-reads
+use Rattle.pagestore.proofs.in_range.Reads as in-range-reads
 use Rattle.search.proofs.leaves.offer_leaf.Reads as offer-leaf-reads
 
 -- src/leaves.rt:88:8

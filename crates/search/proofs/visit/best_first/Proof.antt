@@ -12,7 +12,7 @@ use Rattle.search.proofs.visit.best_first.Reads as reads
 use Rattle.search.proofs.visit.best_first.Lts as lts
 use Rattle.candidates.proofs.exceeds.Reads as exceeds-reads
 use Rattle.heap.proofs.pop.Reads as pop-reads
-use Rattle.pagestore.proofs.pages.pages.Reads as pages-reads
+use Rattle.pagestore.proofs.page_count.Reads as page-count-reads
 use Rattle.search.proofs.frontier.bound_in.Reads as bound-in-reads
 use Rattle.search.proofs.frontier.level_in.Reads as level-in-reads
 use Rattle.search.proofs.frontier.open_page.Reads as open-page-reads
@@ -37,16 +37,16 @@ slice-write-slots : tie.Need-slice-write-slots Inv-loop μ-loop
 slice-write-slots c = let r = c .before .before .before .before .before .before .before .pre .room in omega arith
 
 -- src/visit.rt:52:25
-pages-requires : tie.Need-pages-requires Inv-loop μ-loop
-pages-requires c κs = search needs
+page-count-requires : tie.Need-page-count-requires Inv-loop μ-loop
+page-count-requires c κs = search needs
 
 -- src/visit.rt:52:21
 mul-steps : tie.Need-mul-steps Inv-loop μ-loop
-mul-steps c = let e = c .pages .ensures in let f = pages-few (now (c .before .before .before .before .before .before .before .before .args .index)) in omega arith
+mul-steps c = let e = c .page-count .ensures in let f = pages-few (now (c .before .before .before .before .before .before .before .before .args .index)) in omega arith
 
 -- src/visit.rt:53:5
 loop-holds : tie.Need-loop-holds Inv-loop μ-loop
-loop-holds c = let S = (c .before .before .before .before .before .before .before .before) in visiting-start _ _ _ _ _ _ _ _ _ (S .pre) (c .before .root-key .ensures) (c .pages .ensures)
+loop-holds c = let S = (c .before .before .before .before .before .before .before .before) in visiting-start _ _ _ _ _ _ _ _ _ (S .pre) (c .before .root-key .ensures) (c .page-count .ensures)
 
 -- src/visit.rt:54:9
 sub-steps : tie.Need-sub-steps Inv-loop μ-loop
@@ -210,7 +210,7 @@ best-first-spec =
     μ-loop
     root-key-requires
     slice-write-slots
-    pages-requires
+    page-count-requires
     mul-steps
     loop-holds
     sub-steps

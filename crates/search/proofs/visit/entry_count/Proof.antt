@@ -5,7 +5,7 @@ use Rattle.search.proofs.visit.entry_count.Statement.{statement}
 use Rattle.search.proofs.visit.entry_count.Tie as tie
 use Rattle.search.proofs.visit.entry_count.Reads as reads
 use Rattle.search.proofs.visit.entry_count.Lts as lts
-use Rattle.pagestore.proofs.pages.count_at.Reads as count-at-reads
+use Rattle.pagestore.proofs.count_at.Reads as count-at-reads
 use Rattle.search.proofs.leaves.filled.Reads as filled-reads
 
 -- src/visit.rt:40:12

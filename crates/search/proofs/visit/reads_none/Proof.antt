@@ -5,8 +5,8 @@ use Rattle.search.proofs.visit.reads_none.Statement.{statement}
 use Rattle.search.proofs.visit.reads_none.Tie as tie
 use Rattle.search.proofs.visit.reads_none.Reads as reads
 use Rattle.search.proofs.visit.reads_none.Lts as lts
-use Rattle.pagestore.proofs.header.root_level.Reads as root-level-reads
-use Rattle.pagestore.proofs.header.total_records.Reads as total-records-reads
+use Rattle.pagestore.proofs.root_level.Reads as root-level-reads
+use Rattle.pagestore.proofs.total_records.Reads as total-records-reads
 
 -- src/visit.rt:32:8
 total-records-requires : tie.Need-total-records-requires

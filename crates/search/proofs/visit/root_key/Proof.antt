@@ -5,8 +5,8 @@ use Rattle.search.proofs.visit.root_key.Statement.{statement}
 use Rattle.search.proofs.visit.root_key.Tie as tie
 use Rattle.search.proofs.visit.root_key.Reads as reads
 use Rattle.search.proofs.visit.root_key.Lts as lts
-use Rattle.pagestore.proofs.header.root_level.Reads as root-level-reads
-use Rattle.pagestore.proofs.header.root_page.Reads as root-page-reads
+use Rattle.pagestore.proofs.root_level.Reads as root-level-reads
+use Rattle.pagestore.proofs.root_page.Reads as root-page-reads
 use Rattle.search.proofs.frontier.key_of.Reads as key-of-reads
 use Rattle.search.proofs.frontier.page_of.Reads as page-of-reads
 
