@@ -1,6 +1,6 @@
 -- The examples of 01 marked P that speak of leaves hold: by the promises, they compute.
 use mathlib.Core.Path.{_≡_, refl, sym, ap, _∙_}
-use mathlib.Core.Bool.{Bool, _&&_}
+use mathlib.Core.Bool.{_&&_}
 use mathlib.Core.List.{List, [], _∷_, map}
 use Prim.Native.Nat.{ℕ, _≤_}
 use lib.Dec.{lit≤, ltb}
@@ -16,12 +16,10 @@ use Rattle.geometry.specs.Stored.{stored, pointOf, slotsOf}
 use Rattle.bestfirst.specs.Nearest.{candidates, nearest, kth, inSet}
 use Rattle.pagestore.specs.Store.{viewOf}
 use Rattle.trees.specs.Trees.{Item, keyOf, firstKey, lastKey, leavesOf}
-use Rattle.trees.specs.Sound.{SoundIndex}
-use Rattle.candidates.specs.declared.Row.{Row}
 use Rattle.search.specs.Branches.{spanBound, rowOf}
 use Rattle.search.specs.Visit.{ranking, Answer, found}
 use Rattle.search.specs.Questions.{rowsFrom, rowsOf, leafBound, toRead}
-use Rattle.search.specs.Examples.{recordNo, Seventeen, Example, Holds, examples}
+use Rattle.search.specs.Examples.{recordNo, Holds, examples}
 use Rattle.search.proofs.Promises.{found-exact}
 
 -- the two leaves

@@ -21,15 +21,14 @@ use Rattle.pagestore.specs.declared.Inner.{Inner}
 use Rattle.pagestore.specs.declared.Leaf.{Leaf}
 use Rattle.pagestore.specs.Layout.{leafOf}
 use Rattle.pagestore.specs.LayoutLaws.{leaf-slots}
-use Rattle.pagestore.specs.Store.{inRange, stretch, countAt, leafAt, innerAt, recordsIn, entriesIn}
-use Rattle.pagestore.specs.Store.PageLaws.{inner-counts, entries-slots}
+use Rattle.pagestore.specs.Store.{inRange, countAt, leafAt, innerAt, recordsIn, entriesIn}
+use Rattle.pagestore.specs.Store.PageLaws.{inner-counts, entries-slots, leaf-part, leaf-view, page-none}
 use Rattle.trees.specs.Trees.{pointIn}
 use Rattle.tree.specs.Lookup.{leafCount}
 use Rattle.candidates.specs.declared.Row.{Row}
 use Rattle.candidates.specs.Rows.{rowOrder}
 use Rattle.candidates.specs.Held.{Held}
 use Rattle.pagestore.specs.Store.RangeLaws.{range-fits}
-use Rattle.pagestore.specs.Store.StretchLaws.{stretch-out, leaf-opens}
 use Rattle.search.specs.Branches.{pageIn, rowOf}
 use Rattle.search.specs.Steps.{OfferedAll}
 
@@ -163,18 +162,18 @@ pub page-outside : (b : List ℕ) (p : ℕ) → inRange b p ≡ false → (0 ≡
 unfolding pageIn
 page-outside b p h = (rw h, omega arith)
 
--- a page's part holds its leaf
-pub offered-part : (b : List ℕ) (p : ℕ) (s q : List ℕ) (position : ℕ) (distances tags : List ℕ) (n k r : ℕ) (distances' tags' : List ℕ) → s ≡ stretch b p
-    → OfferedAll distances tags n k (map (rowOf q position) (recordsIn (leafOf s))) r distances' tags' → OfferedAll distances tags n k (map (rowOf q position) (recordsIn (leafAt b p))) r distances' tags'
-offered-part b p s q position distances tags n k r distances' tags' e h =
-    let f : leafOf s ≡ leafAt b p = ap leafOf e ∙ sym (leaf-opens b p) in
-    rw f at h
+-- the part of the index at a page holds its leaf
+pub offered-part : (b : List ℕ) (p : ℕ) (q : List ℕ) (position : ℕ) (distances tags : List ℕ) (n k r : ℕ) (distances' tags' : List ℕ) → inRange b p ≡ true
+    → OfferedAll distances tags n k (map (rowOf q position) (recordsIn (leafOf (take (p * 1024 + 1024 - p * 1024) (drop (p * 1024) b))))) r distances' tags'
+    → OfferedAll distances tags n k (map (rowOf q position) (recordsIn (leafAt b p))) r distances' tags'
+offered-part b p q position distances tags n k r distances' tags' e h =
+    rw (leaf-part b p (p * 1024 + 1024 - p * 1024) (omega arith) e) at h
 
+-- and out of range there are no records
 pub offered-outside : (b : List ℕ) (p : ℕ) (q : List ℕ) (position : ℕ) (distances tags : List ℕ) (n k : ℕ) → inRange b p ≡ false → Held distances tags n k
     → OfferedAll distances tags n k (map (rowOf q position) (recordsIn (leafAt b p))) n distances tags
-unfolding leafOf sorting.offerAll
-offered-outside b p q position distances tags n k e h =
-    rw (leaf-opens b p, stretch-out b p e) (record { held = h; rows = refl })
+unfolding sorting.offerAll
+offered-outside b p q position distances tags n k e h = rw (leaf-view b p 0 [] (page-none b p e) .records) (record { held = h; rows = refl })
 
 pub page-small : (b : List ℕ) (p : ℕ) → pageIn b p < 16384
 unfolding pageIn

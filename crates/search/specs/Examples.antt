@@ -1,8 +1,8 @@
 -- The examples of 01 that are marked P and speak of leaves, in the definitions' own terms.
 use mathlib.Core.Path.{_≡_}
 use mathlib.Core.List.{List, [], _∷_, map}
-use Prim.Native.Nat.{ℕ, zero, suc}
-use lib.IntN.{ℤ, pos}
+use Prim.Native.Nat.{ℕ}
+use lib.IntN.{pos}
 use Rattle.lists.specs.Basics.{upFrom}
 use Rattle.geometry.specs.Stored.{stored, slotsOf}
 use Rattle.pagestore.specs.declared.Record.{Record}

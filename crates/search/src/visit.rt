@@ -19,11 +19,11 @@ use crate::leaves::filled;
 use crate::leaves::visit_leaf;
 use candidates::exceeds;
 use heap::pop;
+use pagestore::count_at;
+use pagestore::page_count;
 use pagestore::root_level;
 use pagestore::root_page;
 use pagestore::total_records;
-use pagestore::count_at;
-use pagestore::page_count;
 
 // Whether nothing is read: there are no records, or the root's level is that of no sound index.
 pub fn reads_none(index: &[u8]) -> bool

@@ -1,22 +1,17 @@
+-- `page_of` meets its contract.
 use mathlib.Core.Path.{sym, _∙_}
 use denote.Ref.{now}
 use Rattle.search.proofs.LeafLaws.{page-inside, page-outside}
 use borrow.Author.Needs.{needs}
 use Rattle.search.proofs.frontier.page_of.Statement.{statement}
 use Rattle.search.proofs.frontier.page_of.Tie as tie
-use Rattle.search.proofs.frontier.page_of.Reads as reads
-use Rattle.search.proofs.frontier.page_of.Lts as lts
-use Rattle.pagestore.proofs.in_range.Reads as in-range-reads
 
--- src/frontier.rt:58:8
 in-range-requires : tie.Need-in-range-requires
 in-range-requires c κs = search needs
 
--- src/frontier.rt:55:1
 returns : tie.Need-returns
 returns c = page-inside (now (c .before .before .before .args .index)) (c .before .before .before .args .page) (sym (c .before .in-range .ensures) ∙ c .if1 .taken)
 
--- src/frontier.rt:55:1
 returns-2 : tie.Need-returns-2
 returns-2 c = page-outside (now (c .before .before .before .args .index)) (c .before .before .before .args .page) (sym (c .before .in-range .ensures) ∙ c .if1 .left)
 

@@ -1,3 +1,4 @@
+-- `leaf_count` meets its contract. The measure is the level; the sum and what is left to count are the whole count.
 use Prim.Native.Nat.{ℕ, _+_, _-_, _≤_, _<_, min}
 use mathlib.Core.Path.{_≡_}
 use native.Mathlib.Omega.{arith}
@@ -37,7 +38,6 @@ leaf-count-Inv-loop index level page inner n sum₀ i₀ sum i = (i ≤ n) × (l
 abbrev leaf-count-μ-loop : leaf-count-lts.MeasureT-loop
 leaf-count-μ-loop index level page inner n sum₀ i₀ sum i = n - i
 
--- src/leaves.rt:34:9
 leaf-count-returns : (t : ℕ) → leaf-count-lts.Need-returns (
   count-at-reads.Asked,
   count-at-reads.Learnt,
@@ -50,7 +50,6 @@ leaf-count-returns : (t : ℕ) → leaf-count-lts.Need-returns (
 ) (leaf-count-at t) leaf-count.Post leaf-count-Inv-loop leaf-count-μ-loop
 leaf-count-returns t c = count-leaf (now (c .before .before .args .index)) (c .before .before .args .level) (c .before .before .args .page) (c .if1 .taken)
 
--- src/leaves.rt:37:23
 leaf-count-count-at-requires : (t : ℕ) → leaf-count-lts.Need-count-at-requires (
   count-at-reads.Asked,
   count-at-reads.Learnt,
@@ -63,7 +62,6 @@ leaf-count-count-at-requires : (t : ℕ) → leaf-count-lts.Need-count-at-requir
 ) (leaf-count-at t) leaf-count.Post leaf-count-Inv-loop leaf-count-μ-loop
 leaf-count-count-at-requires t c κs = search needs
 
--- src/leaves.rt:37:23
 leaf-count-cast-filled : (t : ℕ) → leaf-count-lts.Need-cast-filled (
   count-at-reads.Asked,
   count-at-reads.Learnt,
@@ -76,7 +74,6 @@ leaf-count-cast-filled : (t : ℕ) → leaf-count-lts.Need-cast-filled (
 ) (leaf-count-at t) leaf-count.Post leaf-count-Inv-loop leaf-count-μ-loop
 leaf-count-cast-filled t c = search needs
 
--- src/leaves.rt:37:9
 leaf-count-filled-requires : (t : ℕ) → leaf-count-lts.Need-filled-requires (
   count-at-reads.Asked,
   count-at-reads.Learnt,
@@ -89,7 +86,6 @@ leaf-count-filled-requires : (t : ℕ) → leaf-count-lts.Need-filled-requires (
 ) (leaf-count-at t) leaf-count.Post leaf-count-Inv-loop leaf-count-μ-loop
 leaf-count-filled-requires t c κs = search needs
 
--- src/leaves.rt:37:9
 leaf-count-returns-2 : (t : ℕ) → leaf-count-lts.Need-returns-2 (
   count-at-reads.Asked,
   count-at-reads.Learnt,
@@ -102,7 +98,6 @@ leaf-count-returns-2 : (t : ℕ) → leaf-count-lts.Need-returns-2 (
 ) (leaf-count-at t) leaf-count.Post leaf-count-Inv-loop leaf-count-μ-loop
 leaf-count-returns-2 t c = count-low (now (c .before .before .before .before .before .args .index)) (c .before .before .before .before .before .args .level) (c .before .before .before .before .before .args .page) _ _ (c .before .before .if2 .taken) (c .before .count-at .ensures) (c .filled .ensures)
 
--- src/leaves.rt:39:17
 leaf-count-inner-at-requires : (t : ℕ) → leaf-count-lts.Need-inner-at-requires (
   count-at-reads.Asked,
   count-at-reads.Learnt,
@@ -115,7 +110,6 @@ leaf-count-inner-at-requires : (t : ℕ) → leaf-count-lts.Need-inner-at-requir
 ) (leaf-count-at t) leaf-count.Post leaf-count-Inv-loop leaf-count-μ-loop
 leaf-count-inner-at-requires t c κs = search needs
 
--- src/leaves.rt:40:9
 leaf-count-filled-requires-2 : (t : ℕ) → leaf-count-lts.Need-filled-requires-2 (
   count-at-reads.Asked,
   count-at-reads.Learnt,
@@ -128,7 +122,6 @@ leaf-count-filled-requires-2 : (t : ℕ) → leaf-count-lts.Need-filled-requires
 ) (leaf-count-at t) leaf-count.Post leaf-count-Inv-loop leaf-count-μ-loop
 leaf-count-filled-requires-2 t c κs = search needs
 
--- src/leaves.rt:43:5
 leaf-count-loop-holds : (t : ℕ) → leaf-count-lts.Need-loop-holds (
   count-at-reads.Asked,
   count-at-reads.Learnt,
@@ -143,7 +136,6 @@ leaf-count-loop-holds t c = let S = (c .before .before .before .before .before) 
     let e = count-start (now (S .args .index)) (S .args .level) (S .args .page) (I .result) (I .ensures) (c .filled2 .result) (c .filled2 .ensures) z in
     (omega arith, S .pre .1, z, I .ensures, c .filled2 .ensures, omega arith)
 
--- src/leaves.rt:44:21
 leaf-count-mul-entry : (t : ℕ) → leaf-count-lts.Need-mul-entry (
   count-at-reads.Asked,
   count-at-reads.Learnt,
@@ -156,7 +148,6 @@ leaf-count-mul-entry : (t : ℕ) → leaf-count-lts.Need-mul-entry (
 ) (leaf-count-at t) leaf-count.Post leaf-count-Inv-loop leaf-count-μ-loop
 leaf-count-mul-entry t c = search needs
 
--- src/leaves.rt:44:21
 leaf-count-element-copy-out-entry : (t : ℕ) → leaf-count-lts.Need-element-copy-out-entry (
   count-at-reads.Asked,
   count-at-reads.Learnt,
@@ -170,7 +161,6 @@ leaf-count-element-copy-out-entry : (t : ℕ) → leaf-count-lts.Need-element-co
 leaf-count-element-copy-out-entry t c = let S = (c .before .before .before .before .before .before .before) in let L = c .before .loop in
     let e = inner-slots (now (S .args .index)) (S .args .level) (S .args .page) _ (L .inv .3) _ (L .inv .4) in let w = L .inv .4 in omega arith
 
--- src/leaves.rt:45:34
 leaf-count-sub-leaf-count : (t : ℕ) → leaf-count-lts.Need-sub-leaf-count (
   count-at-reads.Asked,
   count-at-reads.Learnt,
@@ -183,7 +173,6 @@ leaf-count-sub-leaf-count : (t : ℕ) → leaf-count-lts.Need-sub-leaf-count (
 ) (leaf-count-at t) leaf-count.Post leaf-count-Inv-loop leaf-count-μ-loop
 leaf-count-sub-leaf-count t c = let L = c .before .before .loop in omega (arith, L .inv .2)
 
--- src/leaves.rt:45:16
 leaf-count-leaf-count-requires : (t : ℕ) → leaf-count-lts.Need-leaf-count-requires (
   count-at-reads.Asked,
   count-at-reads.Learnt,
@@ -196,7 +185,6 @@ leaf-count-leaf-count-requires : (t : ℕ) → leaf-count-lts.Need-leaf-count-re
 ) (leaf-count-at t) leaf-count.Post leaf-count-Inv-loop leaf-count-μ-loop
 leaf-count-leaf-count-requires t c κs = let S = (c .before .before .before .before .before .before .before .before) in let L = c .before .before .loop in let w = S .pre .0 in (omega (arith, L .inv .2), omega arith)
 
--- src/leaves.rt:45:9
 leaf-count-add-sum : (t : ℕ) → leaf-count-lts.Need-add-sum (
   count-at-reads.Asked,
   count-at-reads.Learnt,
@@ -211,7 +199,6 @@ leaf-count-add-sum t c = let S = (c .before .before .before .before .before .bef
     let e = count-next (now (S .args .index)) (S .args .level) (S .args .page) _ (L .inv .3) _ (L .inv .4) (S .args .level - 1) (L .i) (L .sum) _ _ _ (c .before .before .loop-test .taken) (c .leaf-count .ensures .0) (L .inv .5) in
     let m = laws.count-fits (S .args .level) (now (S .args .index)) (S .args .page) (L .inv .1) in omega arith
 
--- src/leaves.rt:46:9
 leaf-count-add-i : (t : ℕ) → leaf-count-lts.Need-add-i (
   count-at-reads.Asked,
   count-at-reads.Learnt,
@@ -224,7 +211,6 @@ leaf-count-add-i : (t : ℕ) → leaf-count-lts.Need-add-i (
 ) (leaf-count-at t) leaf-count.Post leaf-count-Inv-loop leaf-count-μ-loop
 leaf-count-add-i t c = search needs
 
--- src/leaves.rt:43:5
 leaf-count-loop-less : (t : ℕ) → leaf-count-lts.Need-loop-less (
   count-at-reads.Asked,
   count-at-reads.Learnt,
@@ -237,7 +223,6 @@ leaf-count-loop-less : (t : ℕ) → leaf-count-lts.Need-loop-less (
 ) (leaf-count-at t) leaf-count.Post leaf-count-Inv-loop leaf-count-μ-loop
 leaf-count-loop-less t c = search needs
 
--- src/leaves.rt:43:5
 leaf-count-loop-again : (t : ℕ) → leaf-count-lts.Need-loop-again (
   count-at-reads.Asked,
   count-at-reads.Learnt,
@@ -252,7 +237,6 @@ leaf-count-loop-again t c = let S = (c .before .before .before .before .before .
     let e = count-next (now (S .args .index)) (S .args .level) (S .args .page) _ (L .inv .3) _ (L .inv .4) (S .args .level - 1) (L .i) (L .sum) _ _ _ (c .before .before .loop-test .taken) (c .leaf-count .ensures .0) (L .inv .5) in
     (omega arith, L .inv .1, L .inv .2, L .inv .3, L .inv .4, e)
 
--- src/leaves.rt:29:1
 leaf-count-returns-3 : (t : ℕ) → leaf-count-lts.Need-returns-3 (
   count-at-reads.Asked,
   count-at-reads.Learnt,

@@ -1,3 +1,4 @@
+-- `offer_leaf`: the invariant says what offering the records still to come makes of the rows.
 use Prim.Native.Nat.{_-_, _≤_, min}
 use mathlib.Core.Path.{_≡_, refl, sym, _∙_}
 use native.Mathlib.Omega.{arith}
@@ -10,12 +11,6 @@ use Rattle.candidates.specs.Held.{rowsIn, Held}
 use Rattle.search.proofs.LeafLaws.{offersFrom, offers-next, offers-end, offers-all}
 use Rattle.search.proofs.leaves.offer_leaf.Statement.{statement}
 use Rattle.search.proofs.leaves.offer_leaf.Tie as tie
-use Rattle.search.proofs.leaves.offer_leaf.Reads as reads
-use Rattle.search.proofs.leaves.offer_leaf.Lts as lts
-use Rattle.candidates.proofs.offer.Reads as offer-reads
-use Rattle.pagestore.proofs.read_leaf.Reads as read-leaf-reads
-use Rattle.search.proofs.leaves.filled.Reads as filled-reads
-use Rattle.search.proofs.leaves.row_of.Reads as row-of-reads
 
 abbrev Inv-loop : tie.InvT-loop
 Inv-loop page q position distances₀ tags₀ n k leaf count rows₀ i₀ distances tags rows i = (i ≤ count) × (leaf ≡ leafOf page) × (count ≡ min (leaf .count) 16) × (length q ≤ 16) × (length distances ≡ length distances₀) × (length tags ≡ length tags₀) × Held distances tags rows k
@@ -24,43 +19,33 @@ Inv-loop page q position distances₀ tags₀ n k leaf count rows₀ i₀ distan
 abbrev μ-loop : tie.MeasureT-loop
 μ-loop page q position distances₀ tags₀ n k leaf count rows₀ i₀ distances tags rows i = count - i
 
--- src/leaves.rt:71:16
 read-leaf-requires : tie.Need-read-leaf-requires Inv-loop μ-loop
 read-leaf-requires c κs = c .before .before .before .before .pre .0
 
--- src/leaves.rt:72:9
 filled-requires : tie.Need-filled-requires Inv-loop μ-loop
 filled-requires c κs = tt
 
--- src/leaves.rt:75:5
 loop-holds : tie.Need-loop-holds Inv-loop μ-loop
 loop-holds c = let S = (c .before .before .before .before .before .before) in (omega arith, c .before .read-leaf .ensures, c .filled .ensures, S .pre .1, refl, refl, S .pre .2, refl)
 
--- src/leaves.rt:76:39
 mul-row-of : tie.Need-mul-row-of Inv-loop μ-loop
 mul-row-of c = search needs
 
--- src/leaves.rt:76:39
 element-copy-out-row-of : tie.Need-element-copy-out-row-of Inv-loop μ-loop
 element-copy-out-row-of c = let w = c .before .loop .inv .2 in omega arith
 
--- src/leaves.rt:76:13
 row-of-requires : tie.Need-row-of-requires Inv-loop μ-loop
 row-of-requires c κs = c .before .before .loop .inv .3
 
--- src/leaves.rt:77:9
 offer-requires : tie.Need-offer-requires Inv-loop μ-loop
 offer-requires c κs = c .before .before .before .before .before .loop .inv .6
 
--- src/leaves.rt:78:9
 add-i : tie.Need-add-i Inv-loop μ-loop
 add-i c = search needs
 
--- src/leaves.rt:75:5
 loop-less : tie.Need-loop-less Inv-loop μ-loop
 loop-less c = search needs
 
--- src/leaves.rt:75:5
 loop-again : tie.Need-loop-again Inv-loop μ-loop
 loop-again c = let S = (c .before .before .before .before .before .before .before .before .before .before .before .before .before .before .before .before .before) in let L = c .before .before .before .before .before .before .before .before .before .before .loop in let O = c .before .before .before .before .offer in let R = c .before .before .before .before .before .before .before .row-of in (
   omega arith,
@@ -73,15 +58,12 @@ loop-again c = let S = (c .before .before .before .before .before .before .befor
   offers-next (now (S .args .page)) (now (S .args .q)) (S .args .position) (S .args .k) _ (L .inv .1) _ (L .inv .2) (L .i) _ _ _ _ (c .before .before .before .before .before .before .before .before .before .loop-test .taken) (R .ensures) (O .ensures .rows) ∙ L .inv .7,
 )
 
--- src/leaves.rt:67:1
 same-length : tie.Need-same-length Inv-loop μ-loop
 same-length c = c .before .loop .inv .4
 
--- src/leaves.rt:67:1
 same-length-2 : tie.Need-same-length-2 Inv-loop μ-loop
 same-length-2 c = c .before .loop .inv .5
 
--- src/leaves.rt:67:1
 returns : tie.Need-returns Inv-loop μ-loop
 returns c = let S = (c .before .before .before .before .before .before .before .before) in let L = c .before .loop in
     record {

@@ -1,3 +1,4 @@
+-- `row_of` meets its contract: only as many coordinates count as the asked point has.
 use mathlib.Core.Path.{_≡_}
 use native.Mathlib.Omega.{arith}
 use denote.Ref.{now}
@@ -7,19 +8,13 @@ use Rattle.search.proofs.LeafLaws.{row-is}
 use borrow.Author.Needs.{needs}
 use Rattle.search.proofs.leaves.row_of.Statement.{statement}
 use Rattle.search.proofs.leaves.row_of.Tie as tie
-use Rattle.search.proofs.leaves.row_of.Reads as reads
-use Rattle.search.proofs.leaves.row_of.Lts as lts
-use Rattle.geometry.proofs.points.squared_distance.Reads as squared-distance-reads
 
--- src/leaves.rt:57:40
 slice-aggregate-squared-distance : tie.Need-slice-aggregate-squared-distance
 slice-aggregate-squared-distance c = search needs
 
--- src/leaves.rt:57:9
 squared-distance-requires : tie.Need-squared-distance-requires
 squared-distance-requires c κs = let S = (c .before .before .before) in let slots : length (S .args .x .coords) ≡ 16 = search (unmapped, needs) in let m = S .pre in (m, omega arith)
 
--- src/leaves.rt:52:1
 returns : tie.Need-returns
 returns c = let S = (c .before .before .before .before) in row-is (now (S .args .q)) (S .args .position) (S .args .x) _ (c .squared-distance .ensures)
 

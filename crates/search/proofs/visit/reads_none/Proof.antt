@@ -1,26 +1,19 @@
+-- `reads_none` meets its contract.
 use denote.Ref.{now}
 use Rattle.search.proofs.AnswerLaws.{none-total, none-level}
 use borrow.Author.Needs.{needs}
 use Rattle.search.proofs.visit.reads_none.Statement.{statement}
 use Rattle.search.proofs.visit.reads_none.Tie as tie
-use Rattle.search.proofs.visit.reads_none.Reads as reads
-use Rattle.search.proofs.visit.reads_none.Lts as lts
-use Rattle.pagestore.proofs.root_level.Reads as root-level-reads
-use Rattle.pagestore.proofs.total_records.Reads as total-records-reads
 
--- src/visit.rt:32:8
 total-records-requires : tie.Need-total-records-requires
 total-records-requires c κs = search needs
 
--- src/visit.rt:33:9
 returns : tie.Need-returns
 returns c = none-total (now (c .before .before .before .args .index)) _ (c .before .total-records .ensures) (c .if1 .taken)
 
--- src/visit.rt:35:9
 root-level-requires : tie.Need-root-level-requires
 root-level-requires c κs = search needs
 
--- src/visit.rt:29:1
 returns-2 : tie.Need-returns-2
 returns-2 c = none-level (now (c .before .before .before .before .args .index)) _ _ (c .before .before .total-records .ensures) (c .before .if1 .left) (c .root-level .ensures)
 
