@@ -1,0 +1,42 @@
+-- What the search returns, from what the visit leaves.
+use mathlib.Core.Path.{_≡_, sym, _∙_}
+use mathlib.Core.Bool.{Bool, true, false, _||_}
+use mathlib.Core.List.{List, []}
+use Prim.Native.Nat.{ℕ, _≤_}
+use native.Mathlib.Omega.{arith}
+use lib.Dec.{eqb, ltb}
+use borrow.Author.Tests.{eq-eqb, ne-eqb, ltb-false}
+use Rattle.pagestore.specs.Store.{total, level, fieldAt}
+use Rattle.search.specs.declared.Found.{Found}
+use Rattle.search.specs.Visit.{answerOf, visited, readsNone, found}
+use Rattle.search.specs.Steps.{answerIn, Searched}
+use Rattle.search.proofs.Promises.{found-exact, unread-bytes}
+
+pub none-total : (b : List ℕ) (n : ℕ) → n ≡ fieldAt total b → n ≡ 0 → true ≡ readsNone b
+unfolding readsNone
+none-total b n e z = rw (eq-eqb (fieldAt total b) 0 (sym e ∙ z))
+
+pub none-level : (b : List ℕ) (n l : ℕ) → n ≡ fieldAt total b → (n ≡ 0 → ⊥) → l ≡ fieldAt level b → ltb 4 l ≡ readsNone b
+unfolding readsNone
+none-level b n l e z f = rw (ne-eqb (fieldAt total b) 0 (λ w. z (e ∙ w)), f)
+
+-- where something is read, the root's level is 4 at most
+pub level-low : (b : List ℕ) → readsNone b ≡ false → fieldAt level b ≤ 4
+unfolding readsNone
+level-low b e = by (eqb (fieldAt total b) 0) e
+  where
+    by : (t : Bool) → t || ltb 4 (fieldAt level b) ≡ false → fieldAt level b ≤ 4
+    by true e = absurd (let z : _≡_ {A = ℕ} 0 1 = cc in omega arith)
+    by false e = ltb-false 4 (fieldAt level b) e
+
+pub answer-none : (b q : List ℕ) (k : ℕ) → readsNone b ≡ true → record { rows = []; leaves = 0 } ≡ found b q k
+unfolding found
+answer-none b q k e = rw e
+
+pub answer-some : (b q : List ℕ) (k : ℕ) → readsNone b ≡ false → answerOf (visited b q k) ≡ found b q k
+unfolding found
+answer-some b q k e = rw e
+
+pub searched : (b q : List ℕ) (k : ℕ) (r : Found) → 1 ≤ k → r .rows ≤ k → answerIn r ≡ found b q k → Searched b q k r
+searched b q k r one few e =
+    record { answer = e; few = few; sound = λ c s same agree. e ∙ unread-bytes c s q same k one b agree ∙ found-exact c s q same k one }

@@ -1,0 +1,11 @@
+pub mod RecordLaws
+pub mod FrameLaws
+pub mod DescentLaws
+pub mod SoundLaws
+pub mod Promises
+pub mod LeafLaws
+pub mod KeyLaws
+pub mod OpenLaws
+pub mod TurnLaws
+pub mod AnswerLaws
+pub mod ExampleLaws

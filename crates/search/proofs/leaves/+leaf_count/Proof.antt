@@ -1,0 +1,286 @@
+-- `leaf_count` meets its contract. The measure is the level; the sum and what is left to count are the whole count.
+use Prim.Native.Nat.{ℕ, _+_, _-_, _≤_, _<_, min}
+use mathlib.Core.Path.{_≡_}
+use native.Mathlib.Omega.{arith}
+use denote.Ref.{now}
+use borrow.Author.Needs.{needs}
+use Rattle.pagestore.specs.Store.{innerAt, entriesIn}
+use Rattle.pagestore.specs.Store.PageLaws.{count-fits}
+use Rattle.tree.specs.Lookup.{leafCount}
+use Rattle.search.proofs.LeafLaws.{countFrom, count-most, count-leaf, count-low, inner-slots, count-start, count-next, count-end}
+use Rattle.search.proofs.LeafLaws as laws
+use Prim.Native.Nat.{ℕ, _<_}
+use borrow.Fn.Kinds.{In}
+use borrow.Fn.PlainCycle.{Measures, is, falls, and}
+use Rattle.search.proofs.leaves.leaf_count.Reads as leaf-count
+use Rattle.search.proofs.leaves.leaf_count.Kinds as leaf-count-kinds
+use Rattle.search.proofs.leaves.+leaf_count.Lts-leaf_count as leaf-count-lts
+use Rattle.pagestore.proofs.count_at.Reads as count-at-reads
+use Rattle.pagestore.proofs.inner_at.Reads as inner-at-reads
+use Rattle.search.proofs.leaves.filled.Reads as filled-reads
+use Rattle.search.proofs.leaves.+leaf_count.{statement}
+use Rattle.search.proofs.leaves.+leaf_count.Tie.{close}
+
+abbrev μ-leaf-count : Measures 1 leaf-count-kinds.ps ℕ
+μ-leaf-count κs a = a .1 .0
+
+abbrev leaf-count-at : ℕ → In 1 leaf-count-kinds.ps
+leaf-count-at t =
+    and 1 leaf-count-kinds.ps (is 1 leaf-count-kinds.ps μ-leaf-count t) leaf-count.Pre
+
+abbrev leaf-count-below : ℕ → In 1 leaf-count-kinds.ps
+leaf-count-below t =
+    and 1 leaf-count-kinds.ps (falls 1 leaf-count-kinds.ps _<_ μ-leaf-count t) leaf-count.Pre
+
+abbrev leaf-count-Inv-loop : leaf-count-lts.InvT-loop
+leaf-count-Inv-loop index level page inner n sum₀ i₀ sum i = (i ≤ n) × (level ≤ 4) × (level ≡ 0 → ⊥) × (inner ≡ innerAt index page) × (n ≡ min (inner .count) 16) × (sum + countFrom (level - 1) index (entriesIn inner) i ≡ leafCount level index page)
+
+abbrev leaf-count-μ-loop : leaf-count-lts.MeasureT-loop
+leaf-count-μ-loop index level page inner n sum₀ i₀ sum i = n - i
+
+leaf-count-returns : (t : ℕ) → leaf-count-lts.Need-returns (
+  count-at-reads.Asked,
+  count-at-reads.Learnt,
+  filled-reads.Asked,
+  filled-reads.Learnt,
+  inner-at-reads.Asked,
+  inner-at-reads.Learnt,
+  leaf-count-below t,
+  leaf-count.Post,
+) (leaf-count-at t) leaf-count.Post leaf-count-Inv-loop leaf-count-μ-loop
+leaf-count-returns t c = count-leaf (now (c .before .before .args .index)) (c .before .before .args .level) (c .before .before .args .page) (c .if1 .taken)
+
+leaf-count-count-at-requires : (t : ℕ) → leaf-count-lts.Need-count-at-requires (
+  count-at-reads.Asked,
+  count-at-reads.Learnt,
+  filled-reads.Asked,
+  filled-reads.Learnt,
+  inner-at-reads.Asked,
+  inner-at-reads.Learnt,
+  leaf-count-below t,
+  leaf-count.Post,
+) (leaf-count-at t) leaf-count.Post leaf-count-Inv-loop leaf-count-μ-loop
+leaf-count-count-at-requires t c κs = search needs
+
+leaf-count-cast-filled : (t : ℕ) → leaf-count-lts.Need-cast-filled (
+  count-at-reads.Asked,
+  count-at-reads.Learnt,
+  filled-reads.Asked,
+  filled-reads.Learnt,
+  inner-at-reads.Asked,
+  inner-at-reads.Learnt,
+  leaf-count-below t,
+  leaf-count.Post,
+) (leaf-count-at t) leaf-count.Post leaf-count-Inv-loop leaf-count-μ-loop
+leaf-count-cast-filled t c = search needs
+
+leaf-count-filled-requires : (t : ℕ) → leaf-count-lts.Need-filled-requires (
+  count-at-reads.Asked,
+  count-at-reads.Learnt,
+  filled-reads.Asked,
+  filled-reads.Learnt,
+  inner-at-reads.Asked,
+  inner-at-reads.Learnt,
+  leaf-count-below t,
+  leaf-count.Post,
+) (leaf-count-at t) leaf-count.Post leaf-count-Inv-loop leaf-count-μ-loop
+leaf-count-filled-requires t c κs = search needs
+
+leaf-count-returns-2 : (t : ℕ) → leaf-count-lts.Need-returns-2 (
+  count-at-reads.Asked,
+  count-at-reads.Learnt,
+  filled-reads.Asked,
+  filled-reads.Learnt,
+  inner-at-reads.Asked,
+  inner-at-reads.Learnt,
+  leaf-count-below t,
+  leaf-count.Post,
+) (leaf-count-at t) leaf-count.Post leaf-count-Inv-loop leaf-count-μ-loop
+leaf-count-returns-2 t c = count-low (now (c .before .before .before .before .before .args .index)) (c .before .before .before .before .before .args .level) (c .before .before .before .before .before .args .page) _ _ (c .before .before .if2 .taken) (c .before .count-at .ensures) (c .filled .ensures)
+
+leaf-count-inner-at-requires : (t : ℕ) → leaf-count-lts.Need-inner-at-requires (
+  count-at-reads.Asked,
+  count-at-reads.Learnt,
+  filled-reads.Asked,
+  filled-reads.Learnt,
+  inner-at-reads.Asked,
+  inner-at-reads.Learnt,
+  leaf-count-below t,
+  leaf-count.Post,
+) (leaf-count-at t) leaf-count.Post leaf-count-Inv-loop leaf-count-μ-loop
+leaf-count-inner-at-requires t c κs = search needs
+
+leaf-count-filled-requires-2 : (t : ℕ) → leaf-count-lts.Need-filled-requires-2 (
+  count-at-reads.Asked,
+  count-at-reads.Learnt,
+  filled-reads.Asked,
+  filled-reads.Learnt,
+  inner-at-reads.Asked,
+  inner-at-reads.Learnt,
+  leaf-count-below t,
+  leaf-count.Post,
+) (leaf-count-at t) leaf-count.Post leaf-count-Inv-loop leaf-count-μ-loop
+leaf-count-filled-requires-2 t c κs = search needs
+
+leaf-count-loop-holds : (t : ℕ) → leaf-count-lts.Need-loop-holds (
+  count-at-reads.Asked,
+  count-at-reads.Learnt,
+  filled-reads.Asked,
+  filled-reads.Learnt,
+  inner-at-reads.Asked,
+  inner-at-reads.Learnt,
+  leaf-count-below t,
+  leaf-count.Post,
+) (leaf-count-at t) leaf-count.Post leaf-count-Inv-loop leaf-count-μ-loop
+leaf-count-loop-holds t c = let S = (c .before .before .before .before .before) in let I = c .before .inner-at in let z = c .before .before .before .if1 .left in
+    let e = count-start (now (S .args .index)) (S .args .level) (S .args .page) (I .result) (I .ensures) (c .filled2 .result) (c .filled2 .ensures) z in
+    (omega arith, S .pre .1, z, I .ensures, c .filled2 .ensures, omega arith)
+
+leaf-count-mul-entry : (t : ℕ) → leaf-count-lts.Need-mul-entry (
+  count-at-reads.Asked,
+  count-at-reads.Learnt,
+  filled-reads.Asked,
+  filled-reads.Learnt,
+  inner-at-reads.Asked,
+  inner-at-reads.Learnt,
+  leaf-count-below t,
+  leaf-count.Post,
+) (leaf-count-at t) leaf-count.Post leaf-count-Inv-loop leaf-count-μ-loop
+leaf-count-mul-entry t c = search needs
+
+leaf-count-element-copy-out-entry : (t : ℕ) → leaf-count-lts.Need-element-copy-out-entry (
+  count-at-reads.Asked,
+  count-at-reads.Learnt,
+  filled-reads.Asked,
+  filled-reads.Learnt,
+  inner-at-reads.Asked,
+  inner-at-reads.Learnt,
+  leaf-count-below t,
+  leaf-count.Post,
+) (leaf-count-at t) leaf-count.Post leaf-count-Inv-loop leaf-count-μ-loop
+leaf-count-element-copy-out-entry t c = let S = (c .before .before .before .before .before .before .before) in let L = c .before .loop in
+    let e = inner-slots (now (S .args .index)) (S .args .level) (S .args .page) _ (L .inv .3) _ (L .inv .4) in let w = L .inv .4 in omega arith
+
+leaf-count-sub-leaf-count : (t : ℕ) → leaf-count-lts.Need-sub-leaf-count (
+  count-at-reads.Asked,
+  count-at-reads.Learnt,
+  filled-reads.Asked,
+  filled-reads.Learnt,
+  inner-at-reads.Asked,
+  inner-at-reads.Learnt,
+  leaf-count-below t,
+  leaf-count.Post,
+) (leaf-count-at t) leaf-count.Post leaf-count-Inv-loop leaf-count-μ-loop
+leaf-count-sub-leaf-count t c = let L = c .before .before .loop in omega (arith, L .inv .2)
+
+leaf-count-leaf-count-requires : (t : ℕ) → leaf-count-lts.Need-leaf-count-requires (
+  count-at-reads.Asked,
+  count-at-reads.Learnt,
+  filled-reads.Asked,
+  filled-reads.Learnt,
+  inner-at-reads.Asked,
+  inner-at-reads.Learnt,
+  leaf-count-below t,
+  leaf-count.Post,
+) (leaf-count-at t) leaf-count.Post leaf-count-Inv-loop leaf-count-μ-loop
+leaf-count-leaf-count-requires t c κs = let S = (c .before .before .before .before .before .before .before .before) in let L = c .before .before .loop in let w = S .pre .0 in (omega (arith, L .inv .2), omega arith)
+
+leaf-count-add-sum : (t : ℕ) → leaf-count-lts.Need-add-sum (
+  count-at-reads.Asked,
+  count-at-reads.Learnt,
+  filled-reads.Asked,
+  filled-reads.Learnt,
+  inner-at-reads.Asked,
+  inner-at-reads.Learnt,
+  leaf-count-below t,
+  leaf-count.Post,
+) (leaf-count-at t) leaf-count.Post leaf-count-Inv-loop leaf-count-μ-loop
+leaf-count-add-sum t c = let S = (c .before .before .before .before .before .before .before .before .before) in let L = c .before .before .before .loop in
+    let e = count-next (now (S .args .index)) (S .args .level) (S .args .page) _ (L .inv .3) _ (L .inv .4) (S .args .level - 1) (L .i) (L .sum) _ _ _ (c .before .before .loop-test .taken) (c .leaf-count .ensures .0) (L .inv .5) in
+    let m = laws.count-fits (S .args .level) (now (S .args .index)) (S .args .page) (L .inv .1) in omega arith
+
+leaf-count-add-i : (t : ℕ) → leaf-count-lts.Need-add-i (
+  count-at-reads.Asked,
+  count-at-reads.Learnt,
+  filled-reads.Asked,
+  filled-reads.Learnt,
+  inner-at-reads.Asked,
+  inner-at-reads.Learnt,
+  leaf-count-below t,
+  leaf-count.Post,
+) (leaf-count-at t) leaf-count.Post leaf-count-Inv-loop leaf-count-μ-loop
+leaf-count-add-i t c = search needs
+
+leaf-count-loop-less : (t : ℕ) → leaf-count-lts.Need-loop-less (
+  count-at-reads.Asked,
+  count-at-reads.Learnt,
+  filled-reads.Asked,
+  filled-reads.Learnt,
+  inner-at-reads.Asked,
+  inner-at-reads.Learnt,
+  leaf-count-below t,
+  leaf-count.Post,
+) (leaf-count-at t) leaf-count.Post leaf-count-Inv-loop leaf-count-μ-loop
+leaf-count-loop-less t c = search needs
+
+leaf-count-loop-again : (t : ℕ) → leaf-count-lts.Need-loop-again (
+  count-at-reads.Asked,
+  count-at-reads.Learnt,
+  filled-reads.Asked,
+  filled-reads.Learnt,
+  inner-at-reads.Asked,
+  inner-at-reads.Learnt,
+  leaf-count-below t,
+  leaf-count.Post,
+) (leaf-count-at t) leaf-count.Post leaf-count-Inv-loop leaf-count-μ-loop
+leaf-count-loop-again t c = let S = (c .before .before .before .before .before .before .before .before .before) in let L = c .before .before .before .loop in
+    let e = count-next (now (S .args .index)) (S .args .level) (S .args .page) _ (L .inv .3) _ (L .inv .4) (S .args .level - 1) (L .i) (L .sum) _ _ _ (c .before .before .loop-test .taken) (c .leaf-count .ensures .0) (L .inv .5) in
+    (omega arith, L .inv .1, L .inv .2, L .inv .3, L .inv .4, e)
+
+leaf-count-returns-3 : (t : ℕ) → leaf-count-lts.Need-returns-3 (
+  count-at-reads.Asked,
+  count-at-reads.Learnt,
+  filled-reads.Asked,
+  filled-reads.Learnt,
+  inner-at-reads.Asked,
+  inner-at-reads.Learnt,
+  leaf-count-below t,
+  leaf-count.Post,
+) (leaf-count-at t) leaf-count.Post leaf-count-Inv-loop leaf-count-μ-loop
+leaf-count-returns-3 t c = let S = (c .before .before .before .before .before .before .before) in let L = c .before .loop in
+    let e = count-end (now (S .args .index)) (S .args .level) (S .args .page) _ (L .inv .3) _ (L .inv .4) (S .args .level - 1) (L .i) (omega arith) in
+    let m = count-most (S .args .level) (now (S .args .index)) (S .args .page) in
+    let v = L .inv .5 in (omega arith, omega arith)
+
+pub +leaf-count-spec : {M : Type 1} → statement M
++leaf-count-spec = close μ-leaf-count λ t. leaf-count-lts.spec (
+  count-at-reads.Asked,
+  count-at-reads.Learnt,
+  filled-reads.Asked,
+  filled-reads.Learnt,
+  inner-at-reads.Asked,
+  inner-at-reads.Learnt,
+  leaf-count-below t,
+  leaf-count.Post,
+)
+    (leaf-count-at t)
+    leaf-count.Post
+    leaf-count-Inv-loop
+    leaf-count-μ-loop
+    (leaf-count-returns t)
+    (leaf-count-count-at-requires t)
+    (leaf-count-cast-filled t)
+    (leaf-count-filled-requires t)
+    (leaf-count-returns-2 t)
+    (leaf-count-inner-at-requires t)
+    (leaf-count-filled-requires-2 t)
+    (leaf-count-loop-holds t)
+    (leaf-count-mul-entry t)
+    (leaf-count-element-copy-out-entry t)
+    (leaf-count-sub-leaf-count t)
+    (leaf-count-leaf-count-requires t)
+    (leaf-count-add-sum t)
+    (leaf-count-add-i t)
+    (leaf-count-loop-less t)
+    (leaf-count-loop-again t)
+    (leaf-count-returns-3 t)

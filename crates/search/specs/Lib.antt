@@ -1,0 +1,6 @@
+pub mod Branches
+pub mod Visit
+pub mod Questions
+pub mod Keys
+pub mod Steps
+pub mod Examples

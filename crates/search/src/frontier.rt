@@ -1,0 +1,123 @@
+// The frontier: keys of branches in a heap.
+ghost use mathlib.Core.Path.{_≡_};
+ghost use Prim.Native.Nat.{_/_, _%_, _<_, _≤_};
+ghost use Rattle.search.specs.Branches.{spanBound, pageIn, branchOf};
+ghost use Rattle.search.specs.Keys.{boundIn, placeIn, levelIn, numberIn, keyOf};
+ghost use Rattle.search.specs.Steps.{Asked, Heights, Opens, Opened};
+use crate::leaves::filled;
+use crate::leaves::leaf_count;
+use geometry::Key;
+use geometry::Pair;
+use geometry::bounds::bound;
+use heap::push;
+use pagestore::Entry;
+use pagestore::in_range;
+use pagestore::inner_at;
+
+// The branch of a key, field by field.
+pub fn bound_in(key: u64) -> u64
+    ensures { λ r. ⌜ r ≡ boundIn key ⌝ }
+{
+    key / 16384 / 8 / 65536
+}
+
+pub fn place_in(key: u64) -> u32
+    ensures { λ r. ⌜ r ≡ placeIn key ⌝ }
+{
+    (key / 16384 / 8 % 65536) as u32
+}
+
+pub fn level_in(key: u64) -> usize
+    requires { ⌜ key / 16384 % 8 ≤ 4 ⌝ }
+    ensures { λ r. ⌜ r ≡ levelIn key ⌝ }
+{
+    (4 - key / 16384 % 8) as usize
+}
+
+pub fn page_in(key: u64) -> u32
+    ensures { λ r. ⌜ r ≡ numberIn key ⌝ }
+{
+    (key % 16384) as u32
+}
+
+// The key of a branch.
+pub fn key_of(bound: u64, place: usize, level: usize, page: u32) -> u64
+    requires { ⌜ (bound < 67108864) × (place < 65536) × (level ≤ 4) × (page < 16384) ⌝ }
+    ensures { λ r. ⌜ r ≡ keyOf (record { bound = bound; place = place; level = level; page = page }) ⌝ }
+{
+    let upper = (bound * 65536 + place as u64) * 8 + (4 - level as u64);
+    upper * 16384 + page as u64
+}
+
+// A page of the index, or 0.
+pub fn page_of(index: &[u8], page: u32) -> u32
+    ensures { λ r. ⌜ (r ≡ pageIn (now (index .entry)) page) × (r < 16384) ⌝ }
+{
+    if in_range(index, page) { page } else { 0 }
+}
+
+// The pair of a key.
+fn pair_of(key: Key) -> Pair
+    ensures { λ r. ⌜ (r .pyramid .0 ≡ key .pyramid .0) × (r .height .0 ≡ key .height .0) ⌝ }
+{
+    let pyramid = key.pyramid;
+    let height = key.height;
+    Pair { pyramid, height }
+}
+
+// The bound of an entry's span.
+fn span_bound(q: &[u16], heights: &[u16], entry: Entry) -> u64
+    requires { ⌜ Asked (now q) × Heights (now q) (now heights) ⌝ }
+    ensures { λ r. ⌜ (r ≡ spanBound (now (q .entry)) (entry .first) (entry .last)) × (r < 67108864) ⌝ }
+{
+    let first = pair_of(entry.first);
+    let last = pair_of(entry.last);
+    bound(q, heights, first, last)
+}
+
+// The key of the branch of an entry, whose child has a level and whose first leaf a place.
+fn entry_key(
+    index: &[u8],
+    q: &[u16],
+    heights: &[u16],
+    entry: Entry,
+    level: usize,
+    place: usize,
+) -> u64
+    requires { ⌜ Asked (now q) × Heights (now q) (now heights) × (level ≤ 4) × (place < 65536) ⌝ }
+    ensures { λ r. ⌜ r ≡ keyOf (branchOf (now (index .entry)) (now (q .entry)) level place entry) ⌝ }
+{
+    let bound = span_bound(q, heights, entry);
+    let page = page_of(index, entry.child);
+    key_of(bound, place, level, page)
+}
+
+// Opens an inner page: puts the branches of its entries into the frontier of n branches. Their children have a level, and
+// their first leaf a place.
+pub fn open_page(
+    slots: &mut [u64],
+    n: usize,
+    index: &[u8],
+    q: &[u16],
+    heights: &[u16],
+    level: usize,
+    place: usize,
+    page: u32,
+) -> usize
+    requires { ⌜ Opens (now slots) n (now index) (now q) (now heights) level place page ⌝ }
+    ensures { λ r. ⌜ Opened (now (slots .entry)) n (now (index .entry)) (now (q .entry)) level place page r (now (slots .exit)) ⌝ }
+{
+    let inner = inner_at(index, page);
+    let count = filled(inner.count);
+    let mut held = n;
+    let mut at = place;
+    let mut i = 0;
+    while i < count {
+        let entry = inner.entries[i];
+        let key = entry_key(index, q, heights, entry, level, at);
+        held = push(slots, held, key);
+        at += leaf_count(index, level, entry.child);
+        i += 1;
+    }
+    held
+}

@@ -1,0 +1,67 @@
+// The search by itself: from a lent index and what was asked to the nearest rows and the number of leaves read. It assumes
+// nothing of the bytes: on any of them it ends, after at most twice as many steps as there are pages.
+// Best first (01, "A question"): a heap holds branches, pages of every level, by bound, position of the first leaf, level
+// from the highest on, and page. The first one is taken until its bound exceeds the k-th distance: an inner page gives its
+// entries to the heap, a leaf page is handed to the one function that reads leaf pages.
+ghost use Prim.Native.Nat.{_≤_};
+ghost use Rattle.search.specs.Steps.{Asked, Searched};
+use crate::visit::best_first;
+use crate::visit::reads_none;
+use geometry::bounds::nearest_heights;
+
+mod frontier;
+mod leaves;
+mod visit;
+
+// What is asked, apart from the point.
+pub struct Query {
+    pub k: usize,
+}
+
+// What a visit leaves: the number of rows held, and the number of leaves read.
+pub struct Seen {
+    pub rows: usize,
+    pub leaves: u32,
+}
+
+// What a search returns: the rows, as their distances and tags, and the number of leaves read.
+pub struct Found {
+    pub rows: usize,
+    pub leaves: u32,
+    pub distances: [u64; 64],
+    pub tags: [u64; 64],
+}
+
+// The k nearest of the index's records to the asked point, whose coordinates are as stored, and the number of leaves read.
+pub fn search(index: &[u8], q: &[u16], query: Query) -> Found
+    requires { ⌜ Asked (now q) × (1 ≤ query .k) × (query .k ≤ 64) ⌝ }
+    ensures { λ r. ⌜ Searched (now (index .entry)) (now (q .entry)) (query .k) r ⌝ }
+{
+    let mut distances = [0u64; 64];
+    let mut tags = [0u64; 64];
+    if reads_none(index) {
+        return Found {
+            rows: 0,
+            leaves: 0,
+            distances: distances,
+            tags: tags,
+        };
+    }
+    let heights = nearest_heights(q);
+    let mut slots = [0u64; 8192];
+    let seen = best_first(
+        index,
+        q,
+        &heights,
+        query.k,
+        &mut slots,
+        &mut distances,
+        &mut tags,
+    );
+    Found {
+        rows: seen.rows,
+        leaves: seen.leaves,
+        distances: distances,
+        tags: tags,
+    }
+}

@@ -1,0 +1,109 @@
+// The visit, best first.
+ghost use mathlib.Core.Path.{_≡_};
+ghost use Prim.Native.Nat.{_≤_};
+ghost use lib.ListN.{length};
+ghost use Rattle.pagestore.specs.Store.{level, innerAt, entriesIn, fieldAt};
+ghost use Rattle.search.specs.Branches.{rootBranch};
+ghost use Rattle.search.specs.Keys.{keyOf};
+ghost use Rattle.search.specs.Steps.{Visits, Visited};
+ghost use Rattle.search.specs.Visit.{readsNone};
+use crate::Seen;
+use crate::frontier::bound_in;
+use crate::frontier::key_of;
+use crate::frontier::level_in;
+use crate::frontier::open_page;
+use crate::frontier::page_in;
+use crate::frontier::page_of;
+use crate::frontier::place_in;
+use crate::leaves::filled;
+use crate::leaves::visit_leaf;
+use candidates::exceeds;
+use heap::pop;
+use pagestore::count_at;
+use pagestore::page_count;
+use pagestore::root_level;
+use pagestore::root_page;
+use pagestore::total_records;
+
+// Whether nothing is read: there are no records, or the root's level is that of no sound index.
+pub fn reads_none(index: &[u8]) -> bool
+    ensures { λ r. ⌜ r ≡ readsNone (now (index .entry)) ⌝ }
+{
+    if total_records(index) == 0 {
+        return true;
+    }
+    4 < root_level(index)
+}
+
+// The key of the root, which needs no bound.
+fn root_key(index: &[u8]) -> u64
+    requires { ⌜ fieldAt level (now index) ≤ 4 ⌝ }
+    ensures { λ r. ⌜ r ≡ keyOf (rootBranch (now (index .entry))) ⌝ }
+{
+    let level = root_level(index) as usize;
+    let page = page_of(index, root_page(index));
+    key_of(0, 0, level, page)
+}
+
+// The number of entries of an inner page.
+fn entry_count(index: &[u8], page: u32) -> usize
+    ensures { λ r. ⌜ (r ≡ length (entriesIn (innerAt (now (index .entry)) page))) × (r ≤ 16) ⌝ }
+{
+    filled(count_at(index, page) as usize)
+}
+
+// Takes branches from the root on, the first one first, until its bound exceeds the k-th distance.
+pub fn best_first(
+    index: &[u8],
+    q: &[u16],
+    heights: &[u16],
+    k: usize,
+    slots: &mut [u64],
+    distances: &mut [u64],
+    tags: &mut [u64],
+) -> Seen
+    requires { ⌜ Visits (now index) (now q) (now heights) k (now slots) (now distances) (now tags) ⌝ }
+    ensures { λ r. ⌜ Visited (now (index .entry)) (now (q .entry)) k (now (distances .exit)) (now (tags .exit)) r ⌝ }
+{
+    slots[0] = root_key(index);
+    let mut n = 1;
+    let mut rows = 0;
+    let mut leaves = 0;
+    let mut steps = 2 * page_count(index);
+    while 0 < steps {
+        steps -= 1;
+        if n == 0 {
+            return Seen {
+                rows: rows,
+                leaves: leaves,
+            };
+        }
+        let key = pop(slots, n);
+        n -= 1;
+        if exceeds(distances, rows, k, bound_in(key)) {
+            return Seen {
+                rows: rows,
+                leaves: leaves,
+            };
+        }
+        let level = level_in(key);
+        let page = page_in(key);
+        let place = place_in(key);
+        if level == 0 {
+            rows = visit_leaf(index, page, q, place, distances, tags, rows, k);
+            leaves += 1;
+        } else {
+            if slots.len() < entry_count(index, page) + n {
+                return Seen {
+                    rows: rows,
+                    leaves: leaves,
+                };
+            }
+            n = open_page(slots, n, index, q, heights, level - 1, place as usize, page);
+        }
+    }
+    Seen {
+        rows: rows,
+        leaves: leaves,
+    }
+}
