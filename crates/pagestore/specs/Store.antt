@@ -1,7 +1,7 @@
 -- The page store: what an index holds, whatever its bytes are, and what each operation leaves. Nothing above this crate sees a byte:
 -- the definitions without a mark open only to the modules below this one, and PageLaws and FreeLaws say all that is used of them.
 use mathlib.Core.Path.{_≡_}
-use mathlib.Core.Bool.{Bool, true, false, _&&_}
+use mathlib.Core.Bool.{Bool, false, _&&_}
 use mathlib.Core.List.{List, [], _∷_, _++_}
 use Prim.Native.Nat.{ℕ, zero, suc, _+_, _-_, _*_, _/_, min}
 use lib.Dec.{ltb, leb, eqb}

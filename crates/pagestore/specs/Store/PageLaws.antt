@@ -1,6 +1,6 @@
 -- page-laws: what is written is read back, and nothing else changes; what is read fits. Assumes nothing.
-use mathlib.Core.Path.{_≡_, refl, sym, ap, _∙_}
-use mathlib.Core.Bool.{Bool, true, false}
+use mathlib.Core.Path.{_≡_, refl, _∙_}
+use mathlib.Core.Bool.{true, false}
 use mathlib.Core.Logic.{_≢_}
 use mathlib.Core.List.{List, []}
 use Prim.Native.Nat.{ℕ, zero, suc, _+_, _*_, _^_, _≤_, _<_}
@@ -23,6 +23,16 @@ use Rattle.pagestore.specs.declared.Entry.{Entry}
 use Rattle.pagestore.specs.declared.Inner.{Inner}
 use Rattle.pagestore.specs.Store.{inRange, stretch, setStretch, leafAt, innerAt, levelAt, countAt, linkAt, recordsIn, entriesIn, levelOf, fillOf, setLeaf, setInner, setLink, Page, leaf, inner, pageBy, pageAt, setPage, Field, offset, width, Apart, fieldAt, setField, numberAt, setNumber}
 use Rattle.pagestore.specs.Store.StretchLaws.{stretch-out, set-out, agree, length-stretch, stretch-same, stretch-other, field-stretch, field-room}
+
+-- ---- WRITES OF PAGES, AS ONE
+
+pub set-leaf-is : (b : List ℕ) (p n : ℕ) (rs : List Record) → setLeaf b p rs ≡ setPage b p (leaf n rs)
+unfolding setPage
+set-leaf-is b p n rs = refl
+
+pub set-inner-is : (b : List ℕ) (p l n : ℕ) (es : List Entry) → setInner b p (suc l) es ≡ setPage b p (inner l n es)
+unfolding setPage
+set-inner-is b p l n es = refl
 
 -- ---- LENGTHS ARE KEPT
 

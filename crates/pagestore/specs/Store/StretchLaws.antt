@@ -1,8 +1,8 @@
 -- How pages and fields lie in the bytes of an index; for the laws beside this file and the proofs of this crate's functions. Assumes nothing.
 use mathlib.Core.Path.{_≡_, refl, sym, ap, _∙_}
-use mathlib.Core.Bool.{Bool, true, false}
+use mathlib.Core.Bool.{true, false}
 use mathlib.Core.Logic.{_≢_}
-use mathlib.Core.List.{List, [], _∷_, _++_}
+use mathlib.Core.List.{List, [], _++_}
 use Prim.Native.Nat.{ℕ, _+_, _-_, _*_, _%_, _≤_, _<_}
 use native.Mathlib.Omega.{arith}
 use lib.Dec.{leb}
@@ -15,7 +15,7 @@ use Rattle.pagestore.specs.ByteLaws.{le-ext}
 use Rattle.pagestore.specs.Layout.{leafOf, innerOf, linkOf, leafBytes, innerBytes, freedBytes}
 use Rattle.pagestore.specs.declared.Record.{Record}
 use Rattle.pagestore.specs.declared.Entry.{Entry}
-use Rattle.pagestore.specs.Store.{inRange, stretch, setStretch, leafAt, innerAt, levelAt, countAt, linkAt, setLeaf, setInner, setLink, Field, offset, width, fieldAt, setField, numberAt, setNumber, clearHeader, size, features, root, level, total, freed, fresh}
+use Rattle.pagestore.specs.Store.{inRange, stretch, setStretch, leafAt, innerAt, levelAt, countAt, linkAt, setLeaf, setInner, setLink, Field, offset, width, fieldAt, numberAt, setNumber, clearHeader, size, features, root, level, total, freed, fresh}
 use Rattle.pagestore.specs.Store.RangeLaws.{range-low, range-same, range-whole}
 
 pub stretch-in : (b : List ℕ) (p : ℕ) → inRange b p ≡ true → stretch b p ≡ take 1024 (drop (p * 1024) b)
