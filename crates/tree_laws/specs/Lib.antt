@@ -1,2 +1,6 @@
 pub mod Shapes
 pub mod InsertTree
+pub mod KeysFit
+pub mod Frames
+pub mod EntryLaws
+pub mod InsertSim
