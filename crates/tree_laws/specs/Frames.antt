@@ -122,7 +122,7 @@ kept-free b p w h m =
 
 -- WHAT CAN BE WRITTEN
 
-records-fit : (l : ℕ) (x : Item l) → Ok l x → All RecordFits (records l x)
+pub records-fit : (l : ℕ) (x : Item l) → Ok l x → All RecordFits (records l x)
 unfolding records Ok flat
 records-fit zero r o = also o none
 records-fit (suc l) t o = go (records-fit l) (o .2)

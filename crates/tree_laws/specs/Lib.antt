@@ -4,3 +4,5 @@ pub mod KeysFit
 pub mod Frames
 pub mod EntryLaws
 pub mod InsertSim
+pub mod Wholes
+pub mod Depth
