@@ -122,10 +122,14 @@ module _ (d l : ℕ) (b : List ℕ) (p : ℕ) (xs : List (Item l)) (v : l < 256)
         let r2 : inRange b2 n ≡ true = kept-range (kept-trans k1 k2) n ∙ n-range in
         record {
           held =
-              also (page-other b2 n x2 p p-apart .page ∙ page-same b1 p x1 r1 (node-fits d l (take 9 xs) v (omega (arith, length-take 9 xs)) (λ q g. sub-small q (omega (arith, fl q))) (all-take 9 ok)),
-              held-list d l b _ (λ q g. sub-frame q (omega (arith, fl q))) (all-take 9 held))
-              (also (page-same b2 n x2 r2 (node-fits d l (drop 9 xs) v (omega (arith, length-drop 9 xs)) (λ q g. sub-small q (omega (arith, fl q))) (all-drop 9 ok)),
-              held-list d l b _ (λ q g. sub-frame q (omega (arith, fl q))) (all-drop 9 held)) none);
+              also (
+                page-other b2 n x2 p p-apart .page ∙ page-same b1 p x1 r1 (node-fits d l (take 9 xs) v (omega (arith, length-take 9 xs)) (λ q g. sub-small q (omega (arith, fl q))) (all-take 9 ok)),
+                held-list d l b _ (λ q g. sub-frame q (omega (arith, fl q))) (all-take 9 held),
+              )
+              (also (
+                page-same b2 n x2 r2 (node-fits d l (drop 9 xs) v (omega (arith, length-drop 9 xs)) (λ q g. sub-small q (omega (arith, fl q))) (all-drop 9 ok)),
+                held-list d l b _ (λ q g. sub-frame q (omega (arith, fl q))) (all-drop 9 held),
+              ) none);
           entries = refl;
           free = free-page b2 n x2 (omega (arith, freed-le b2 n)) ∙ f2;
           frame = λ q g f. two-frame q (absent q p [] g) (absent q n [] (omega (arith, free-n q)));

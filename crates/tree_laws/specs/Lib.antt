@@ -6,3 +6,7 @@ pub mod EntryLaws
 pub mod InsertSim
 pub mod Wholes
 pub mod Depth
+pub mod Header
+pub mod InsertRoot
+pub mod Idents
+pub mod InsertPromises
