@@ -10,3 +10,6 @@ pub mod PlaceLaws
 pub mod Counts
 pub mod Runs
 pub mod Ascending
+pub mod Choices
+pub mod Parts
+pub mod Rising

@@ -1,0 +1,4 @@
+pub mod Entries
+pub mod Insertion
+pub mod Deletion
+pub mod Lookup

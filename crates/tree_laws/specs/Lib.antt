@@ -1,0 +1,12 @@
+pub mod Shapes
+pub mod InsertTree
+pub mod KeysFit
+pub mod Frames
+pub mod EntryLaws
+pub mod InsertSim
+pub mod Wholes
+pub mod Depth
+pub mod Header
+pub mod InsertRoot
+pub mod Idents
+pub mod InsertPromises
