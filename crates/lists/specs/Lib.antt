@@ -10,3 +10,6 @@ pub mod PlaceLaws
 pub mod Counts
 pub mod Runs
 pub mod Ascending
+pub mod Members
+pub mod Weights
+pub mod AscendingLaws
