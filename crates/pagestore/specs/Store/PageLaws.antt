@@ -21,7 +21,7 @@ use Rattle.pagestore.specs.declared.Record.{Record}
 use Rattle.pagestore.specs.declared.Leaf.{Leaf}
 use Rattle.pagestore.specs.declared.Entry.{Entry}
 use Rattle.pagestore.specs.declared.Inner.{Inner}
-use Rattle.pagestore.specs.Store.{inRange, stretch, setStretch, leafAt, innerAt, levelAt, countAt, linkAt, recordsIn, entriesIn, levelOf, fillOf, setLeaf, setInner, setLink, Page, leaf, inner, pageBy, pageAt, setPage, Field, offset, width, Apart, fieldAt, setField}
+use Rattle.pagestore.specs.Store.{inRange, stretch, setStretch, leafAt, innerAt, levelAt, countAt, linkAt, recordsIn, entriesIn, levelOf, fillOf, setLeaf, setInner, setLink, Page, leaf, inner, pageBy, pageAt, setPage, Field, offset, width, Apart, fieldAt, setField, numberAt, setNumber}
 use Rattle.pagestore.specs.Store.StretchLaws.{stretch-out, set-out, agree, length-stretch, stretch-same, stretch-other, field-stretch, field-room}
 
 -- ---- LENGTHS ARE KEPT
@@ -36,7 +36,7 @@ unfolding setLink
 length-set-link b p n = length-stretch b p (freedBytes n) (length-freed n)
 
 pub length-set-field : (f : Field) (b : List ℕ) (v : ℕ) → length (setField f b v) ≡ length b
-unfolding setField
+unfolding setNumber
 length-set-field f b v =
     by-cases (leb 1024 (length b))
     (λ h. rw h (length-put b (offset f) (leBytes (width f) v)))
@@ -70,7 +70,7 @@ unfolding linkAt setLink
 link-same b p n h g = rw (stretch-same b p (freedBytes n) (length-freed n) h) (link-round n g)
 
 pub field-same : (f : Field) (b : List ℕ) (v : ℕ) → 1024 ≤ length b → v < 256 ^ width f → fieldAt f (setField f b v) ≡ v
-unfolding fieldAt setField
+unfolding numberAt setNumber
 field-same f b v h g =
     let r = field-room f in
     let i : offset f + length (leBytes (width f) v) ≤ length b = omega (arith, length-le (width f) v, r .1, r .2) in
@@ -135,7 +135,7 @@ page-out b p (inner l n es) h = set-out b p (innerBytes (suc l) es) h
 
 -- a field that is set changes that field alone
 pub field-other : (f g : Field) (b : List ℕ) (v : ℕ) → Apart f g → fieldAt g (setField f b v) ≡ fieldAt g b
-unfolding fieldAt setField
+unfolding numberAt setNumber
 field-other f g b v a =
     let r = field-room f in
     let t = field-room g in
@@ -148,7 +148,7 @@ field-other f g b v a =
     (λ h. rw (h, h))
 
 pub page-field : (f : Field) (b : List ℕ) (v : ℕ) (q : ℕ) → SamePage b (setField f b v) q
-unfolding setField
+unfolding setNumber
 page-field f b v q =
     let r = field-room f in
     let vs : List ℕ = leBytes (width f) v in
@@ -266,7 +266,7 @@ unfolding linkAt linkOf
 link-fits b p = le-fits 4 (stretch b p) 4
 
 pub field-fits : (f : Field) (b : List ℕ) → fieldAt f b < 256 ^ width f
-unfolding fieldAt
+unfolding numberAt
 field-fits f b =
     by-cases (leb 1024 (length b)) (λ h. rw h (le-fits (width f) b (offset f))) (λ h. rw h (one-le-pow (width f) 256 (omega arith)))
 
