@@ -13,3 +13,6 @@ pub mod Ascending
 pub mod Choices
 pub mod Parts
 pub mod Rising
+pub mod Members
+pub mod Weights
+pub mod AscendingLaws
