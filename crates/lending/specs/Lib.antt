@@ -1,0 +1,3 @@
+pub mod Tallies
+pub mod Filling
+pub mod FillingLaws
