@@ -4,7 +4,6 @@ ghost use Prim.Native.Nat.{_<_, min};
 ghost use lib.ListN.{length};
 ghost use Rattle.lending.specs.Tallies.{saturated, counted};
 ghost use Rattle.lending.specs.Filling.{rowAt, rowsLent, filled};
-
 use candidates::Row;
 use candidates::row_of;
 
@@ -18,7 +17,11 @@ pub struct Tally {
 fn saturating_add(a: u32, b: u32) -> u32
     ensures { λ r. ⌜ r ≡ saturated a b ⌝ }
 {
-    if a <= 4294967295 - b { a + b } else { 4294967295 }
+    if a <= 4294967295 - b {
+        a + b
+    } else {
+        4294967295
+    }
 }
 
 // The tally after one more question that read some leaves.
