@@ -10,7 +10,7 @@ use borrow.Author.Tests.{ltb-false, lt-ltb, le-ltb, le-leb, lt-leb, leb-true, le
 use Rattle.lists.specs.Basics.{tick, All, none, also, all-map}
 use Rattle.lists.specs.Tests.{cases, false-true}
 use Rattle.lists.specs.Sorting.{keep, count, Order, Sorted, end, next}
-use Rattle.lists.specs.SortingLaws.{sorted-sort, length-sort, count-sort, length-keep}
+use Rattle.lists.specs.SortingLaws.{sorted-sort, length-sort, count-sort, length-keep, all-sort, all-keep}
 use Rattle.lists.specs.Orders.{by}
 use Rattle.bestfirst.specs.Nearest.{Ranking, rowOrder, candidates, nearest, kth, atMost, exceeds, inSet}
 use Rattle.bestfirst.specs.VisitLaws.{by-floor, below, below-far, below-more, exceeds-below, inSet-exceeds}
@@ -140,3 +140,30 @@ module _ {A : Type 0} (r : Ranking A) (o : Order (rowOrder r)) (xs : List A) whe
   inSet-kth k b h =
       let q : length (take k (candidates r xs)) ≡ k = rw (length-take k (candidates r xs)) (omega arith) in
       rw (q, le-ltb k k (omega arith))
+
+  -- a leaf that holds all rows is in the set: no row costs less than its bound
+  pub inSet-floor : (j b : ℕ) → All (λ x. b ≤ r .cost x) xs → inSet r (suc j) xs b ≡ true
+  unfolding candidates
+  inSet-floor j b a =
+      inSet-exceeds r j xs b
+      ∙ ap not (exceeds-below r j b (candidates r xs) ∙ below-far (r .cost) j b (candidates r xs) (all-sort (rowOrder r) (keep (r .passes) xs) (all-keep (r .passes) xs a)))
+
+-- the k-th cost of another question over the same candidates: those within the k-th cost of the first are within m
+module _ {A : Type 0} (r r' : Ranking A) (o : Order (rowOrder r)) (o' : Order (rowOrder r')) (xs : List A) where
+  carried : (d m : ℕ) (ys : List A) → All (λ x. r .cost x ≤ d → r' .cost x ≤ m) ys → count (atMost (r .cost) d) ys ≤ count (atMost (r' .cost) m) ys
+  unfolding count
+  carried d m [] none = omega arith
+  carried d m (y ∷ ys) (also h a) =
+      let q = carried d m ys a in
+      cases (leb (r .cost y) d)
+      (λ e. rw (e, le-leb (r' .cost y) m (h (leb-true (r .cost y) d e))) (omega arith))
+      (λ e. rw e (omega arith))
+
+  pub kth-carried : (j m : ℕ) → r' .passes ≡ r .passes → suc j ≤ length (candidates r xs)
+      → All (λ x. r .cost x ≤ kth r (suc j) (nearest r (suc j) xs) → r' .cost x ≤ m) xs → kth r' (suc j) (nearest r' (suc j) xs) ≤ m
+  kth-carried j m e h a =
+      let d = kth r (suc j) (nearest r (suc j) xs) in
+      let n = kth-count r o xs j d h (omega arith) in
+      let c = carried d m (keep (r .passes) xs) (all-keep (r .passes) xs a) in
+      let s : count (atMost (r' .cost) m) (keep (r' .passes) xs) ≡ count (atMost (r' .cost) m) (keep (r .passes) xs) = ap (λ (p : A → Bool). count (atMost (r' .cost) m) (keep p xs)) e in
+      count-kth r' o' xs j m (omega arith)

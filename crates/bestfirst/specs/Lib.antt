@@ -8,3 +8,9 @@ pub mod RangesLaws
 pub mod Promises
 pub mod Frontier
 pub mod FrontierLaws
+pub mod Pages
+pub mod PagesLaws
+pub mod PagePromises
+pub mod Turns
+pub mod Examples
+pub mod Items

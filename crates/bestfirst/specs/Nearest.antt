@@ -35,9 +35,13 @@ module _ {A : Type 0} (r : Ranking A) where
   unfolding candidates
   nearest k xs = take k (candidates xs)
 
-  -- the k-th cost of a list of rows
+  -- the k-th cost of a list of rows, 0 where there is none
   unfoldable pub kth : ℕ → List A → ℕ
   kth k rows = getD (map (r .cost) rows) (k - 1) 0
+
+  -- the cost of the last row
+  abbrev pub lastCost : List A → ℕ
+  lastCost rows = kth (length rows) rows
 
   -- b exceeds the k-th cost: there are k rows, and the k-th costs less than b
   unfoldable pub exceeds : ℕ → ℕ → List A → Bool
@@ -48,7 +52,7 @@ module _ {A : Type 0} (r : Ranking A) where
   -- last row that demand 2 calls for, or if there are fewer than k candidates.
   unfoldable pub inSet : ℕ → List A → ℕ → Bool
   unfolding nearest kth
-  inSet k xs b = ltb (length (nearest k xs)) k || leb b (kth (length (nearest k xs)) (nearest k xs))
+  inSet k xs b = ltb (length (nearest k xs)) k || leb b (lastCost (nearest k xs))
 
 -- what a visit gives: the rows found, and the leaves read, in the order of reading
 pub record Outcome (A L : Type 0) : Type 0 where

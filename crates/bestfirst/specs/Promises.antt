@@ -17,7 +17,7 @@ use Rattle.bestfirst.specs.Nearest.{Ranking, rowOrder, candidates, neare
 use Rattle.bestfirst.specs.Marks.{readOn, Strict, unmarked}
 use Rattle.bestfirst.specs.Ranges.{withinReach}
 use Rattle.bestfirst.specs.VisitLaws.{visit-exact, visit-alike}
-use Rattle.bestfirst.specs.KthLaws.{count-kth, kth-count, inSet-few, inSet-kth, inSet-larger}
+use Rattle.bestfirst.specs.KthLaws.{count-kth, kth-count, inSet-few, inSet-kth, inSet-larger, inSet-floor, kth-carried}
 use Rattle.bestfirst.specs.MarksLaws.{readOn-joins}
 use Rattle.bestfirst.specs.RangesLaws.{reach-read, near-reached}
 
@@ -82,6 +82,10 @@ module _ {A : Type 0} (r : Ranking A) (o : Order (rowOrder r)) (xs : List A) whe
   pub set-last : (k b : ℕ) → k ≤ length (candidates r xs) → inSet r k xs b ≡ leb b (kth r k (nearest r k xs))
   set-last = inSet-kth r o xs
 
+  -- a leaf that holds all rows is in the set
+  pub set-floor : (k b : ℕ) → 1 ≤ k → All (λ x. b ≤ r .cost x) xs → inSet r k xs b ≡ true
+  set-floor k b one a = from-one (λ n. inSet r n xs b ≡ true) (λ j. inSet-floor r o xs j b a) k one
+
   -- (5) rows for k open the rows for a larger number, and a leaf read for k is read for a larger number
   pub rows-open : (k n : ℕ) → k ≤ n → take k (nearest r n xs) ≡ nearest r k xs
   unfolding nearest
@@ -104,6 +108,13 @@ module _ {A : Type 0} (r : Ranking A) (o : Order (rowOrder r)) (xs : List A) whe
   pub at-most-kth : (k m : ℕ) → 1 ≤ k → k ≤ length (candidates r xs) → kth r k (nearest r k xs) ≤ m → k ≤ count (atMost (r .cost) m) (keep (r .passes) xs)
   at-most-kth k m one h g =
       from-one (λ n. n ≤ length (candidates r xs) → kth r n (nearest r n xs) ≤ m → n ≤ count (atMost (r .cost) m) (keep (r .passes) xs)) (λ j. kth-count r o xs j m) k one h g
+
+  -- and so goes over to another cost: if what costs at most the k-th cost here costs at most m there, the k-th cost there is at most m
+  pub kth-moves : (r' : Ranking A) → Order (rowOrder r') → r' .passes ≡ r .passes → (k m : ℕ) → 1 ≤ k → k ≤ length (candidates r xs)
+      → All (λ x. r .cost x ≤ kth r k (nearest r k xs) → r' .cost x ≤ m) xs → kth r' k (nearest r' k xs) ≤ m
+  kth-moves r' o' e k m one h a =
+      from-one (λ n. n ≤ length (candidates r xs) → All (λ x. r .cost x ≤ kth r n (nearest r n xs) → r' .cost x ≤ m) xs → kth r' n (nearest r' n xs) ≤ m)
+      (λ j g b. kth-carried r r' o o' xs j m e g b) k one h a
 
   -- (8) a cost that is known from a least to a greatest value: whatever the cost c is, its k nearest are within reach
   pub reach-complete : (least c : A → ℕ) → Order (by c (r .tie)) → All (λ x. (least x ≤ c x) × (c x ≤ r .cost x)) xs → (k : ℕ) → 1 ≤ k

@@ -14,7 +14,7 @@ use Rattle.lists.specs.Tests.{three}
 use Rattle.lists.specs.Sorting.{count, splice, putIn, ins, offer}
 use Rattle.lists.specs.Sorting as sorting
 use Rattle.lists.specs.SortingLaws.{sorted-ins}
-use Rattle.lists.specs.PlaceLaws.{count-at, count-zero, drop-back, count-le, ins-count, offer-behind, offer-among, take-putIn, sorted-take}
+use Rattle.lists.specs.PlaceLaws.{count-at, count-zero, drop-back, count-le, ins-count, offer-behind, offer-among, take-putIn, drop-putIn, sorted-take}
 use Rattle.lists.specs.Orders.{by, lower, by-lower, by-equal, by-higher}
 use Rattle.bestfirst.specs.Nearest.{kth}
 use Rattle.bestfirst.specs.Nearest as nearest
@@ -156,6 +156,7 @@ module _ (ds ts : List ℕ) (n k : ℕ) (x : Row) (h : Held ds ts n k) where
   none-offered e = record {
     held = h;
     rows = offer-behind rowOrder k n before x (rowsOf ds ts) (h .few) few-before enough goes-in e;
+    past = (refl, refl);
   }
 
   -- among the first k: it is put into both arrays
@@ -173,6 +174,7 @@ module _ (ds ts : List ℕ) (n k : ℕ) (x : Row) (h : Held ds ts n k) where
       record {
         held = record { few = omega (arith, g); room = omega arith; roomTags = omega arith; sorted = rw rows offer-sorted };
         rows = rows;
+        past = (ap (drop (m + 1)) ed ∙ drop-putIn p m d ds (omega (arith, g)), ap (drop (m + 1)) et ∙ drop-putIn p m t ts (omega (arith, g)));
       }
 
 -- a row is that of its distance and its tag

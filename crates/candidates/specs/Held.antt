@@ -3,7 +3,7 @@ use mathlib.Core.Path.{_≡_}
 use mathlib.Core.Bool.{Bool}
 use mathlib.Core.List.{List, [], _∷_}
 use Prim.Native.Nat.{ℕ, _≤_}
-use lib.ListN.{length, take}
+use lib.ListN.{length, take, drop}
 use Rattle.lists.specs.Sorting.{Sorted}
 use Rattle.lists.specs.Sorting as sorting
 use Rattle.bestfirst.specs.Nearest as nearest
@@ -27,10 +27,11 @@ pub record Held (distances tags : List ℕ) (n k : ℕ) : Type 0 where
   pub roomTags : k ≤ length tags
   pub sorted : Sorted rowOrder (rowsIn distances tags n)
 
--- r rows are held after row x was offered to n of them, of which k are kept
+-- r rows are held after row x was offered to n of them, of which k are kept; what lies past them is as before
 pub record Offered (distances tags : List ℕ) (n k : ℕ) (x : Row) (r : ℕ) (distances' tags' : List ℕ) : Type 0 where
   pub held : Held distances' tags' r k
   pub rows : rowsIn distances' tags' r ≡ sorting.offer rowOrder k x (rowsIn distances tags n)
+  pub past : (drop r distances' ≡ drop r distances) × (drop r tags' ≡ drop r tags)
 
 -- the stop test of the visit, whatever the tags and the choice of candidates
 pub record Stops (distances : List ℕ) (n k bound : ℕ) (r : Bool) : Type 0 where

@@ -1,7 +1,7 @@
 // The candidates of a question: the best rows so far, in row order, held in two lent arrays.
 ghost use mathlib.Core.Path.{_≡_};
-ghost use Prim.Native.Nat.{_+_, _≤_, _<_, min};
-ghost use lib.ListN.{length, getD};
+ghost use Prim.Native.Nat.{_≤_, _<_, min};
+ghost use lib.ListN.{length};
 ghost use Rattle.lists.specs.Sorting.{count, putIn};
 ghost use Rattle.candidates.specs.Rows.{rowOrder, rowOf, tagOf};
 ghost use Rattle.candidates.specs.Held.{rowsIn, Held, Offered, Stops};

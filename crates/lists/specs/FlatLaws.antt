@@ -2,10 +2,10 @@
 use mathlib.Core.Path.{_≡_, refl, ap, ap₂}
 use mathlib.Core.Bool.{Bool, _&&_}
 use mathlib.Core.List.{List, [], _∷_, _++_, map}
-use Prim.Native.Nat.{ℕ, zero, suc, _+_, _<_}
+use Prim.Native.Nat.{ℕ, zero, suc, _+_, _≤_, _<_}
 use native.Mathlib.Omega.{arith}
-use lib.ListN.{length, getD, take}
-use Rattle.lists.specs.Basics.{All, none, also, flat, all-append}
+use lib.ListN.{length, getD, take, length-append}
+use Rattle.lists.specs.Basics.{All, none, also, flat, upFrom, all-append}
 use Rattle.lists.specs.Tests.{cases}
 use Rattle.lists.specs.Sorting.{keep, count, sum, ins, insAll, sort}
 use Rattle.lists.specs.SortingLaws.{count-append}
@@ -51,6 +51,11 @@ module _ {A : Type 0} where
   sum-same [] none = refl
   sum-same (x ∷ xs) (also h a) = ap₂ (λ (u v : ℕ). u + v) h (sum-same xs a)
 
+  pub sum-least : {f : A → ℕ} (xs : List A) → All (λ x. 1 ≤ f x) xs → length xs ≤ sum f xs
+  unfolding sum
+  sum-least [] none = omega arith
+  sum-least (x ∷ xs) (also h a) = let g = sum-least xs a in omega arith
+
   pub sum-ins : (before : A → A → Bool) (f : A → ℕ) (x : A) (s : List A) → sum f (ins before x s) ≡ f x + sum f s
   unfolding sum ins
   sum-ins before f x [] = refl
@@ -67,6 +72,11 @@ module _ {A : Type 0} where
   sum-sort before f (x ∷ xs) = let h = sum-sort before f xs in let g = sum-ins before f x (sort before xs) in omega arith
 
 module _ {A B : Type 0} where
+  pub sum-map : (f : B → ℕ) (g : A → B) (xs : List A) → sum f (map g xs) ≡ sum (λ x. f (g x)) xs
+  unfolding sum
+  sum-map f g [] = refl
+  sum-map f g (x ∷ xs) = let h = sum-map f g xs in omega arith
+
   pub all-flat : {P : B → Type 0} (f : A → List B) (xs : List A) → All (λ x. All P (f x)) xs → All P (flat f xs)
   unfolding flat
   all-flat f [] none = none
@@ -77,6 +87,11 @@ module _ {A B : Type 0} where
   flat-same [] none = refl
   flat-same (x ∷ xs) (also h a) = ap₂ (λ (u v : List B). u ++ v) h (flat-same xs a)
 
+  pub length-flat : (f : A → List B) (xs : List A) → length (flat f xs) ≡ sum (λ x. length (f x)) xs
+  unfolding flat sum
+  length-flat f [] = refl
+  length-flat f (x ∷ xs) = let h = length-flat f xs in let g = length-append (f x) (flat f xs) in omega arith
+
   pub count-flat : (p : B → Bool) (f : A → List B) (xs : List A) → count p (flat f xs) ≡ sum (λ x. count p (f x)) xs
   unfolding flat count sum
   count-flat p f [] = refl
@@ -86,3 +101,8 @@ pub count-keep : {A : Type 0} (p q : A → Bool) (xs : List A) → count p (keep
 unfolding count keep
 count-keep p q [] = refl
 count-keep p q (x ∷ xs) = let h = count-keep p q xs in cases (q x) (λ e. simp e (omega arith)) (λ e. simp e (omega arith))
+
+pub all-up : {P : ℕ → Type 0} (a n : ℕ) → ((i : ℕ) → a ≤ i → i < a + n → P i) → All P (upFrom a n)
+unfolding upFrom
+all-up a zero h = none
+all-up a (suc n) h = also (h a (omega arith) (omega arith)) (all-up (suc a) n (λ i p q. h i (omega arith) (omega arith)))

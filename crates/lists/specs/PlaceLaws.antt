@@ -7,7 +7,7 @@ use Prim.Native.Nat.{ℕ, zero, suc, _+_, _-_, _≤_, _<_, min}
 use native.Mathlib.Omega.{arith}
 use native.Mathlib.Numerals.{add-one, one-add}
 use lib.ListN.{length, take, drop, getD, set, length-take}
-use lib.Seq.{take-suc-set, drop-cons, drop-drop, drop-set-lt, append-snoc, length-take-le, take-append-le, take-append-add, take-take, take-all, set-split, take-at}
+use lib.Seq.{take-suc-set, drop-cons, drop-drop, drop-set-lt, append-snoc, length-take-le, take-append-le, take-append-add, take-take, take-all, set-split, take-at, drop-at}
 use Rattle.lists.specs.Basics.{All, none, also}
 use Rattle.lists.specs.Tests.{cases}
 use Rattle.lists.specs.Sorting.{count, splice, putIn, ins, offer, Order, Sorted, end, next}
@@ -94,6 +94,12 @@ module _ {A : Type 0} where
       let e = length-splice p x l in
       let size : length (take (n + 1) (splice p x l)) ≡ n + 1 = rw (length-take (n + 1) (splice p x l), e) (omega arith) in
       take-at (take (n + 1) (splice p x l)) (drop (n + 1) l) (n + 1) size
+
+  pub drop-putIn : (p n : ℕ) (x : A) (l : List A) → n < length l → drop (n + 1) (putIn p n x l) ≡ drop (n + 1) l
+  drop-putIn p n x l h =
+      let e = length-splice p x l in
+      let size : length (take (n + 1) (splice p x l)) ≡ n + 1 = rw (length-take (n + 1) (splice p x l), e) (omega arith) in
+      drop-at (take (n + 1) (splice p x l)) (drop (n + 1) l) (n + 1) size
 
   -- an offer to the first n of z, where x goes in at index p
   module _ (before : A → A → Bool) (k n p : ℕ) (x : A) (z : List A) (few : n ≤ k) (at : p ≤ n) (enough : n ≤ length z)

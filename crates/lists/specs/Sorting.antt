@@ -32,7 +32,7 @@ putIn p n x l = take (n + 1) (splice p x l) ++ drop (n + 1) l
 -- `before` is a strict total order
 pub record Order {A : Type 0} (before : A → A → Bool) : Type 0 where
   pub asym : (a b : A) → before a b ≡ true → before b a ≡ false
-  -- what a is before, and a not before b, b is before too
+  -- if a is not before b, then b is before all that a is before
   pub through : (a b c : A) → before a b ≡ false → before a c ≡ true → before b c ≡ true
   pub same : (a b : A) → before a b ≡ false → before b a ≡ false → a ≡ b
 

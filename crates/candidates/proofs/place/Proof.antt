@@ -22,7 +22,11 @@ abbrev μ-loop : tie.MeasureT-loop
 
 -- src/lib.rt:54:5
 loop-holds : tie.Need-loop-holds Inv-loop μ-loop
-loop-holds c = let a = c .before .before .args in let h = c .before .before .pre in let q : a .n ≤ a .n = omega arith in (q, place-start (now (a .distances)) (now (a .tags)) (a .n) (rowOf (a .distance) (a .tag)) h)
+loop-holds c =
+    let a = c .before .before .args in
+    let h = c .before .before .pre in
+    let q : a .n ≤ a .n = omega arith in
+    (q, place-start (now (a .distances)) (now (a .tags)) (a .n) (rowOf (a .distance) (a .tag)) h)
 
 -- src/lib.rt:55:17
 sub-j : tie.Need-sub-j Inv-loop μ-loop
@@ -50,7 +54,11 @@ precedes-requires c κs = tt
 
 -- src/lib.rt:58:13
 returns : tie.Need-returns Inv-loop μ-loop
-returns c = let a = c .before .before .before .before .before .before .before .before .args in let h = c .before .before .before .before .before .before .before .before .pre in let l = c .before .before .before .before .before .loop in place-found (now (a .distances)) (now (a .tags)) (a .n) (rowOf (a .distance) (a .tag)) h (l .i) (c .before .before .before .before .loop-test .taken) (l .inv .0) (sym (c .before .precedes .ensures) ∙ c .if1 .taken) (l .inv .1)
+returns c =
+    let a = c .before .before .before .before .before .before .before .before .args in
+    let h = c .before .before .before .before .before .before .before .before .pre in
+    let l = c .before .before .before .before .before .loop in
+    place-found (now (a .distances)) (now (a .tags)) (a .n) (rowOf (a .distance) (a .tag)) h (l .i) (c .before .before .before .before .loop-test .taken) (l .inv .0) (sym (c .before .precedes .ensures) ∙ c .if1 .taken) (l .inv .1)
 
 -- src/lib.rt:54:5
 loop-less : tie.Need-loop-less Inv-loop μ-loop
@@ -58,11 +66,20 @@ loop-less c = omega arith
 
 -- src/lib.rt:54:5
 loop-again : tie.Need-loop-again Inv-loop μ-loop
-loop-again c = let a = c .before .before .before .before .before .before .before .before .args in let h = c .before .before .before .before .before .before .before .before .pre in let l = c .before .before .before .before .before .loop in let q : l .i - 1 ≤ a .n = omega arith in (q, place-back (now (a .distances)) (now (a .tags)) (a .n) (rowOf (a .distance) (a .tag)) h (l .i) (c .before .before .before .before .loop-test .taken) (l .inv .0) (sym (c .before .precedes .ensures) ∙ c .if1 .left) (l .inv .1))
+loop-again c =
+    let a = c .before .before .before .before .before .before .before .before .args in
+    let h = c .before .before .before .before .before .before .before .before .pre in
+    let l = c .before .before .before .before .before .loop in
+    let q : l .i - 1 ≤ a .n = omega arith in
+    (q, place-back (now (a .distances)) (now (a .tags)) (a .n) (rowOf (a .distance) (a .tag)) h (l .i) (c .before .before .before .before .loop-test .taken) (l .inv .0) (sym (c .before .precedes .ensures) ∙ c .if1 .left) (l .inv .1))
 
 -- src/lib.rt:49:1
 returns-2 : tie.Need-returns-2 Inv-loop μ-loop
-returns-2 c = let a = c .before .before .before .before .args in let h = c .before .before .before .before .pre in let l = c .before .loop in place-first (now (a .distances)) (now (a .tags)) (a .n) (rowOf (a .distance) (a .tag)) h (l .i) (omega arith) (l .inv .1)
+returns-2 c =
+    let a = c .before .before .before .before .args in
+    let h = c .before .before .before .before .pre in
+    let l = c .before .loop in
+    place-first (now (a .distances)) (now (a .tags)) (a .n) (rowOf (a .distance) (a .tag)) h (l .i) (omega arith) (l .inv .1)
 
 pub place-spec : {M : Type 1} → statement M
 place-spec =

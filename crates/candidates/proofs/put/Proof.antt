@@ -47,7 +47,12 @@ loop-less c = omega arith
 
 -- src/lib.rt:72:5
 loop-again : tie.Need-loop-again Inv-loop μ-loop
-loop-again c = let l = c .before .before .loop in let t = put-turn (l .words) _ (l .carry) 0 (l .i) _ (omega arith) (l .inv .3) (l .inv .4) in let g : length (set (l .words) (l .i) (l .carry)) ≡ length (now (c .before .before .before .args .words)) = length-set (l .words) (l .i) (l .carry) ∙ l .inv .0 in let q : l .i + 1 ≤ c .before .before .before .args .n = omega arith in (g, q, l .inv .2, t .0, t .1)
+loop-again c =
+    let l = c .before .before .loop in
+    let t = put-turn (l .words) _ (l .carry) 0 (l .i) _ (omega arith) (l .inv .3) (l .inv .4) in
+    let g : length (set (l .words) (l .i) (l .carry)) ≡ length (now (c .before .before .before .args .words)) = length-set (l .words) (l .i) (l .carry) ∙ l .inv .0 in
+    let q : l .i + 1 ≤ c .before .before .before .args .n = omega arith in
+    (g, q, l .inv .2, t .0, t .1)
 
 -- src/lib.rt:78:5
 mul-words-2 : tie.Need-mul-words-2 Inv-loop μ-loop
@@ -63,7 +68,11 @@ same-length c = let l = c .before .loop in length-set (l .words) (l .i) (l .carr
 
 -- src/lib.rt:66:1
 returns : tie.Need-returns Inv-loop μ-loop
-returns c = let l = c .before .loop in let a = c .before .before .args in let e : l .i ≡ a .n = omega arith in put-end (l .words) (now (a .words)) (l .carry) (l .i) (splice (a .at) (a .x) (now (a .words))) (omega arith) (l .inv .3) (l .inv .4) ∙ ap (λ (m : ℕ). take (m + 1) (splice (a .at) (a .x) (now (a .words))) ++ drop (m + 1) (now (a .words))) e
+returns c =
+    let l = c .before .loop in
+    let a = c .before .before .args in
+    let e : l .i ≡ a .n = omega arith in
+    put-end (l .words) (now (a .words)) (l .carry) (l .i) (splice (a .at) (a .x) (now (a .words))) (omega arith) (l .inv .3) (l .inv .4) ∙ ap (λ (m : ℕ). take (m + 1) (splice (a .at) (a .x) (now (a .words))) ++ drop (m + 1) (now (a .words))) e
 
 pub put-spec : {M : Type 1} → statement M
 put-spec =
