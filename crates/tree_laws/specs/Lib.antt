@@ -10,3 +10,4 @@ pub mod Header
 pub mod InsertRoot
 pub mod Idents
 pub mod InsertPromises
+pub mod DeleteTree
