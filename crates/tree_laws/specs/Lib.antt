@@ -11,3 +11,4 @@ pub mod InsertRoot
 pub mod Idents
 pub mod InsertPromises
 pub mod DeleteTree
+pub mod DeleteSim
