@@ -12,3 +12,4 @@ pub mod Idents
 pub mod InsertPromises
 pub mod DeleteTree
 pub mod DeleteSim
+pub mod DeleteRoot
