@@ -13,3 +13,6 @@ pub mod InsertPromises
 pub mod DeleteTree
 pub mod DeleteSim
 pub mod DeleteRoot
+pub mod LookupPromises
+pub mod DeletePromises
+pub mod NewPromises
