@@ -10,3 +10,9 @@ pub mod Header
 pub mod InsertRoot
 pub mod Idents
 pub mod InsertPromises
+pub mod DeleteTree
+pub mod DeleteSim
+pub mod DeleteRoot
+pub mod LookupPromises
+pub mod DeletePromises
+pub mod NewPromises
