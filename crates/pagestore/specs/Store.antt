@@ -16,6 +16,7 @@ use Rattle.pagestore.specs.declared.Inner.{Inner}
 pub mod RangeLaws
 pub mod StretchLaws
 pub mod PageLaws
+pub mod AgreeLaws
 pub mod FreeLaws
 pub mod NewLaws
 

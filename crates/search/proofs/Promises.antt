@@ -1,0 +1,404 @@
+-- What is promised of the search on a sound index, in the words of demands 2 and 3.
+use mathlib.Core.Path.{_≡_, refl, sym, ap, ap₂, subst, _∙_}
+use mathlib.Core.Bool.{Bool, true, false, not, _&&_, _||_}
+use mathlib.Core.List.{List, [], _∷_, _++_, map}
+use Prim.Native.Nat.{ℕ, zero, suc, _+_, _*_, _≤_, _<_}
+use native.Mathlib.Omega.{arith}
+use lib.ListN.{length, take, getD}
+use lib.Dec.{ltb, leb, eqb}
+use borrow.Author.Tests.{ltb-true, ltb-false, lt-ltb, le-ltb, eq-eqb, ne-eqb}
+use Rattle.lists.specs.Basics.{pick, All, none, also, all-map, flat, upFrom}
+use Rattle.lists.specs.Tests.{cases, false-true}
+use Rattle.lists.specs.Sorting.{keep, count, sort, Order}
+use Rattle.lists.specs.Orders.{by, lower, by-weak, by-same, lower-weak, lower-same, weak-order}
+use Rattle.lists.specs.SortingLaws.{keep-first, keep-past}
+use Rattle.lists.specs.FlatLaws.{all-both, all-every, all-mapped, map-append}
+use Rattle.lists.specs.Counts.{mult, mult-self, mult-more, mult-append, all-of-mult}
+use Rattle.geometry.specs.Points.{distance}
+use Rattle.geometry.specs.Stored.{pointOf}
+use Rattle.bestfirst.specs.Nearest.{Outcome, nearest, candidates, kth, inSet, Floor, bestFirst}
+use Rattle.bestfirst.specs.Frontier.{seek}
+use Rattle.bestfirst.specs.Promises as flatly
+use Rattle.candidates.specs.declared.Row.{Row}
+use Rattle.candidates.specs.RowLaws.{row-order}
+use Rattle.pagestore.specs.declared.Record.{Record}
+use Rattle.pagestore.specs.declared.Leaf.{Leaf}
+use Rattle.pagestore.specs.Store.{Field, level, total, root, View, viewOf, inRange, pagesIn, leafAt, innerAt, recordsIn, entriesIn, fieldAt}
+use Rattle.pagestore.specs.Store.PageLaws.{SamePage}
+use Rattle.pagestore.specs.Store.AgreeLaws.{AgreeBut, agree-pages, agree-range, agree-page, agree-field}
+use Rattle.trees.specs.Trees.{Item, pointIn, firstKey, lastKey, leaves, pages, treeOf, leavesOf}
+use Rattle.trees.specs.Sound.{SoundIndex}
+use Rattle.search.specs.Branches.{Branch, tied, before, isLeaf, spanBound, pageIn, kids, rootBranch, rowOf, rowsAt}
+use Rattle.search.specs.Visit.{ranking, Found, foundIn, visited, readsNone, found}
+use Rattle.search.specs.Questions.{rowsFrom, rowsOf, leafBound, toRead, unreadPages, Kept, Exchanged, end, next}
+use Rattle.search.proofs.RecordLaws.{span-floor}
+use Rattle.search.proofs.FrameLaws.{Frame, Ordered, Branching, leaf-records, parts-right, frame-range, leafBranch, leafBranches}
+use Rattle.search.proofs.DescentLaws.{branch-order, seek-is}
+use Rattle.search.proofs.SoundLaws.{tree-frame, tree-header, tree-hold, tree-level, tree-leaves, tree-pages, tree-ordered, tree-root, tree-once, none-held, leaves-ordered}
+
+abbrev boundIn : Branch → ℕ
+boundIn x = x .bound
+
+-- ---- LEAVES BY POSITION
+
+-- what the rows of a leaf cost at least
+abbrev LeafFloor : ℕ → List ℕ → Item 1 → Type 0
+LeafFloor d q u = All (λ r. leafBound d q u ≤ distance (pointOf q) (pointIn (length q) r)) (u .1)
+
+module _ (b q : List ℕ) (d : ℕ) where
+  flat-rows : (p : ℕ) (us : List (Item 1)) → All (λ u. recordsIn (leafAt b (u .0)) ≡ u .1) us → flat (rowsAt b q) (leafBranches q d p us) ≡ rowsFrom q p us
+  unfolding flat leafBranches leafBranch rowsFrom
+  flat-rows p [] none = refl
+  flat-rows p (u ∷ us) (also e a) = ap₂ (λ (x y : List Row). x ++ y) (ap (map (rowOf q p)) e) (flat-rows (suc p) us a)
+
+  row-floors : (p : ℕ) (us : List (Item 1)) → All (λ u. recordsIn (leafAt b (u .0)) ≡ u .1) us → All (LeafFloor d q) us → All (Floor ranking boundIn (rowsAt b q)) (leafBranches q d p us)
+  unfolding leafBranches leafBranch rowOf
+  row-floors p [] none none = none
+  row-floors p (u ∷ us) (also e a) (also f h) = also {x = leafBranch q d p u} (rw e (all-mapped (rowOf q p) (u .1) f)) (row-floors (suc p) us a h)
+
+count-set : (v : View) (q : List ℕ) (k p : ℕ) (us : List (Item 1)) → All (λ u. 0 < length (u .1)) us
+    → count (λ x. inSet ranking k (rowsOf v q) (x .bound)) (leafBranches q (v .d) p us) ≡ count (toRead v q k) us
+unfolding count leafBranches leafBranch toRead
+count-set v q k p [] none = refl
+count-set v q k p (u ∷ us) (also h a) = rw (lt-ltb 0 (length (u .1)) h, count-set v q k (suc p) us a)
+
+none-set : (v : View) (q : List ℕ) (k : ℕ) (us : List (Item 1)) → All (λ u. u .1 ≡ []) us → count (toRead v q k) us ≡ 0
+unfolding count toRead
+none-set v q k [] none = refl
+none-set v q k (u ∷ us) (also e a) = rw (e, none-set v q k us a)
+
+none-rows : (q : List ℕ) (p : ℕ) (us : List (Item 1)) → All (λ u. u .1 ≡ []) us → rowsFrom q p us ≡ []
+unfolding rowsFrom
+none-rows q p [] none = refl
+none-rows q p (u ∷ us) (also e a) = rw (e, none-rows q (suc p) us a)
+
+nearest-none : (k : ℕ) → nearest ranking k [] ≡ []
+unfolding nearest candidates sort keep
+nearest-none zero = refl
+nearest-none (suc k) = refl
+
+none-floor : (d : ℕ) (q : List ℕ) (u : Item 1) → u .1 ≡ [] → LeafFloor d q u
+none-floor d q u e = rw e none
+
+module _ (b : List ℕ) (s : SoundIndex b) (q : List ℕ) (same : length q ≡ viewOf b .d) (k : ℕ) (one : 1 ≤ k) where
+  abbrev v : View
+  v = viewOf b
+
+  abbrev us : List (Item 1)
+  us = leavesOf v
+
+  abbrev ls : List Branch
+  ls = leafBranches q (v .d) 0 us
+
+  -- an index with the header and the inner pages of b
+  record Like (c : List ℕ) : Type 0 where
+    pub level : fieldAt level c ≡ v .level
+    pub total : fieldAt total c ≡ v .total
+    pub root : fieldAt root c ≡ v .root
+    pub pages : pagesIn c ≡ pagesIn b
+    pub frame : Frame c (v .d) (v .level) (treeOf v)
+
+  like-self : Like b
+  unfolding viewOf
+  like-self = record { level = refl; total = refl; root = refl; pages = refl; frame = tree-frame b s }
+
+  found-like : (c : List ℕ) → Like c → 0 < v .total → found c q k ≡ foundIn (bestFirst ranking boundIn (rowsAt c q) k tied ls)
+  unfolding found readsNone visited leavesOf pageIn
+  found-like c h t =
+      let z : eqb (fieldAt total c) 0 ≡ false = ne-eqb (fieldAt total c) 0 (omega (arith, h .total)) in
+      let w : ltb 4 (fieldAt level c) ≡ false = le-ltb 4 (fieldAt level c) (omega (arith, h .level, tree-level b s)) in
+      let g : fieldAt root c ≡ treeOf v .0 = h .root ∙ sym (tree-root b s) in
+      let e : pageIn c (fieldAt root c) ≡ treeOf v .0 = rw (g, frame-range c (v .d) (v .level) (treeOf v) (h .frame)) in
+      let r : rootBranch c ≡ record { bound = 0; place = 0; level = v .level; page = treeOf v .0 } = λ i. record { bound = 0; place = 0; level = h .level i; page = e i } in
+      let few : length (leaves (v .level) (treeOf v)) ≤ 8191 = tree-leaves b s in
+      let enough : length (leaves (v .level) (treeOf v)) ≤ pagesIn b = tree-pages b s in
+      let n : pagesIn c ≡ pagesIn b = h .pages in
+      rw (z, w)
+      (ap (λ (x : Branch). foundIn (seek ranking boundIn (rowsAt c q) before isLeaf (kids c q) k 8192 (2 * pagesIn c) (x ∷ []) [])) r
+      ∙ seek-is c q (v .d) (s .d .0) (s .d .1) same k 8192 (2 * pagesIn c) one (v .level) (treeOf v) (h .frame) (tree-ordered b s t) (omega arith) (omega arith))
+
+  -- ---- THE ROWS AND THE LEAVES
+
+  -- where there are records, each leaf has some
+  leaves-some : 0 < v .total → All (λ u. 0 < length (u .1)) us
+  unfolding leavesOf Branching
+  leaves-some t = all-map (λ u (o : Ordered (v .d) 0 u). o .some) (leaves-ordered (v .d) (v .level) (treeOf v) (tree-ordered b s t))
+
+  pub leaf-floors : All (LeafFloor (v .d) q) us
+  unfolding leavesOf leafBound Branching
+  leaf-floors =
+      cases (ltb 0 (v .total))
+      (λ e. all-map
+      (λ u (o : Ordered (v .d) 0 u).
+      rw same
+      (span-floor (v .d) (s .d .0) (s .d .1) q same (u .1) (o .some) (rw (leaf-records u) at (o .up)) (rw (leaf-records u) at (o .right))))
+      (leaves-ordered (v .d) (v .level) (treeOf v) (tree-ordered b s (ltb-true 0 (v .total) e))))
+      (λ e. all-map (none-floor (v .d) q) (none-held b s (omega (arith, ltb-false 0 (v .total) e))))
+
+  rows-all : flat (rowsAt b q) ls ≡ rowsOf v q
+  unfolding rowsOf
+  rows-all = flat-rows b q (v .d) 0 us (tree-hold b s)
+
+  floors : All (Floor ranking boundIn (rowsAt b q)) ls
+  floors = row-floors b q (v .d) 0 us (tree-hold b s) leaf-floors
+
+  -- what the search gives
+  abbrev pub asked : Found
+  asked = record { rows = nearest ranking k (rowsOf v q); leaves = count (toRead v q k) us }
+
+  exact-some : 0 < v .total → found b q k ≡ asked
+  exact-some t =
+      let o : Outcome Row Branch = bestFirst ranking boundIn (rowsAt b q) k tied ls in
+      let r : o .rows ≡ nearest ranking k (rowsOf v q) = flatly.rows-nearest ranking row-order boundIn tied branch-order ls (rowsAt b q) floors k one ∙ ap (nearest ranking k) rows-all in
+      let n : length (o .read) ≡ count (toRead v q k) us =
+      flatly.leaves-count ranking row-order boundIn tied branch-order ls (rowsAt b q) floors k one
+      ∙ ap (λ (xs : List Row). count (λ x. inSet ranking k xs (x .bound)) ls) rows-all ∙ count-set v q k 0 us (leaves-some t) in
+      found-like b like-self t ∙ (λ i. record { rows = r i; leaves = n i })
+
+  found-none : (c : List ℕ) → fieldAt total c ≡ 0 → found c q k ≡ record { rows = []; leaves = 0 }
+  unfolding found readsNone
+  found-none c e = rw (e)
+
+  exact-none : v .total ≡ 0 → found b q k ≡ asked
+  unfolding viewOf rowsOf
+  exact-none e =
+      let h = none-held b s e in
+      found-none b e ∙ sym (rw (none-rows q 0 us h, none-set v q k us h, nearest-none k))
+
+  pub found-exact : found b q k ≡ asked
+  found-exact = cases (ltb 0 (v .total)) (λ e. exact-some (ltb-true 0 (v .total) e)) (λ e. exact-none (omega (arith, ltb-false 0 (v .total) e)))
+
+  -- rows-nearest: the rows are the k nearest of the live records, by distance and then by identifier, or all if fewer live
+  pub rows-nearest : (found b q k) .rows ≡ nearest ranking k (rowsOf v q)
+  rows-nearest = ap (λ (f : Found). f .rows) found-exact
+
+  -- leaves-exact: the count is the number of leaves in demand 3's set
+  pub leaves-exact : (found b q k) .leaves ≡ count (toRead v q k) (leavesOf v)
+  leaves-exact = ap (λ (f : Found). f .leaves) found-exact
+
+-- ---- PAGES OF THE TREE
+
+abbrev pageOf : Item 1 → ℕ
+pageOf u = u .0
+
+unfoldable innerPages : (l : ℕ) → Item (suc l) → List ℕ
+innerPages zero t = []
+innerPages (suc l) t = t .0 ∷ flat (innerPages l) (t .1)
+
+no-pages : (rs : List Record) → flat (pages 0) rs ≡ []
+unfolding flat pages
+no-pages [] = refl
+no-pages (r ∷ rs) = no-pages rs
+
+split-list : (p l : ℕ) (ts : List (Item (suc l))) → All (λ t. mult p (pages (suc l) t) ≡ mult p (innerPages l t) + mult p (map pageOf (leaves l t))) ts
+    → mult p (flat (pages (suc l)) ts) ≡ mult p (flat (innerPages l) ts) + mult p (map pageOf (flat (leaves l) ts))
+unfolding flat mult
+split-list p l [] none = refl
+split-list p l (t ∷ ts) (also h a) =
+    let r = split-list p l ts a in
+    rw (mult-append p (pages (suc l) t) (flat (pages (suc l)) ts), mult-append p (innerPages l t) (flat (innerPages l) ts), map-append pageOf (leaves l t) (flat (leaves l) ts), mult-append p (map pageOf (leaves l t)) (map pageOf (flat (leaves l) ts)))
+    (omega arith)
+
+-- a page of the tree is an inner page or a leaf's
+pages-split : (p l : ℕ) (t : Item (suc l)) → mult p (pages (suc l) t) ≡ mult p (innerPages l t) + mult p (map pageOf (leaves l t))
+unfolding pages leaves innerPages mult
+pages-split p zero t = rw (no-pages (t .1)) (omega arith)
+pages-split p (suc l) t = omega (arith, split-list p l (t .1) (all-every (pages-split p l) (t .1)))
+
+module _ (f : Item 1 → Bool) where
+  -- the leaves that pass, and those that do not
+  keep-split : (p : ℕ) (us : List (Item 1)) → mult p (map pageOf us) ≡ mult p (map pageOf (keep f us)) + mult p (map pageOf (keep (λ u. not (f u)) us))
+  unfolding keep mult
+  keep-split p [] = refl
+  keep-split p (u ∷ us) = let h = keep-split p us in cases (f u) (λ e. rw e (omega arith)) (λ e. rw e (omega arith))
+
+  keep-there : (us : List (Item 1)) → All (λ u. f u ≡ true → 0 < mult (u .0) (map pageOf (keep f us))) us
+  keep-there [] = none
+  keep-there (u ∷ us) =
+      cases (f u)
+      (λ e. rw (keep-first f u us e) (also {x = u} (λ w. omega (arith, mult-self (u .0) (map pageOf (keep f us))))
+      (all-map (λ x (h : f x ≡ true → 0 < mult (x .0) (map pageOf (keep f us))) w. let g = h w in omega (arith, mult-more (x .0) (u .0) (map pageOf (keep f us)))) (keep-there us))))
+      (λ e. rw (keep-past f u us e) (also {x = u} (λ w. false-true (sym e ∙ w)) (keep-there us)))
+
+-- the inner pages are the same, and the same numbers are pages
+frame-same : (b c : List ℕ) (d : ℕ) → ((p : ℕ) → inRange c p ≡ inRange b p) → (l : ℕ) (t : Item (suc l)) → All (λ p. SamePage b c p) (innerPages l t) → Frame b d l t → Frame c d l t
+unfolding Frame innerPages
+frame-same b c d r zero t a f = r (t .0) ∙ f
+frame-same b c d r (suc l) t (also h a) f =
+    (r (t .0) ∙ f .0, ap entriesIn (h .inner) ∙ f .1, all-map (λ u g. frame-same b c d r l u (g .0) (g .1)) (all-both (parts-right (innerPages l) (t .1) a) (f .2)))
+
+module _ (b : List ℕ) (s : SoundIndex b) (q : List ℕ) (same : length q ≡ viewOf b .d) (k : ℕ) (one : 1 ≤ k) where
+  abbrev unread : List ℕ
+  unread = unreadPages (viewOf b) q k
+
+  unread-inner : All (λ p. mult p unread ≡ 0) (innerPages (viewOf b .level) (treeOf (viewOf b)))
+  unfolding unreadPages leavesOf
+  unread-inner =
+      all-of-mult (innerPages (viewOf b .level) (treeOf (viewOf b)))
+      (λ p h. omega (arith, tree-once b s p, pages-split p (viewOf b .level) (treeOf (viewOf b)), keep-split (toRead (viewOf b) q k) p (leavesOf (viewOf b))))
+
+  unread-read : All (λ u. toRead (viewOf b) q k u ≡ true → mult (u .0) unread ≡ 0) (leavesOf (viewOf b))
+  unfolding unreadPages leavesOf
+  unread-read =
+      all-map
+      (λ u (h : toRead (viewOf b) q k u ≡ true → 0 < mult (u .0) (map pageOf (keep (toRead (viewOf b) q k) (leavesOf (viewOf b))))) w.
+      let g = h w in
+      omega (arith, tree-once b s (u .0), pages-split (u .0) (viewOf b .level) (treeOf (viewOf b)), keep-split (toRead (viewOf b) q k) (u .0) (leavesOf (viewOf b))))
+      (keep-there (toRead (viewOf b) q k) (leavesOf (viewOf b)))
+
+  unread-header : mult 0 unread ≡ 0
+  unfolding unreadPages leavesOf
+  unread-header = omega (arith, tree-header b s, pages-split 0 (viewOf b .level) (treeOf (viewOf b)), keep-split (toRead (viewOf b) q k) 0 (leavesOf (viewOf b)))
+
+  module _ (c : List ℕ) (h : AgreeBut unread b c) where
+    like-rest : Like b s q same k one c
+    unfolding viewOf
+    like-rest =
+        record {
+          level = agree-field unread b c h unread-header level;
+          total = agree-field unread b c h unread-header total;
+          root = agree-field unread b c h unread-header root;
+          pages = agree-pages unread b c h;
+          frame = frame-same b c (viewOf b .d) (agree-range unread b c h) (viewOf b .level) (treeOf (viewOf b)) (all-map (agree-page unread b c h) unread-inner) (tree-frame b s);
+        }
+
+    rows-same : (p : ℕ) (us : List (Item 1)) → All (λ u. toRead (viewOf b) q k u ≡ true → mult (u .0) unread ≡ 0) us → All (λ u. 0 < length (u .1)) us
+        → All (λ x. inSet ranking k (rowsOf (viewOf b) q) (x .bound) ≡ true → rowsAt c q x ≡ rowsAt b q x) (leafBranches q (viewOf b .d) p us)
+    unfolding leafBranches leafBranch toRead
+    rows-same p [] none none = none
+    rows-same p (u ∷ us) (also g a) (also l m) =
+        also {x = leafBranch q (viewOf b .d) p u}
+        (λ w. let z : mult (u .0) unread ≡ 0 = g (rw (lt-ltb 0 (length (u .1)) l) w) in
+        ap (λ (f : Leaf). map (rowOf q p) (recordsIn f)) (agree-page unread b c h (u .0) z .leaf))
+        (rows-same (suc p) us a m)
+
+    -- unread-bytes: whatever bytes the pages of the leaves left unread hold, the search gives the rows and the count of the sound index
+    pub unread-bytes : found c q k ≡ found b q k
+    unread-bytes =
+        cases (ltb 0 (viewOf b .total))
+        (λ e. let t : 0 < viewOf b .total = ltb-true 0 (viewOf b .total) e in
+        found-like b s q same k one c like-rest t
+        ∙ ap foundIn (flatly.unread-anything ranking row-order boundIn tied branch-order (ls b s q same k one) (rowsAt b q) (floors b s q same k one) k one (rowsAt c q)
+        (rw (rows-all b s q same k one) (rows-same 0 (leavesOf (viewOf b)) unread-read (leaves-some b s q same k one t))))
+        ∙ sym (found-like b s q same k one b (like-self b s q same k one) t))
+        (λ e. let z : viewOf b .total ≡ 0 = omega (arith, ltb-false 0 (viewOf b .total) e) in
+        found-none b s q same k one c (like-rest .total ∙ z) ∙ sym (found-none b s q same k one b (like-self b s q same k one .total ∙ z)))
+
+-- ---- EXCHANGE
+
+-- the leaf at position p
+abbrev leafNo : List (Item 1) → ℕ → Item 1
+leafNo ts p = getD ts p (0, [])
+
+abbrev rowsNo : List ℕ → List (Item 1) → ℕ → List Row
+rowsNo q ts p = map (rowOf q p) (leafNo ts p .1)
+
+rows-from : (q : List ℕ) (all : List (Item 1)) (n : ℕ) (ts : List (Item 1)) → ((i : ℕ) → leafNo all (n + i) ≡ leafNo ts i) → flat (rowsNo q all) (upFrom n (length ts)) ≡ rowsFrom q n ts
+unfolding flat upFrom rowsFrom
+rows-from q all n [] h = refl
+rows-from q all n (t ∷ ts) h =
+    let e : leafNo all n ≡ t = ap (leafNo all) (omega arith) ∙ h 0 in
+    ap₂ (λ (x y : List Row). x ++ y) (ap (λ (u : Item 1). map (rowOf q n) (u .1)) e)
+    (rows-from q all (suc n) ts (λ i. ap (leafNo all) (omega arith) ∙ h (suc i)))
+
+rows-no : (q : List ℕ) (ts : List (Item 1)) → flat (rowsNo q ts) (upFrom 0 (length ts)) ≡ rowsFrom q 0 ts
+rows-no q ts = rows-from q ts 0 ts (λ i. ap (leafNo ts) (omega arith))
+
+kept-no : {d : ℕ} {read : Item 1 → Bool} {ts us : List (Item 1)} → Exchanged d read ts us → (p : ℕ) → Kept d (read (leafNo ts p)) (leafNo ts p) (leafNo us p)
+kept-no end p = record { same = λ e. refl; number = refl; first = refl; last = refl }
+kept-no (next h x) zero = h
+kept-no (next h x) (suc p) = kept-no x p
+
+exchanged-length : {d : ℕ} {read : Item 1 → Bool} {ts us : List (Item 1)} → Exchanged d read ts us → length us ≡ length ts
+exchanged-length end = refl
+exchanged-length (next h x) = ap suc (exchanged-length x)
+
+floor-no : (d : ℕ) (q : List ℕ) {ts : List (Item 1)} → All (LeafFloor d q) ts → (p : ℕ) → LeafFloor d q (leafNo ts p)
+floor-no d q none p = none
+floor-no d q (also h a) zero = h
+floor-no d q (also h a) (suc p) = floor-no d q a p
+
+module _ (b c : List ℕ) (sb : SoundIndex b) (sc : SoundIndex c) (q : List ℕ) (same : length q ≡ viewOf b .d) (alike : viewOf c .d ≡ viewOf b .d) (k : ℕ) (one : 1 ≤ k)
+    (x : Exchanged (viewOf b .d) (toRead (viewOf b) q k) (leavesOf (viewOf b)) (leavesOf (viewOf c))) where
+  abbrev d : ℕ
+  d = viewOf b .d
+
+  abbrev ts : List (Item 1)
+  ts = leavesOf (viewOf b)
+
+  abbrev zs : List (Item 1)
+  zs = leavesOf (viewOf c)
+
+  abbrev positions : List ℕ
+  positions = upFrom 0 (length ts)
+
+  abbrev boundNo : ℕ → ℕ
+  boundNo p = leafBound d q (leafNo ts p)
+
+  abbrev byPlace : ℕ → ℕ → Bool
+  byPlace = by boundNo (lower (λ p. p))
+
+  place-order : Order byPlace
+  place-order =
+      weak-order (by-weak boundNo (lower (λ p. p)) (lower-weak (λ p. p)))
+      (λ m n e f. let w = by-same boundNo (lower (λ p. p)) m n e f in lower-same (λ p. p) m n (w .1) (w .2))
+
+  same-c : length q ≡ viewOf c .d
+  same-c = same ∙ sym alike
+
+  -- the bounds are the same
+  bound-kept : (t u : Item 1) (r : Bool) → Kept d r t u → leafBound d q u ≡ leafBound d q t
+  unfolding leafBound
+  bound-kept t u r h = rw (h .first, h .last)
+
+  floors-first : All (Floor ranking boundNo (rowsNo q ts)) positions
+  unfolding rowOf
+  floors-first = all-every (λ p. all-mapped (rowOf q p) (leafNo ts p .1) (floor-no d q (leaf-floors b sb q same k one) p)) positions
+
+  floors-second : All (Floor ranking boundNo (rowsNo q zs)) positions
+  unfolding rowOf
+  floors-second =
+      all-every (λ p. all-mapped (rowOf q p) (leafNo zs p .1)
+      (rw (bound-kept (leafNo ts p) (leafNo zs p) _ (kept-no x p)) at (floor-no d q (subst (λ (n : ℕ). All (LeafFloor n q) zs) alike (leaf-floors c sc q same-c k one)) p))) positions
+
+  rows-first : flat (rowsNo q ts) positions ≡ rowsOf (viewOf b) q
+  unfolding rowsOf
+  rows-first = rows-no q ts
+
+  rows-second : flat (rowsNo q zs) positions ≡ rowsOf (viewOf c) q
+  unfolding rowsOf
+  rows-second = ap (λ (n : ℕ). flat (rowsNo q zs) (upFrom 0 n)) (sym (exchanged-length x)) ∙ rows-no q zs
+
+  kept-rows : (p : ℕ) (t u : Item 1) → Kept d (toRead (viewOf b) q k t) t u → inSet ranking k (rowsOf (viewOf b) q) (leafBound d q t) ≡ true → map (rowOf q p) (u .1) ≡ map (rowOf q p) (t .1)
+  unfolding toRead
+  kept-rows p t u h w =
+      ap (map (rowOf q p))
+      (cases (ltb 0 (length (t .1)))
+      (λ e. h .same (rw e w))
+      (λ e. let z : length (t .1) ≡ 0 = omega (arith, ltb-false 0 (length (t .1)) e) in empty (u .1) (h .number ∙ z) ∙ sym (empty (t .1) z)))
+    where
+      empty : (rs : List Record) → length rs ≡ 0 → rs ≡ []
+      empty [] g = refl
+      empty (r ∷ rs) g = absurd (omega arith)
+
+  nearest-kept : nearest ranking k (rowsOf (viewOf c) q) ≡ nearest ranking k (rowsOf (viewOf b) q)
+  nearest-kept =
+      rw (← rows-first, ← rows-second)
+      (flatly.exchange-rows ranking row-order boundNo (lower (λ p. p)) place-order positions (rowsNo q ts) floors-first k one (rowsNo q zs) floors-second
+      (all-every (λ p w. kept-rows p (leafNo ts p) (leafNo zs p) (kept-no x p) (rw rows-first at w)) positions))
+
+  set-kept : (t u : Item 1) (r : Bool) → Kept d r t u → toRead (viewOf c) q k u ≡ toRead (viewOf b) q k t
+  unfolding toRead inSet
+  set-kept t u r h = rw (nearest-kept, alike, h .number, bound-kept t u r h)
+
+  count-kept : (r : Item 1 → Bool) {us ws : List (Item 1)} → Exchanged d r us ws → count (toRead (viewOf c) q k) ws ≡ count (toRead (viewOf b) q k) us
+  unfolding count
+  count-kept r end = refl
+  count-kept r (next {t = t} {u = u} h y) = rw (set-kept t u (r t) h, count-kept r y)
+
+  -- exchange: neither rows nor count change, and the rows are the k nearest of the records now held too
+  pub exchange : (found c q k ≡ found b q k) × ((found b q k) .rows ≡ nearest ranking k (rowsOf (viewOf c) q))
+  exchange =
+      let n = count-kept (toRead (viewOf b) q k) x in
+      let e : found c q k ≡ found b q k = found-exact c sc q same-c k one ∙ (λ i. record { rows = nearest-kept i; leaves = n i }) ∙ sym (found-exact b sb q same k one) in
+      (e, ap (λ (f : Found). f .rows) (sym e) ∙ rows-nearest c sc q same-c k one)
