@@ -4,6 +4,7 @@ ghost use Prim.Native.Nat.{_<_, min};
 ghost use lib.ListN.{length};
 ghost use Rattle.lending.specs.Tallies.{saturated, counted};
 ghost use Rattle.lending.specs.Filling.{rowAt, rowsLent, filled};
+ghost use Rattle.lending.specs.Delivered.{Delivered};
 use candidates::Row;
 use candidates::row_of;
 
@@ -85,4 +86,28 @@ pub fn fill_rows(rows: &mut [Row], list: Candidates)
         rows[i] = row_at(list, i);
         i += 1;
     }
+}
+
+// What a question returns: its number, how many rows, and how many leaves were read.
+pub struct Answer {
+    pub code: u32,
+    pub count: usize,
+    pub leaves: u32,
+}
+
+// A question's answer with the candidates that it found.
+pub struct Outcome {
+    pub answer: Answer,
+    pub list: Candidates,
+}
+
+// Hands an outcome over: the rows are filled and the question is tallied; where it is refused both are left alone.
+pub fn deliver(rows: &mut [Row], tally: &mut Tally, o: Outcome) -> Answer
+    ensures { λ r. ⌜ Delivered o (now (rows .entry)) (now (tally .entry)) r (now (rows .exit)) (now (tally .exit)) ⌝ }
+{
+    if o.answer.code == 0 {
+        fill_rows(rows, o.list);
+        tally_question(tally, o.answer.leaves);
+    }
+    o.answer
 }
