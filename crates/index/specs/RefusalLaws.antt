@@ -1,0 +1,43 @@
+-- Laws of the refusal table: it gives one number at most, and an act that it does not refuse has every condition.
+use mathlib.Core.Path.{_≡_, refl, sym, _∙_}
+use mathlib.Core.Bool.{Bool, true, false}
+use mathlib.Core.Logic.{_⊎_, inl, inr}
+use mathlib.Core.List.{List, [], _∷_}
+use Prim.Native.Nat.{ℕ, _≤_}
+use native.Mathlib.Omega.{arith}
+use lib.Dec.{leb}
+use borrow.Author.Tests.{leb-true}
+use Rattle.lists.specs.Basics.{pick}
+use Rattle.lists.specs.Tests.{cases, false-true}
+use Rattle.index.specs.Refusals.{Rule, First}
+
+pub first-one : (rules : List Rule) (m n : ℕ) → First rules m → First rules n → m ≡ n
+first-one [] m n e f = e ∙ sym f
+first-one (rule ∷ rules) m n (inl e) (inl f) = e .0 ∙ sym (f .0)
+first-one (rule ∷ rules) m n (inl e) (inr f) = absurd (e .1 (f .0))
+first-one (rule ∷ rules) m n (inr e) (inl f) = absurd (f .1 (e .0))
+first-one (rule ∷ rules) m n (inr e) (inr f) = first-one rules m n (e .1) (f .1)
+
+-- all conditions
+abbrev pub Hold : List Rule → Type 0
+Hold [] = Unit {0}
+Hold (rule ∷ rules) = (rule .1) × Hold rules
+
+-- no rule has the number of success
+abbrev pub numbered : List Rule → Bool
+numbered [] = true
+numbered (rule ∷ rules) = pick (leb 1 (rule .0)) (numbered rules) false
+
+numbered-parts : (t u : Bool) → pick t u false ≡ true → (t ≡ true) × (u ≡ true)
+numbered-parts true u e = (refl, e)
+numbered-parts false u e = false-true e
+
+pub all-hold : (rules : List Rule) → numbered rules ≡ true → First rules 0 → Hold rules
+all-hold [] w h = tt
+all-hold (rule ∷ rules) w (inl e) = absurd (omega (arith, leb-true 1 (rule .0) (numbered-parts (leb 1 (rule .0)) (numbered rules) w .0), e .0))
+all-hold (rule ∷ rules) w (inr e) = (e .0, all-hold rules (numbered-parts (leb 1 (rule .0)) (numbered rules) w .1) (e .1))
+
+-- and conversely: an act of which every condition holds is not refused
+pub none-fails : (rules : List Rule) → Hold rules → First rules 0
+none-fails [] h = refl
+none-fails (rule ∷ rules) h = inr (h .0, none-fails rules (h .1))

@@ -1,0 +1,2 @@
+pub mod NewRecords
+pub mod Series
