@@ -1,2 +1,3 @@
 pub mod NewRecords
+pub mod Answers
 pub mod Series

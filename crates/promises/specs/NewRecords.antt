@@ -23,7 +23,7 @@ all-zeros : (n : ℕ) → All (λ c. c ≤ 2000) (replicate n 0)
 all-zeros zero = none
 all-zeros (suc n) = also {x = 0} (omega arith) (all-zeros n)
 
-slots-own : (p : List ℤ) → take (length p) (slotsOf p) ≡ map stored p
+pub slots-own : (p : List ℤ) → take (length p) (slotsOf p) ≡ map stored p
 unfolding slotsOf
 slots-own p = take-at (map stored p) (replicate (16 - length p) 0) (length p) (length-map p stored)
 

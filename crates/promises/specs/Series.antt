@@ -1,6 +1,6 @@
 -- series (01, demand 2): after any list of acts on a newly made index, make apart, the index is sound, the live records are those
 -- inserted and not deleted since, and each question returns the k nearest of them with the exact number of leaves.
-use mathlib.Core.Path.{_≡_, refl, sym, ap, _∙_}
+use mathlib.Core.Path.{_≡_, refl, sym, ap, subst, _∙_}
 use mathlib.Core.List.{List, [], _∷_, _++_, map}
 use Prim.Native.Nat.{ℕ, zero, suc, _^_, _≤_, _<_}
 use native.Mathlib.Omega.{arith}
@@ -24,6 +24,7 @@ use Rattle.index.specs.RefusalLaws.{all-hold}
 use Rattle.index.specs.Outcomes.{unlessRefused}
 use Rattle.index.specs.Acts.{Act, insert, delete, question, check, Done, does, Does, Series, end, next, changedBy, heldAfter, heldBy}
 use Rattle.promises.specs.NewRecords.{record-fits, record-ok}
+use Rattle.promises.specs.Answers.{Answers, question-answers}
 
 -- a sound index of d features whose live records are rs, in key order
 pub record Stands (d : ℕ) (rs : List Record) (b : List ℕ) : Type 0 where
@@ -90,3 +91,30 @@ module _ (b : List ℕ) (d : ℕ) (lent : Permitted (length b)) (low : 1 ≤ d) 
   -- the index after any series on a newly made one
   pub series : {os : List Done} {c : List ℕ} → Series (newIndex b d) os c → Stands d (heldBy d os []) c
   series h = series-stands d [] new-stands h
+
+-- ---- EACH QUESTION OF A SERIES
+
+-- what a series comes to at one of its acts: the acts before it, the index that it meets, and the index that it leaves
+pub record Reached (b : List ℕ) (xs : List Done) (o : Done) (ys : List Done) (c : List ℕ) : Type 0 where
+  pub met : List ℕ
+  pub left : List ℕ
+  pub before : Series b xs met
+  pub done : Does met o left
+  pub after : Series left ys c
+
+reached : (b : List ℕ) (xs : List Done) (o : Done) (ys : List Done) (c : List ℕ) → Series b (xs ++ (o ∷ ys)) c → Reached b xs o ys c
+reached b [] o ys c (next {m = m} h t) = record { met = b; left = m; before = end; done = h; after = t }
+reached b (x ∷ xs) o ys c (next {m = m} h t) =
+    let r = reached m xs o ys c t in record { met = r .met; left = r .left; before = next h (r .before); done = r .done; after = r .after }
+
+-- a question as it is done when it is carried out
+abbrev pub asked : List ℤ → ℕ → ℕ → Found → Done
+asked p k n f = record { act = question p k n; code = 0; answer = f }
+
+module _ (b : List ℕ) (d : ℕ) (lent : Permitted (length b)) (low : 1 ≤ d) (high : d ≤ 16) where
+  -- each question in a series returns the k nearest of the records inserted and not deleted before it, and reads the leaves of the exact set
+  pub series-question : (xs ys : List Done) (p : List ℤ) (k n : ℕ) (f : Found) (c : List ℕ) → Series (newIndex b d) (xs ++ (asked p k n f ∷ ys)) c
+      → (m : List ℕ) × (Series (newIndex b d) xs m × (Stands d (heldBy d xs []) m × Answers m p k f))
+  series-question xs ys p k n f c h =
+      let r = reached (newIndex b d) xs (asked p k n f) ys c h in
+      (r .met, (r .before, (series b d lent low high (r .before), subst (Answers (r .met) p k) (sym (r .done .1)) (question-answers (r .met) p k n (r .done .0)))))
