@@ -2,4 +2,5 @@ pub mod Refusals
 pub mod RefusalLaws
 pub mod Outcomes
 pub mod OutcomeLaws
+pub mod Facts
 pub mod Acts

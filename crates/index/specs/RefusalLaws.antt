@@ -1,8 +1,8 @@
 -- Laws of the refusal table: it gives one number at most, and an act that it does not refuse has every condition.
 use mathlib.Core.Path.{_≡_, refl, sym, _∙_}
 use mathlib.Core.Bool.{Bool, true, false}
-use mathlib.Core.Logic.{_⊎_, inl, inr}
-use mathlib.Core.List.{List, [], _∷_}
+use mathlib.Core.Logic.{_≢_, _⊎_, inl, inr}
+use mathlib.Core.List.{List, [], _∷_, _++_}
 use Prim.Native.Nat.{ℕ, _≤_}
 use native.Mathlib.Omega.{arith}
 use lib.Dec.{leb}
@@ -41,3 +41,13 @@ all-hold (rule ∷ rules) w (inr e) = (e .0, all-hold rules (numbered-parts (leb
 pub none-fails : (rules : List Rule) → Hold rules → First rules 0
 none-fails [] h = refl
 none-fails (rule ∷ rules) h = inr (h .0, none-fails rules (h .1))
+
+-- rules that go on after others: the first of them to refuse decides
+pub refused-before : (xs ys : List Rule) (n : ℕ) → n ≢ 0 → First xs n → First (xs ++ ys) n
+refused-before [] ys n w e = absurd (w e)
+refused-before (rule ∷ xs) ys n w (inl e) = inl e
+refused-before (rule ∷ xs) ys n w (inr e) = inr (e .0, refused-before xs ys n w (e .1))
+
+pub refused-after : (xs ys : List Rule) (n : ℕ) → Hold xs → First ys n → First (xs ++ ys) n
+refused-after [] ys n h e = e
+refused-after (rule ∷ xs) ys n h e = inr (h .0, refused-after xs ys n (h .1) e)

@@ -80,3 +80,12 @@ checkRules b =
     (1, Permitted (length b))
     ∷ (2, SoundIndex b)
     ∷ []
+
+-- those with which insert and question both begin
+abbrev pub pointRules : List ℕ → List ℤ → List Rule
+pointRules b p =
+    (1, Permitted (length b))
+    ∷ (2, SoundIndex b)
+    ∷ (3, length p ≡ viewOf b .d)
+    ∷ (4, inRange p ≡ true)
+    ∷ []
