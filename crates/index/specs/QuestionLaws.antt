@@ -60,14 +60,15 @@ found-few b p k n zero h =
 found-few b p k n (suc m) h = (omega arith, omega arith)
 
 module _ (b : List ℕ) (p : List ℤ) (k : ℕ) (lent : List Row) (tally : Tally) (o : Outcome) (a : Asked b p k (length lent) o) where
-  pub handed-over : (lent' : List Row) (tally' : Tally) → Delivered o lent tally (o .answer) lent' tally' → Questioned b p k lent tally (o .answer) lent' tally'
-  handed-over lent' tally' h =
+  pub handed-over : (r : Answer) (lent' : List Row) (tally' : Tally) → Delivered o lent tally r lent' tally' → Questioned b p k lent tally r lent' tally'
+  handed-over r lent' tally' h =
       let few = found-few b p k (length lent) (o .answer .code) (a .first) in
       let e : o .list .count ≡ length (foundWith (o .answer .code) b p k .rows) = a .listed ∙ a .count in
-      record {
+      subst (λ (x : Answer). Questioned b p k lent tally x lent' tally') (sym (h .same))
+      (record {
         first = a .first;
         count = a .count;
         leaves = a .leaves;
         rows = h .filling ∙ rows-by lent (o .list) (found b (map stored p) k) (o .answer .code) (a .rows) e (λ z. filled-is (o .list) lent (a .distances) (a .tags) (omega arith) (omega arith));
         tallying = h .count ∙ tally-by (o .answer .code) (counted tally (o .answer .leaves)) tally;
-      }
+      })
