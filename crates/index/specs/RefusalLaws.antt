@@ -3,13 +3,13 @@ use mathlib.Core.Path.{_≡_, refl, sym, _∙_}
 use mathlib.Core.Bool.{Bool, true, false}
 use mathlib.Core.Logic.{_≢_, _⊎_, inl, inr}
 use mathlib.Core.List.{List, [], _∷_, _++_}
-use Prim.Native.Nat.{ℕ, _≤_}
+use Prim.Native.Nat.{ℕ, _≤_, zero-le}
 use native.Mathlib.Omega.{arith}
 use lib.Dec.{leb}
 use borrow.Author.Tests.{leb-true}
 use Rattle.lists.specs.Basics.{pick}
 use Rattle.lists.specs.Tests.{cases, false-true}
-use Rattle.index.specs.Refusals.{Rule, First}
+use Rattle.index.specs.Refusals.{Rule, First, deleteRules}
 
 pub first-one : (rules : List Rule) (m n : ℕ) → First rules m → First rules n → m ≡ n
 first-one [] m n e f = e ∙ sym f
@@ -17,6 +17,25 @@ first-one (rule ∷ rules) m n (inl e) (inl f) = e .0 ∙ sym (f .0)
 first-one (rule ∷ rules) m n (inl e) (inr f) = absurd (e .1 (f .0))
 first-one (rule ∷ rules) m n (inr e) (inl f) = absurd (f .1 (e .0))
 first-one (rule ∷ rules) m n (inr e) (inr f) = first-one rules m n (e .1) (f .1)
+
+-- and one at least, where each condition is decided
+abbrev pub Decided : List Rule → Type 0
+Decided [] = Unit {0}
+Decided (rule ∷ rules) = ((rule .1) ⊎ ¬ (rule .1)) × Decided rules
+
+pub first-some : (rules : List Rule) → Decided rules → (n : ℕ) × First rules n
+first-some [] d = (0, refl)
+first-some (rule ∷ rules) (inl h, d) = let r = first-some rules d in (r .0, inr (h, r .1))
+first-some (rule ∷ rules) (inr w, d) = (rule .0, inl (refl, w))
+
+-- 12 is never given: evening out two leaves wants no page
+pub never-twelve : (b : List ℕ) (i n : ℕ) → First (deleteRules b i) n → n ≢ 12
+never-twelve b i n (inl e) z = omega (arith, e .0)
+never-twelve b i n (inr (p, inl e)) z = omega (arith, e .0)
+never-twelve b i n (inr (p, inr (s, inl e))) z = omega (arith, e .0)
+never-twelve b i n (inr (p, inr (s, inr (o, inl e)))) z = omega (arith, e .0)
+never-twelve b i n (inr (p, inr (s, inr (o, inr (l, inl e))))) z = e .1 zero-le
+never-twelve b i n (inr (p, inr (s, inr (o, inr (l, inr (w, e)))))) z = omega (arith, e)
 
 -- all conditions
 abbrev pub Hold : List Rule → Type 0
