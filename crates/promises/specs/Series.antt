@@ -67,7 +67,7 @@ module _ (d : ℕ) (rs : List Record) (b : List ℕ) (s : Stands d rs b) where
   same-stands : (c : List ℕ) → c ≡ b → Stands d rs c
   same-stands c e = rw e s
 
-  act-stands : (a : Act) (code : ℕ) (f : Found) (c : List ℕ) → does a b code f c → Stands d (unlessRefused code (changedBy d a rs) rs) c
+  pub act-stands : (a : Act) (code : ℕ) (f : Found) (c : List ℕ) → does a b code f c → Stands d (unlessRefused code (changedBy d a rs) rs) c
   act-stands (insert i p) zero f c h = rw (h .2) (insert-stands i p (h .0) (h .1))
   act-stands (insert i p) (suc n) f c h = same-stands c (h .2)
   act-stands (delete i) zero f c h = rw (h .1) (delete-stands i (h .0))
@@ -85,7 +85,7 @@ series-stands d rs s end = s
 series-stands d rs {b = b} s (next {m = m} {o = o} h t) = series-stands d (heldAfter d o rs) (act-stands d rs b s (o .act) (o .code) (o .answer) m h) t
 
 module _ (b : List ℕ) (d : ℕ) (lent : Permitted (length b)) (low : 1 ≤ d) (high : d ≤ 16) where
-  new-stands : Stands d [] (newIndex b d)
+  pub new-stands : Stands d [] (newIndex b d)
   new-stands = record { sound = new-sound b d lent low high; features = new-features b d lent low high; holds = new-live b d lent low high }
 
   -- the index after any series on a newly made one
