@@ -19,6 +19,7 @@ pub mod PageLaws
 pub mod AgreeLaws
 pub mod FreeLaws
 pub mod NewLaws
+pub mod CountLaws
 
 -- ---- PAGES
 

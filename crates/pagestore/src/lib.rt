@@ -2,6 +2,7 @@
 // Every function is total: a page number out of range reads as an empty page, and a write there does nothing.
 use geometry::Key;
 
+mod counting;
 mod free;
 mod header;
 mod items;
@@ -41,6 +42,7 @@ pub use header::set_total_records;
 pub use header::total_records;
 
 // Free pages, and a new index.
+pub use counting::free_count;
 pub use free::free_page;
 pub use free::link_at;
 pub use free::make;
