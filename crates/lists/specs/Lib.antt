@@ -14,3 +14,6 @@ pub mod Shift
 pub mod Choices
 pub mod Parts
 pub mod Rising
+pub mod Members
+pub mod Weights
+pub mod AscendingLaws

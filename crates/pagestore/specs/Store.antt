@@ -19,6 +19,7 @@ pub mod StretchLaws
 pub mod PageLaws
 pub mod FreeLaws
 pub mod NewLaws
+pub mod CountLaws
 
 -- ---- PAGES
 

@@ -2,12 +2,12 @@
 // Every function is total: a page number out of range reads as an empty page, and a write there does nothing.
 use geometry::Key;
 
+mod counting;
 mod free;
 mod header;
 mod items;
 mod numbers;
 mod pages;
-mod shift;
 
 // One page, handed over as a part of the index.
 pub use pages::read_inner;
@@ -21,7 +21,6 @@ pub use pages::in_range;
 pub use pages::inner_at;
 pub use pages::leaf_at;
 pub use pages::level_at;
-pub use pages::link_at;
 pub use pages::page_count;
 pub use pages::set_inner;
 pub use pages::set_leaf;
@@ -43,15 +42,11 @@ pub use header::set_total_records;
 pub use header::total_records;
 
 // Free pages, and a new index.
+pub use counting::free_count;
 pub use free::free_page;
+pub use free::link_at;
 pub use free::make;
 pub use free::take_page;
-
-// Items put in and taken out, in a page held by value.
-pub use shift::insert_entry;
-pub use shift::insert_record;
-pub use shift::remove_entry;
-pub use shift::remove_record;
 
 // A record as it is stored: its identifier, and 16 coordinate slots, each a coordinate with 1,000 added.
 pub struct Record {

@@ -1,0 +1,37 @@
+-- The question (01): its number, its rows and count, the rows lent and the tally afterwards.
+use mathlib.Core.Path.{_≡_}
+use mathlib.Core.List.{List, _++_}
+use Prim.Native.Nat.{ℕ}
+use lib.IntN.{ℤ}
+use lib.ListN.{length, drop}
+use Rattle.candidates.specs.declared.Row.{Row}
+use Rattle.candidates.specs.Held.{rowsIn}
+use Rattle.search.specs.Visit.{Found}
+use Rattle.lending.specs.declared.Answer.{Answer}
+use Rattle.lending.specs.declared.Outcome.{Outcome}
+use Rattle.lending.specs.declared.Tally.{Tally}
+use Rattle.lending.specs.Tallies.{counted}
+use Rattle.index.specs.Refusals.{First, questionRules}
+use Rattle.index.specs.Outcomes.{unlessRefused, foundWith}
+
+-- rows lent, once these rows have been returned in them: rows past those keep their contents
+abbrev pub written : List Row → List Row → List Row
+written rows lent = rows ++ drop (length rows) lent
+
+-- What a question for the k nearest of p on index b returns and leaves. lent, tally: the rows lent and the caller's tally before it.
+pub record Questioned (b : List ℕ) (p : List ℤ) (k : ℕ) (lent : List Row) (tally : Tally) (r : Answer) (lent' : List Row) (tally' : Tally) : Type 0 where
+  pub first : First (questionRules b p k (length lent)) (r .code)
+  pub count : r .count ≡ length (foundWith (r .code) b p k .rows)
+  pub leaves : r .leaves ≡ foundWith (r .code) b p k .leaves
+  pub rows : lent' ≡ written (foundWith (r .code) b p k .rows) lent
+  pub tallying : tally' ≡ unlessRefused (r .code) (counted tally (r .leaves)) tally
+
+-- the same by value, before it is handed over: an outcome o of a question with n rows lent
+pub record Asked (b : List ℕ) (p : List ℤ) (k n : ℕ) (o : Outcome) : Type 0 where
+  pub first : First (questionRules b p k n) (o .answer .code)
+  pub listed : o .list .count ≡ o .answer .count
+  pub count : o .answer .count ≡ length (foundWith (o .answer .code) b p k .rows)
+  pub leaves : o .answer .leaves ≡ foundWith (o .answer .code) b p k .leaves
+  pub rows : rowsIn (o .list .distances) (o .list .tags) (o .list .count) ≡ foundWith (o .answer .code) b p k .rows
+  pub distances : length (o .list .distances) ≡ 64
+  pub tags : length (o .list .tags) ≡ 64

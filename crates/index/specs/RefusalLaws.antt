@@ -1,0 +1,72 @@
+-- Laws of the refusal table: it gives one number at most, and an act that it does not refuse has every condition.
+use mathlib.Core.Path.{_≡_, refl, sym, _∙_}
+use mathlib.Core.Bool.{Bool, true, false}
+use mathlib.Core.Logic.{_≢_, _⊎_, inl, inr}
+use mathlib.Core.List.{List, [], _∷_, _++_}
+use Prim.Native.Nat.{ℕ, _≤_, zero-le}
+use native.Mathlib.Omega.{arith}
+use lib.Dec.{leb}
+use borrow.Author.Tests.{leb-true}
+use Rattle.lists.specs.Basics.{pick}
+use Rattle.lists.specs.Tests.{cases, false-true}
+use Rattle.index.specs.Refusals.{Rule, First, deleteRules}
+
+pub first-one : (rules : List Rule) (m n : ℕ) → First rules m → First rules n → m ≡ n
+first-one [] m n e f = e ∙ sym f
+first-one (rule ∷ rules) m n (inl e) (inl f) = e .0 ∙ sym (f .0)
+first-one (rule ∷ rules) m n (inl e) (inr f) = absurd (e .1 (f .0))
+first-one (rule ∷ rules) m n (inr e) (inl f) = absurd (f .1 (e .0))
+first-one (rule ∷ rules) m n (inr e) (inr f) = first-one rules m n (e .1) (f .1)
+
+-- and one at least, where each condition is decided
+abbrev pub Decided : List Rule → Type 0
+Decided [] = Unit {0}
+Decided (rule ∷ rules) = ((rule .1) ⊎ ¬ (rule .1)) × Decided rules
+
+pub first-some : (rules : List Rule) → Decided rules → (n : ℕ) × First rules n
+first-some [] d = (0, refl)
+first-some (rule ∷ rules) (inl h, d) = let r = first-some rules d in (r .0, inr (h, r .1))
+first-some (rule ∷ rules) (inr w, d) = (rule .0, inl (refl, w))
+
+-- 12 is never given: evening out two leaves wants no page
+pub never-twelve : (b : List ℕ) (i n : ℕ) → First (deleteRules b i) n → n ≢ 12
+never-twelve b i n (inl e) z = omega (arith, e .0)
+never-twelve b i n (inr (p, inl e)) z = omega (arith, e .0)
+never-twelve b i n (inr (p, inr (s, inl e))) z = omega (arith, e .0)
+never-twelve b i n (inr (p, inr (s, inr (o, inl e)))) z = omega (arith, e .0)
+never-twelve b i n (inr (p, inr (s, inr (o, inr (l, inl e))))) z = e .1 zero-le
+never-twelve b i n (inr (p, inr (s, inr (o, inr (l, inr (w, e)))))) z = omega (arith, e)
+
+-- all conditions
+abbrev pub Hold : List Rule → Type 0
+Hold [] = Unit {0}
+Hold (rule ∷ rules) = (rule .1) × Hold rules
+
+-- no rule has the number of success
+abbrev pub numbered : List Rule → Bool
+numbered [] = true
+numbered (rule ∷ rules) = pick (leb 1 (rule .0)) (numbered rules) false
+
+numbered-parts : (t u : Bool) → pick t u false ≡ true → (t ≡ true) × (u ≡ true)
+numbered-parts true u e = (refl, e)
+numbered-parts false u e = false-true e
+
+pub all-hold : (rules : List Rule) → numbered rules ≡ true → First rules 0 → Hold rules
+all-hold [] w h = tt
+all-hold (rule ∷ rules) w (inl e) = absurd (omega (arith, leb-true 1 (rule .0) (numbered-parts (leb 1 (rule .0)) (numbered rules) w .0), e .0))
+all-hold (rule ∷ rules) w (inr e) = (e .0, all-hold rules (numbered-parts (leb 1 (rule .0)) (numbered rules) w .1) (e .1))
+
+-- and conversely: an act of which every condition holds is not refused
+pub none-fails : (rules : List Rule) → Hold rules → First rules 0
+none-fails [] h = refl
+none-fails (rule ∷ rules) h = inr (h .0, none-fails rules (h .1))
+
+-- rules that go on after others: the first of them to refuse decides
+pub refused-before : (xs ys : List Rule) (n : ℕ) → n ≢ 0 → First xs n → First (xs ++ ys) n
+refused-before [] ys n w e = absurd (w e)
+refused-before (rule ∷ xs) ys n w (inl e) = inl e
+refused-before (rule ∷ xs) ys n w (inr e) = inr (e .0, refused-before xs ys n w (e .1))
+
+pub refused-after : (xs ys : List Rule) (n : ℕ) → Hold xs → First ys n → First (xs ++ ys) n
+refused-after [] ys n h e = e
+refused-after (rule ∷ xs) ys n h e = inr (h .0, refused-after xs ys n (h .1) e)

@@ -1,0 +1,91 @@
+-- The refusal table (01): for each act its numbers in their order, each with what has to hold or else that number is returned.
+-- Laid beside the table: a number's condition says the contrary of "given when".
+use mathlib.Core.Path.{_≡_}
+use mathlib.Core.Bool.{true}
+use mathlib.Core.Logic.{_⊎_}
+use mathlib.Core.List.{List, [], _∷_, map}
+use Prim.Native.Nat.{ℕ, _≤_, _<_}
+use lib.IntN.{ℤ}
+use lib.ListN.{length}
+use Rattle.lists.specs.Counts.{mult}
+use Rattle.geometry.specs.Stored.{slotsOf, inRange}
+use Rattle.pagestore.specs.declared.Record.{Record}
+use Rattle.pagestore.specs.Store.{View, viewOf, freeAt}
+use Rattle.trees.specs.Trees.{identOf, live}
+use Rattle.trees.specs.Sound.{Permitted, SoundIndex}
+use Rattle.tree.specs.Insertion.{pagesWanted}
+
+-- a number with its condition
+abbrev pub Rule : Type 1
+Rule = ℕ × Type 0
+
+-- n is the number of the first rule whose condition fails, or 0 where none fails
+abbrev pub First : List Rule → ℕ → Type 0
+First [] n = n ≡ 0
+First (rule ∷ rules) n = ((n ≡ rule .0) × ¬ (rule .1)) ⊎ ((rule .1) × First rules n)
+
+-- the record that an insert brings: its identifier, and its point as it is stored
+abbrev pub recordOf : ℕ → List ℤ → Record
+recordOf i p = record { id = i; coords = slotsOf p }
+
+-- how often the identifier i is live: once or not at all
+abbrev pub liveTimes : List ℕ → ℕ → ℕ
+liveTimes b i = mult i (map identOf (live (viewOf b)))
+
+-- the pages that delete wants for evening out two leaves: a partner gives an entry, or the two join, so none
+abbrev pub pagesToEven : ℕ
+pagesToEven = 0
+
+-- b: the bytes lent. d: features. i: an identifier. p: a point. k: rows asked for. n: rows lent.
+
+abbrev pub makeRules : ℕ → ℕ → List Rule
+makeRules bytes d =
+    (1, Permitted bytes)
+    ∷ (3, (1 ≤ d) × (d ≤ 16))
+    ∷ []
+
+abbrev pub insertRules : List ℕ → ℕ → List ℤ → List Rule
+insertRules b i p =
+    (1, Permitted (length b))
+    ∷ (2, SoundIndex b)
+    ∷ (3, length p ≡ viewOf b .d)
+    ∷ (4, inRange p ≡ true)
+    ∷ (5, 1 ≤ i)
+    ∷ (6, liveTimes b i ≡ 0)
+    ∷ (8, length (live (viewOf b)) < 65535)
+    ∷ (9, pagesWanted b (recordOf i p) ≤ length (freeAt b))
+    ∷ []
+
+abbrev pub deleteRules : List ℕ → ℕ → List Rule
+deleteRules b i =
+    (1, Permitted (length b))
+    ∷ (2, SoundIndex b)
+    ∷ (5, 1 ≤ i)
+    ∷ (7, 0 < liveTimes b i)
+    ∷ (12, pagesToEven ≤ length (freeAt b))
+    ∷ []
+
+abbrev pub questionRules : List ℕ → List ℤ → ℕ → ℕ → List Rule
+questionRules b p k n =
+    (1, Permitted (length b))
+    ∷ (2, SoundIndex b)
+    ∷ (3, length p ≡ viewOf b .d)
+    ∷ (4, inRange p ≡ true)
+    ∷ (10, (1 ≤ k) × (k ≤ 64))
+    ∷ (11, k ≤ n)
+    ∷ []
+
+abbrev pub checkRules : List ℕ → List Rule
+checkRules b =
+    (1, Permitted (length b))
+    ∷ (2, SoundIndex b)
+    ∷ []
+
+-- those with which insert and question both begin
+abbrev pub pointRules : List ℕ → List ℤ → List Rule
+pointRules b p =
+    (1, Permitted (length b))
+    ∷ (2, SoundIndex b)
+    ∷ (3, length p ≡ viewOf b .d)
+    ∷ (4, inRange p ≡ true)
+    ∷ []

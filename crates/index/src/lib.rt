@@ -1,0 +1,6 @@
+// The acts on an index: each has a stated outcome for every input, and refuses with the first number that applies in its order.
+mod making;
+mod refusing;
+
+pub use making::make;
+pub use making::permitted;

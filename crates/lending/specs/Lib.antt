@@ -1,0 +1,4 @@
+pub mod Tallies
+pub mod Filling
+pub mod FillingLaws
+pub mod Delivered

@@ -1,0 +1,113 @@
+// What a caller lends to a question: a run of rows, and a tally. Both are changed by thin functions over covered ones.
+ghost use mathlib.Core.Path.{_≡_};
+ghost use Prim.Native.Nat.{_<_, min};
+ghost use lib.ListN.{length};
+ghost use Rattle.lending.specs.Tallies.{saturated, counted};
+ghost use Rattle.lending.specs.Filling.{rowAt, rowsLent, filled};
+ghost use Rattle.lending.specs.Delivered.{Delivered};
+use candidates::Row;
+use candidates::row_of;
+
+// A caller's tally (01): the questions carried out, and the leaves that they read.
+pub struct Tally {
+    pub questions: u32,
+    pub leaves: u32,
+}
+
+// The sum, or 4,294,967,295 where it would pass that.
+fn saturating_add(a: u32, b: u32) -> u32
+    ensures { λ r. ⌜ r ≡ saturated a b ⌝ }
+{
+    if a <= 4294967295 - b {
+        a + b
+    } else {
+        4294967295
+    }
+}
+
+// The tally after one more question that read some leaves.
+pub fn tallied(t: Tally, leaves: u32) -> Tally
+    ensures { λ r. ⌜ r ≡ counted t leaves ⌝ }
+{
+    let q = saturating_add(t.questions, 1);
+    let l = saturating_add(t.leaves, leaves);
+    Tally {
+        questions: q,
+        leaves: l,
+    }
+}
+
+// The same for a tally that is lent.
+pub fn tally_question(t: &mut Tally, leaves: u32)
+    ensures { λ _. ⌜ now (t .exit) ≡ counted (now (t .entry)) leaves ⌝ }
+{
+    *t = tallied(*t, leaves);
+}
+
+// The candidates that a question has found: the rows of the first `count` distances and tags.
+pub struct Candidates {
+    pub distances: [u64; 64],
+    pub tags: [u64; 64],
+    pub count: usize,
+}
+
+// The row of candidate i.
+fn row_at(list: Candidates, i: usize) -> Row
+    requires { ⌜ i < 64 ⌝ }
+    ensures { λ r. ⌜ r ≡ rowAt list i ⌝ }
+{
+    let distance = list.distances[i];
+    let tag = list.tags[i];
+    row_of(distance, tag)
+}
+
+// The lesser of two numbers.
+fn lesser(a: usize, b: usize) -> usize
+    ensures { λ r. ⌜ r ≡ min a b ⌝ }
+{
+    if a <= b { a } else { b }
+}
+
+// How many rows are written: the candidates, at most as many as there are places for them.
+fn fill_count(list: Candidates, lent: usize) -> usize
+    ensures { λ r. ⌜ r ≡ rowsLent list lent ⌝ }
+{
+    let n = lesser(list.count, 64);
+    lesser(n, lent)
+}
+
+// Fills the rows lent with the candidates; rows past them keep their contents.
+pub fn fill_rows(rows: &mut [Row], list: Candidates)
+    ensures { λ _. ⌜ now (rows .exit) ≡ filled list (now (rows .entry)) ⌝ }
+{
+    let n = fill_count(list, rows.len());
+    let mut i: usize = 0;
+    while i < n {
+        rows[i] = row_at(list, i);
+        i += 1;
+    }
+}
+
+// What a question returns: its number, how many rows, and how many leaves were read.
+pub struct Answer {
+    pub code: u32,
+    pub count: usize,
+    pub leaves: u32,
+}
+
+// A question's answer with the candidates that it found.
+pub struct Outcome {
+    pub answer: Answer,
+    pub list: Candidates,
+}
+
+// Hands an outcome over: the rows are filled and the question is tallied; where it is refused both are left alone.
+pub fn deliver(rows: &mut [Row], tally: &mut Tally, o: Outcome) -> Answer
+    ensures { λ r. ⌜ Delivered o (now (rows .entry)) (now (tally .entry)) r (now (rows .exit)) (now (tally .exit)) ⌝ }
+{
+    if o.answer.code == 0 {
+        fill_rows(rows, o.list);
+        tally_question(tally, o.answer.leaves);
+    }
+    o.answer
+}

@@ -1,0 +1,4 @@
+pub mod NewRecords
+pub mod Answers
+pub mod Series
+pub mod Identifiers
