@@ -1,13 +1,7 @@
 -- Parts of a list: its first and last elements, one element or two neighbours replaced, and what is joined from them.
-<<<<<<< HEAD
 use mathlib.Core.Path.{_≡_, refl, ap, _∙_}
 use mathlib.Core.List.{List, [], _∷_, _++_, map}
 use Prim.Native.Nat.{ℕ, zero, suc, _+_, _<_}
-=======
-use mathlib.Core.Path.{_≡_, refl, sym, ap, _∙_}
-use mathlib.Core.List.{List, [], _∷_, _++_, map, append-assoc}
-use Prim.Native.Nat.{ℕ, zero, suc, _+_, _≤_, _<_}
->>>>>>> bd3fb00be8303a1aec77bbd07d24d3bc0c5131d1
 use native.Mathlib.Omega.{arith}
 use lib.ListN.{length, take, drop, getD, set, length-append, length-take, length-drop}
 use lib.Seq.{split-at, drop-cons, set-split}

@@ -1,26 +1,14 @@
 -- Lists that ascend strictly by a number of their elements: insertion, and what lies before and behind a place.
-<<<<<<< HEAD
 use mathlib.Core.Path.{_≡_, refl, ap}
 use mathlib.Core.Bool.{Bool}
 use mathlib.Core.List.{List, [], _∷_, _++_, map}
 use Prim.Native.Nat.{ℕ, suc, _+_, _≤_, _<_}
-=======
-use mathlib.Core.Path.{_≡_, refl, sym, ap, _∙_}
-use mathlib.Core.Bool.{Bool, true, false}
-use mathlib.Core.List.{List, [], _∷_, _++_, map}
-use Prim.Native.Nat.{ℕ, zero, suc, _+_, _≤_, _<_}
->>>>>>> bd3fb00be8303a1aec77bbd07d24d3bc0c5131d1
 use native.Mathlib.Omega.{arith}
 use lib.Dec.{ltb}
 use lib.ListN.{length}
 use borrow.Author.Tests.{ltb-true, ltb-false, lt-ltb, le-ltb}
-<<<<<<< HEAD
 use Rattle.lists.specs.Basics.{pick, All, none, also, all-left, all-right, all-map}
 use Rattle.lists.specs.Ascending.{Ascending, none, one, more}
-=======
-use Rattle.lists.specs.Basics.{pick, All, none, also, all-append, all-left, all-right, all-map}
-use Rattle.lists.specs.Ascending.{Ascending, none, one, more, headOr}
->>>>>>> bd3fb00be8303a1aec77bbd07d24d3bc0c5131d1
 use Rattle.lists.specs.Sorting.{ins}
 use Rattle.lists.specs.Choices.{bool-cases}
 
@@ -98,11 +86,8 @@ module _ {A : Type 0} (f : A → ℕ) where
       (λ e. let l : f k ≤ f x = ltb-false (f x) (f k) e in
       let g : f k < f x = omega (arith, ne) in
       step (also g (all-map (λ y (w : f x < f y). omega arith) h)) (step h t))
-<<<<<<< HEAD
 
 -- each number is above all behind it
 pub data Falling : List ℕ → Type 0 where
   low : Falling []
   down : {x : ℕ} {xs : List ℕ} → All (λ y. y < x) xs → Falling xs → Falling (x ∷ xs)
-=======
->>>>>>> bd3fb00be8303a1aec77bbd07d24d3bc0c5131d1

@@ -8,6 +8,7 @@ mod header;
 mod items;
 mod numbers;
 mod pages;
+mod shift;
 
 // One page, handed over as a part of the index.
 pub use pages::read_inner;
@@ -21,6 +22,7 @@ pub use pages::in_range;
 pub use pages::inner_at;
 pub use pages::leaf_at;
 pub use pages::level_at;
+pub use pages::link_at;
 pub use pages::page_count;
 pub use pages::set_inner;
 pub use pages::set_leaf;
@@ -44,9 +46,14 @@ pub use header::total_records;
 // Free pages, and a new index.
 pub use counting::free_count;
 pub use free::free_page;
-pub use free::link_at;
 pub use free::make;
 pub use free::take_page;
+
+// Items put in and taken out, in a page held by value.
+pub use shift::insert_entry;
+pub use shift::insert_record;
+pub use shift::remove_entry;
+pub use shift::remove_record;
 
 // A record as it is stored: its identifier, and 16 coordinate slots, each a coordinate with 1,000 added.
 pub struct Record {

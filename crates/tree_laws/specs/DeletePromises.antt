@@ -1,18 +1,11 @@
 -- What a deletion promises: the index is sound again, its records are the old ones without the one deleted, and the pages given up are the next to be taken.
-<<<<<<< HEAD
 use mathlib.Core.Path.{_≡_, refl, ap, _∙_, subst}
 use mathlib.Core.List.{List, _++_, map}
 use Prim.Native.Nat.{ℕ, _+_, _-_, _<_}
-=======
-use mathlib.Core.Path.{_≡_, refl, sym, ap, _∙_, subst}
-use mathlib.Core.List.{List, [], _∷_, _++_, map}
-use Prim.Native.Nat.{ℕ, zero, suc, _+_, _-_, _*_, _≤_, _<_}
->>>>>>> bd3fb00be8303a1aec77bbd07d24d3bc0c5131d1
 use native.Mathlib.Omega.{arith}
 use lib.ListN.{length}
 use Rattle.lists.specs.Basics.{All, all-map}
 use Rattle.lists.specs.Counts.{mult}
-<<<<<<< HEAD
 use Rattle.lists.specs.Rising.{Falling}
 use Rattle.pagestore.specs.declared.Record.{Record}
 use Rattle.pagestore.specs.Store.{features, root, level, total, fieldAt, levelAt, freeAt, viewOf}
@@ -25,17 +18,6 @@ use Rattle.tree_laws.specs.DeleteTree.{Known}
 use Rattle.tree_laws.specs.DeleteRoot.{deletedTree, givenRoot, delete-root}
 use Rattle.tree_laws.specs.LevelLaws.{given-root-below}
 use Rattle.tree_laws.specs.Wholes.{Whole, shapeAt, sound-whole, sound-right, view-d}
-=======
-use Rattle.pagestore.specs.declared.Record.{Record}
-use Rattle.pagestore.specs.Store.{Field, features, root, level, total, fieldAt, setField, freeAt, View, viewOf}
-use Rattle.trees.specs.Trees.{Item, records, rankOf, identOf, treeOf, live}
-use Rattle.trees.specs.Sound.{SoundIndex}
-use Rattle.tree.specs.Deletion.{deleteRecord, deleteAt, lowerRoot, takeFromTotal, deleteFrom}
-use Rattle.tree.specs.Lookup.{findIn}
-use Rattle.tree_laws.specs.DeleteTree.{Known}
-use Rattle.tree_laws.specs.DeleteRoot.{givenRoot, delete-root}
-use Rattle.tree_laws.specs.Wholes.{Whole, sound-whole, sound-right, view-d}
->>>>>>> bd3fb00be8303a1aec77bbd07d24d3bc0c5131d1
 use Rattle.tree_laws.specs.Depth.{level-small}
 use Rattle.tree_laws.specs.Header.{Changed, total-changed, changed-sound}
 use Rattle.tree_laws.specs.Idents.{del-all, del-one, ident-del}
@@ -66,23 +48,14 @@ module _ (b : List ℕ) (i : ℕ) (s : SoundIndex b) (h : 0 < mult i (map identO
   abbrev lowered : List ℕ
   lowered = lowerRoot (fieldAt level b) (deleteAt (fieldAt features b) (fieldAt level b) b (fieldAt root b) (findIn b i) .bytes) (fieldAt root b) (deleteAt (fieldAt features b) (fieldAt level b) b (fieldAt root b) (findIn b i) .count)
 
-<<<<<<< HEAD
   found : Changed d b lowered (deletedTree (viewOf b .d) (findIn b i) (shapeAt b)) (deleteRecord (findIn b i .id) (live (viewOf b))) (pagesGiven b i ++ freeAt b)
-=======
-  found : Changed d b lowered (deleteRecord (findIn b i .id) (live (viewOf b))) (pagesGiven b i ++ freeAt b)
->>>>>>> bd3fb00be8303a1aec77bbd07d24d3bc0c5131d1
   unfolding live pagesGiven
   found =
       let v = level-small b (viewOf b .level) (treeOf (viewOf b)) (w .ok) (w .own) in
       rw (w .features-are, w .level-is, w .root-is) (delete-root d b r (viewOf b .level) (treeOf (viewOf b)) (omega arith) w known)
 
-<<<<<<< HEAD
   changed : Changed d b lowered (deletedTree (viewOf b .d) (findIn b i) (shapeAt b)) (deleteRecord i (live (viewOf b))) (pagesGiven b i ++ freeAt b)
   changed = subst (λ (j : ℕ). Changed d b lowered (deletedTree (viewOf b .d) (findIn b i) (shapeAt b)) (deleteRecord j (live (viewOf b))) (pagesGiven b i ++ freeAt b)) (find-ident b i s h) found
-=======
-  changed : Changed d b lowered (deleteRecord i (live (viewOf b))) (pagesGiven b i ++ freeAt b)
-  changed = subst (λ (j : ℕ). Changed d b lowered (deleteRecord j (live (viewOf b))) (pagesGiven b i ++ freeAt b)) (find-ident b i s h) found
->>>>>>> bd3fb00be8303a1aec77bbd07d24d3bc0c5131d1
 
   shorter : length (deleteRecord i (live (viewOf b))) + 1 ≡ length (live (viewOf b))
   shorter = del-one i (live (viewOf b)) h
@@ -108,7 +81,6 @@ module _ (b : List ℕ) (i : ℕ) (s : SoundIndex b) (h : 0 < mult i (map identO
   unfolding deleteFrom takeFromTotal
   delete-pages = total-changed (fieldAt total lowered - 1) changed .1
 
-<<<<<<< HEAD
   -- lower levels first: from the last freed back, their levels fall
   pub delete-order : Falling (map (levelAt b) (pagesGiven b i))
   unfolding pagesGiven
@@ -119,8 +91,6 @@ module _ (b : List ℕ) (i : ℕ) (s : SoundIndex b) (h : 0 < mult i (map identO
   unfolding deleteFrom takeFromTotal
   delete-shape = total-changed (fieldAt total lowered - 1) changed .4
 
-=======
->>>>>>> bd3fb00be8303a1aec77bbd07d24d3bc0c5131d1
   pub delete-length : length (deleteIdent b i) ≡ length b
   unfolding deleteFrom takeFromTotal
   delete-length = total-changed (fieldAt total lowered - 1) changed .2

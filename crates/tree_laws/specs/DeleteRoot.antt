@@ -1,30 +1,19 @@
 -- Deletion at the root: where an inner root is left with one child, that child is the root, and the old root is free.
 use mathlib.Core.Path.{_≡_, refl, sym, ap, _∙_, subst}
-<<<<<<< HEAD
 use mathlib.Core.Bool.{Bool, true}
 use mathlib.Core.List.{List, [], _∷_, _++_, append-nil}
 use Prim.Native.Nat.{ℕ, zero, suc, _+_, _<_}
-=======
-use mathlib.Core.Bool.{Bool, true, false}
-use mathlib.Core.List.{List, [], _∷_, _++_, map, append-nil}
-use Prim.Native.Nat.{ℕ, zero, suc, _+_, _≤_, _<_}
->>>>>>> bd3fb00be8303a1aec77bbd07d24d3bc0c5131d1
 use native.Mathlib.Omega.{arith}
 use lib.Dec.{eqb}
 use lib.ListN.{length, getD}
 use borrow.Author.Tests.{eqb-true, eqb-false}
-<<<<<<< HEAD
 use Rattle.lists.specs.Basics.{pick, tick, All, flat, all-head}
-=======
-use Rattle.lists.specs.Basics.{pick, tick, All, none, also, flat, all-head}
->>>>>>> bd3fb00be8303a1aec77bbd07d24d3bc0c5131d1
 use Rattle.lists.specs.Choices.{bool-cases, tick-le, tick-true}
 use Rattle.lists.specs.Counts.{mult, mult-append, mult-self, absent}
 use Rattle.lists.specs.Rising.{Rising}
 use Rattle.lists.specs.Runs.{all-at}
 use Rattle.pagestore.specs.declared.Record.{Record}
 use Rattle.pagestore.specs.declared.Entry.{Entry}
-<<<<<<< HEAD
 use Rattle.pagestore.specs.Store.{pageAt, features, root, level, freed, fieldAt, inRange, innerAt, entriesIn, freeAt, freePage}
 use Rattle.pagestore.specs.Store.FreeLaws.{page-free, free-free}
 use Rattle.trees.specs.Trees.{Item, records, pages, rankOf}
@@ -38,28 +27,12 @@ use Rattle.tree_laws.specs.DeleteTree.{deleteTree, same-page, Known, del
 use Rattle.tree_laws.specs.DeleteSim.{DeleteSim, delete-sim}
 use Rattle.tree_laws.specs.Wholes.{Whole}
 use Rattle.tree_laws.specs.Header.{setRoot, root-length, root-field, root-page, root-free, root-well, root-range, root-set, level-set, Changed, changed-over}
-=======
-use Rattle.pagestore.specs.Store.{pageAt, Field, features, root, level, freed, fresh, Apart, fieldAt, setField, inRange, innerAt, entriesIn, freeAt, freePage}
-use Rattle.pagestore.specs.Store.FreeLaws.{length-free-page, page-free, field-free, free-free}
-use Rattle.trees.specs.Trees.{Item, records, pages, rankOf, entryOf}
-use Rattle.tree.specs.Entries.{childAt}
-use Rattle.tree.specs.Deletion.{Deleted, deleteRecord, deleteAt, lowerRoot}
-use Rattle.tree_laws.specs.Shapes.{Ok, Some, Root, ok-root, noTree, child-at}
-use Rattle.tree_laws.specs.Idents.{del-all, del-length, del-rising}
-use Rattle.tree_laws.specs.Frames.{Held, held-frame, Well, Kept, kept-range, kept-free, freed-le}
-use Rattle.tree_laws.specs.InsertSim.{inner-items}
-use Rattle.tree_laws.specs.DeleteTree.{deleteTree, Known, After, delete-after, delete-kept, delete-records, delete-free, delete-tree, given}
-use Rattle.tree_laws.specs.DeleteSim.{DeleteSim, delete-sim}
-use Rattle.tree_laws.specs.Wholes.{Whole}
-use Rattle.tree_laws.specs.Header.{setRoot, root-length, root-field, root-page, root-free, root-well, root-range, root-set, level-set, Changed}
->>>>>>> bd3fb00be8303a1aec77bbd07d24d3bc0c5131d1
 
 -- the pages given up, the last one first: the root, if it gives way, and those of the levels below it from above
 unfoldable pub givenRoot : ℕ → (l : ℕ) → Record → Item (suc l) → List ℕ
 givenRoot d zero r t = []
 givenRoot d (suc l) r t = pick (eqb (length (deleteTree d (suc l) r [] t .tree .1)) 1) (t .0 ∷ []) [] ++ given d (suc l) r t
 
-<<<<<<< HEAD
 -- the tree of a root x of level l, which gives way to a child that is alone
 unfoldable pub lowered : (l : ℕ) → Item (suc l) → Shape
 lowered zero x = (0, x)
@@ -69,8 +42,6 @@ lowered (suc l) x = pick (eqb (length (x .1)) 1) (l, getD (x .1) 0 (noTree l)) (
 unfoldable pub deletedTree : ℕ → Record → Shape → Shape
 deletedTree d r s = lowered (s .0) (deleteTree d (s .0) r [] (s .1) .tree)
 
-=======
->>>>>>> bd3fb00be8303a1aec77bbd07d24d3bc0c5131d1
 -- the root p of b over the one tree c
 module _ (d l : ℕ) (b : List ℕ) (p : ℕ) (c : Item (suc l)) (v : suc l < 256) (well : Well b) (ok : Ok (suc l) c) (held : Held d (suc (suc l)) b (p, c ∷ []))
     (own : (q : ℕ) → mult q (pages (suc (suc l)) (p, c ∷ [])) + mult q (freeAt b) ≡ tick (inRange b q)) where
@@ -132,17 +103,9 @@ module _ (d l : ℕ) (b : List ℕ) (p : ℕ) (c : Item (suc l)) (v : suc l < 25
         order = s;
       }
 
-<<<<<<< HEAD
   pub low-changed : fieldAt features b ≡ d → Rising (rankOf d) (records (suc l) c) → Changed d b b3 (l, c) (records (suc l) c) (p ∷ freeAt b)
   low-changed ft s =
       record {
-=======
-  pub low-changed : fieldAt features b ≡ d → Rising (rankOf d) (records (suc l) c) → Changed d b b3 (records (suc l) c) (p ∷ freeAt b)
-  low-changed ft s =
-      record {
-        height = l;
-        tree = c;
->>>>>>> bd3fb00be8303a1aec77bbd07d24d3bc0c5131d1
         whole = low-whole ft s;
         records-are = refl;
         free-are = low-free;
@@ -154,14 +117,6 @@ module _ (d l : ℕ) (b : List ℕ) (p : ℕ) (c : Item (suc l)) (v : suc l < 25
   pub low-child : childAt (entriesIn (innerAt b p)) 0 ≡ c .0
   low-child = ap (λ (es : List Entry). childAt es 0) (inner-items d l b (p, c ∷ []) held) ∙ child-at d l 0 (c ∷ [])
 
-<<<<<<< HEAD
-=======
-same-page : (d l : ℕ) (r : Record) (fs : List ℕ) (t : Item (suc l)) → deleteTree d l r fs t .tree .0 ≡ t .0
-unfolding deleteTree
-same-page d zero r fs t = refl
-same-page d (suc l) r fs t = refl
-
->>>>>>> bd3fb00be8303a1aec77bbd07d24d3bc0c5131d1
 one-item : {A : Type 0} (xs : List A) (d : A) → length xs ≡ 1 → xs ≡ getD xs 0 d ∷ []
 one-item [] d h = absurd (omega arith)
 one-item (x ∷ []) d h = refl
@@ -198,17 +153,9 @@ module _ (d : ℕ) (b : List ℕ) (r : Record) (l : ℕ) (t : Item (suc l)) (v :
   features-o = sim .kept .field features refl refl ∙ w .features-are
 
   -- where the root stays
-<<<<<<< HEAD
   stay : Root l x → Changed d b (o .bytes) (l, x) (deleteRecord (r .id) (records (suc l) t)) (given d l r t ++ freeAt b)
   stay ro =
       record {
-=======
-  stay : Root l x → Changed d b (o .bytes) (deleteRecord (r .id) (records (suc l) t)) (given d l r t ++ freeAt b)
-  stay ro =
-      record {
-        height = l;
-        tree = x;
->>>>>>> bd3fb00be8303a1aec77bbd07d24d3bc0c5131d1
         whole =
             record {
               features-are = features-o;
@@ -226,32 +173,11 @@ module _ (d : ℕ) (b : List ℕ) (r : Record) (l : ℕ) (t : Item (suc l)) (v :
         others = λ f u y z a. sim .kept .field f u y;
       }
 
-<<<<<<< HEAD
-=======
-changed-cast : {d : ℕ} {b b' c c' : List ℕ} {rs rs' : List Record} {fs fs' : List ℕ} → Kept b b' → c ≡ c' → rs ≡ rs' → fs ≡ fs' → Changed d b' c rs fs → Changed d b c' rs' fs'
-changed-cast {d} {b} {b'} {c} {c'} {rs} {rs'} {fs} {fs'} k e f g y =
-    let z : Changed d b c rs fs =
-    record {
-      height = y .height;
-      tree = y .tree;
-      whole = y .whole;
-      records-are = y .records-are;
-      free-are = y .free-are;
-      length-is = y .length-is ∙ k .size;
-      others = λ h u v m n. y .others h u v m n ∙ k .field h u v;
-    } in
-    subst (λ (a : List ℕ). Changed d b a rs' fs') e (subst (λ (a : List Record). Changed d b c a fs') f (subst (λ (a : List ℕ). Changed d b c rs a) g z))
-
->>>>>>> bd3fb00be8303a1aec77bbd07d24d3bc0c5131d1
 -- an inner root that is left with one child
 gives-way : (d : ℕ) (b : List ℕ) (r : Record) (l : ℕ) (t : Item (suc (suc l))) (v : suc l < 256) (w : Whole d b (suc l) t) (kn : All (Known d r) (records (suc (suc l)) t))
     → length (deleteTree d (suc l) r (freeAt b) t .tree .1) ≡ 1
     → Changed d b (freePage (setRoot (deleteAt d (suc l) b (t .0) r .bytes) (childAt (entriesIn (innerAt (deleteAt d (suc l) b (t .0) r .bytes) (t .0))) 0) l) (t .0))
-<<<<<<< HEAD
     (l, getD (deleteTree d (suc l) r (freeAt b) t .tree .1) 0 (noTree l)) (deleteRecord (r .id) (records (suc (suc l)) t)) (t .0 ∷ (given d (suc l) r t ++ freeAt b))
-=======
-    (deleteRecord (r .id) (records (suc (suc l)) t)) (t .0 ∷ (given d (suc l) r t ++ freeAt b))
->>>>>>> bd3fb00be8303a1aec77bbd07d24d3bc0c5131d1
 unfolding records flat
 gives-way d b r l t v w kn e =
     let x = deleteTree d (suc l) r (freeAt b) t .tree in
@@ -268,7 +194,6 @@ gives-way d b r l t v w kn e =
     sym (append-nil (records (suc l) c)) ∙ ap (records (suc (suc l))) (sym x-is) ∙ records-o d b r (suc l) t v w kn in
     let rise : Rising (rankOf d) (records (suc l) c) = subst (Rising (rankOf d)) (sym rs) (del-rising d (r .id) (w .order)) in
     let wl = sm .kept .well in
-<<<<<<< HEAD
     changed-over (sm .kept)
     (ap (λ (z : ℕ). freePage (setRoot b1 z l) (t .0)) (sym (low-child d l b1 (t .0) c v wl okc held own)))
     refl rs
@@ -303,28 +228,3 @@ pub delete-root : (d : ℕ) (b : List ℕ) (r : Record) (l : ℕ) (t : Item (suc
 unfolding lowerRoot deletedTree lowered givenRoot given deleteTree Some
 delete-root d b r zero t v w kn = stay d b r zero t v w kn (leaf-root d r (freeAt b) t (w .ok))
 delete-root d b r (suc l) t v w kn = inner-root d b r l t v w kn
-=======
-    changed-cast (sm .kept)
-    (ap (λ (z : ℕ). freePage (setRoot b1 z l) (t .0)) (sym (low-child d l b1 (t .0) c v wl okc held own)))
-    rs
-    (ap (λ (z : List ℕ). t .0 ∷ z) (free-o d b r (suc l) t v w kn))
-    (low-changed d l b1 (t .0) c v wl okc held own (features-o d b r (suc l) t v w kn) rise)
-
--- THE DELETION
-pub delete-root : (d : ℕ) (b : List ℕ) (r : Record) (l : ℕ) (t : Item (suc l)) → l < 256 → Whole d b l t → All (Known d r) (records (suc l) t)
-    → Changed d b (lowerRoot l (deleteAt d l b (t .0) r .bytes) (t .0) (deleteAt d l b (t .0) r .count)) (deleteRecord (r .id) (records (suc l) t)) (givenRoot d l r t ++ freeAt b)
-unfolding lowerRoot givenRoot given Some
-delete-root d b r zero t v w kn = stay d b r zero t v w kn (leaf-root d r (freeAt b) t (w .ok))
-delete-root d b r (suc l) t v w kn =
-    let b1 = deleteAt d (suc l) b (t .0) r .bytes in
-    let n = length (deleteTree d (suc l) r [] t .tree .1) in
-    let low = freePage (setRoot b1 (childAt (entriesIn (innerAt b1 (t .0))) 0) l) (t .0) in
-    let ne : length (deleteTree d (suc l) r (freeAt b) t .tree .1) ≡ n = ap (λ (y : Item (suc (suc l))). length (y .1)) (delete-tree d (suc l) r (freeAt b) [] t) in
-    let ce : deleteAt d (suc l) b (t .0) r .count ≡ n = sim d b r (suc l) t v w kn .count ∙ ne in
-    let near = delete-after d l r (freeAt b) t (w .ok) in
-    rw ce
-    (bool-cases (λ c. Changed d b (pick c low b1) (deleteRecord (r .id) (records (suc (suc l)) t)) ((pick c (t .0 ∷ []) [] ++ given d (suc l) r t) ++ freeAt b)) (eqb n 1)
-    (λ e. gives-way d b r l t v w kn (ne ∙ eqb-true n 1 e))
-    (λ e. let e' = eqb-false n 1 e in
-    stay d b r (suc l) t v w kn (record { some = omega (arith, near .low, ne, e'); most = near .high; subs = near .subs })))
->>>>>>> bd3fb00be8303a1aec77bbd07d24d3bc0c5131d1

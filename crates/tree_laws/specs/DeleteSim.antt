@@ -8,16 +8,11 @@ use native.Mathlib.Omega.{arith}
 use lib.Dec.{leb, ltb}
 use lib.ListN.{length, take, drop, getD, set, length-map, length-set}
 use lib.Seq.{split-at, drop-cons, set-split}
-<<<<<<< HEAD
 use borrow.Author.Tests.{leb-true, le-ltb}
-=======
-use borrow.Author.Tests.{leb-true, leb-false, le-ltb}
->>>>>>> bd3fb00be8303a1aec77bbd07d24d3bc0c5131d1
 use Rattle.lists.specs.Basics.{pick, tick, All, none, also, flat, flat-append, all-head, all-append, all-left, all-right}
 use Rattle.lists.specs.Choices.{pick-cases, tick-le, tick-true}
 use Rattle.lists.specs.Counts.{mult, mult-append, mult-more, mult-self, absent}
 use Rattle.lists.specs.FlatLaws.{map-append}
-<<<<<<< HEAD
 use Rattle.lists.specs.Parts.{all-drop, all-set, flat-set, flat-pair, map-take, map-drop, map-set}
 use Rattle.lists.specs.Runs.{all-take, all-at}
 use Rattle.pagestore.specs.declared.Record.{Record}
@@ -28,18 +23,6 @@ use Rattle.pagestore.specs.Store.PageLaws.{page-same, page-other}
 use Rattle.pagestore.specs.Store.FreeLaws.{free-page, page-free, free-free}
 use Rattle.trees.specs.Trees.{Item, pages, rankOf, entryOf, node}
 use Rattle.tree.specs.Entries.{choose, childAt, innerEntry}
-=======
-use Rattle.lists.specs.Parts.{all-drop, all-set, flat-three, flat-set, flat-pair, map-take, map-drop, map-set}
-use Rattle.lists.specs.Runs.{all-take, all-at}
-use Rattle.pagestore.specs.declared.Record.{Record}
-use Rattle.pagestore.specs.declared.Entry.{Entry}
-use Rattle.pagestore.specs.Store.{Page, pageAt, setPage, setLeaf, setInner, leafAt, innerAt, recordsIn, entriesIn, inRange, freeAt, freePage}
-use Rattle.pagestore.specs.Store.RangeLaws.{range-fits}
-use Rattle.pagestore.specs.Store.PageLaws.{page-same, page-other}
-use Rattle.pagestore.specs.Store.FreeLaws.{free-page, page-free, free-free}
-use Rattle.trees.specs.Trees.{Item, records, pages, rankOf, entryOf, node}
-use Rattle.tree.specs.Entries.{choose, childAt, leafEntry, innerEntry}
->>>>>>> bd3fb00be8303a1aec77bbd07d24d3bc0c5131d1
 use Rattle.tree.specs.Insertion.{writeInner}
 use Rattle.tree.specs.Deletion.{Deleted, deleteRecord, evenItems, Evened, putEven, evenPages, leftOf, leave, mend, deleteAt}
 use Rattle.tree_laws.specs.Shapes.{Ok, Some, Root, ok-root, noTree, no-pages, child-at, chosen, chosen-lt}
@@ -47,11 +30,7 @@ use Rattle.tree_laws.specs.Idents.{del-all, del-length}
 use Rattle.tree_laws.specs.EntryLaws.{leaf-entry, inner-entry}
 use Rattle.tree_laws.specs.Frames.{Held, held-list, held-zero, Well, Kept, kept-range, kept-trans, kept-page, kept-free, freed-le, node-fits}
 use Rattle.tree_laws.specs.InsertSim.{writeNode, entryAs, one-sim, leaf-items, inner-items, sum-at}
-<<<<<<< HEAD
 use Rattle.tree_laws.specs.DeleteTree.{Even, two, one, Less, glue, evened, Near, pair-near, pair-lt, pair-even, pair-ok, pair-pages, pair-length, deleteTree, delete-near, delete-kept}
-=======
-use Rattle.tree_laws.specs.DeleteTree.{Even, two, one, Less, glue, evened, Near, pair-near, pair-lt, pair-even, pair-ok, pair-pages, pair-length, Rest, deleteTree, delete-near, delete-kept}
->>>>>>> bd3fb00be8303a1aec77bbd07d24d3bc0c5131d1
 
 -- TWO PAGES EVENED OUT
 

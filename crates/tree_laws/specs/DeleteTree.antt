@@ -1,6 +1,5 @@
 -- Deletion from a tree: its records, its fills, the pages that it gives up. Nothing here speaks of bytes.
 use mathlib.Core.Path.{_≡_, refl, sym, ap, _∙_}
-<<<<<<< HEAD
 use mathlib.Core.Logic.{_≢_}
 use mathlib.Core.List.{List, [], _∷_, _++_, append-assoc, append-nil}
 use Prim.Native.Nat.{ℕ, zero, suc, _+_, _-_, _≤_, _<_}
@@ -11,19 +10,6 @@ use lib.Seq.{take-set-le, drop-set-lt, getD-set-same, getD-set-other}
 use borrow.Author.Tests.{ltb-true, ltb-false}
 use Rattle.lists.specs.Basics.{pick, All, none, also, flat, flat-append, all-append, all-left, all-right, all-map}
 use Rattle.lists.specs.Choices.{pick-cases}
-=======
-use mathlib.Core.Bool.{Bool, true, false}
-use mathlib.Core.Logic.{_≢_}
-use mathlib.Core.List.{List, [], _∷_, _++_, map, append-assoc, append-nil}
-use Prim.Native.Nat.{ℕ, zero, suc, _+_, _-_, _≤_, _<_}
-use native.Mathlib.Omega.{arith}
-use lib.Dec.{leb, ltb, eqb}
-use lib.ListN.{length, take, drop, getD, set, length-set, take-append-drop, length-append, length-take, length-drop}
-use lib.Seq.{take-set-le, drop-set-lt, getD-set-same, getD-set-other}
-use borrow.Author.Tests.{leb-true, leb-false, ltb-true, ltb-false, eqb-true, eqb-false, ne-eqb}
-use Rattle.lists.specs.Basics.{pick, tick, All, none, also, flat, flat-append, all-append, all-left, all-right, all-map}
-use Rattle.lists.specs.Choices.{bool-cases, pick-cases}
->>>>>>> bd3fb00be8303a1aec77bbd07d24d3bc0c5131d1
 use Rattle.lists.specs.Counts.{mult, mult-append}
 use Rattle.lists.specs.FlatLaws.{all-both}
 use Rattle.lists.specs.Parts.{all-drop, all-set, flat-split, flat-three, flat-set, flat-pair}
@@ -234,14 +220,11 @@ deleteTree d (suc l) r fs t =
     let c = evened l (u .free) j ts in
     record { tree = (t .0, take j ts ++ (c .trees ++ drop (suc (suc j)) ts)); free = c .free }
 
-<<<<<<< HEAD
 pub same-page : (d l : ℕ) (r : Record) (fs : List ℕ) (t : Item (suc l)) → deleteTree d l r fs t .tree .0 ≡ t .0
 unfolding deleteTree
 same-page d zero r fs t = refl
 same-page d (suc l) r fs t = refl
 
-=======
->>>>>>> bd3fb00be8303a1aec77bbd07d24d3bc0c5131d1
 pub delete-near : (d l : ℕ) (r : Record) (fs : List ℕ) (t : Item (suc l)) → Ok (suc l) t → Near l (deleteTree d l r fs t .tree)
 unfolding deleteTree Ok
 delete-near d zero r fs t o = let n = del-length (r .id) (t .1) in record { low = omega arith; high = omega arith; subs = del-all (r .id) (o .2) }

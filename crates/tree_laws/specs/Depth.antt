@@ -1,11 +1,6 @@
 -- An index has fewer than 15 levels, for it has at most 16,384 pages: the level of a root fits its byte, a new root's too.
-<<<<<<< HEAD
 use mathlib.Core.Path.{_≡_}
 use mathlib.Core.List.{List, _++_}
-=======
-use mathlib.Core.Path.{_≡_, refl}
-use mathlib.Core.List.{List, [], _∷_, _++_}
->>>>>>> bd3fb00be8303a1aec77bbd07d24d3bc0c5131d1
 use Prim.Native.Nat.{ℕ, zero, suc, _+_, _≤_, _<_}
 use native.Mathlib.Omega.{arith}
 use lib.ListN.{length, length-append}

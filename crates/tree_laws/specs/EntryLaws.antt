@@ -1,21 +1,10 @@
 -- The entries that the code makes are those of the tree.
-<<<<<<< HEAD
 use mathlib.Core.Path.{_≡_, sym, ap, _∙_}
 use mathlib.Core.List.{List, map}
 use Prim.Native.Nat.{ℕ, suc, _<_}
 use lib.ListN.{length}
 use Rattle.lists.specs.Basics.{All, none, also, flat}
 use Rattle.lists.specs.Ascending.{headOr, lastOr, head-append, last-append, last-any}
-=======
-use mathlib.Core.Path.{_≡_, refl, sym, ap, _∙_}
-use mathlib.Core.List.{List, [], _∷_, _++_, map}
-use Prim.Native.Nat.{ℕ, zero, suc, _<_}
-use native.Mathlib.Omega.{arith}
-use lib.ListN.{length}
-use Rattle.lists.specs.Basics.{All, none, also, flat}
-use Rattle.lists.specs.Ascending.{headOr, lastOr, head-append, last-append, last-any}
-use Rattle.geometry.specs.declared.Key.{Key}
->>>>>>> bd3fb00be8303a1aec77bbd07d24d3bc0c5131d1
 use Rattle.pagestore.specs.declared.Record.{Record}
 use Rattle.pagestore.specs.declared.Entry.{Entry}
 use Rattle.trees.specs.Trees.{Item, records, noRecord, keyOf, firstKey, lastKey, entryOf}

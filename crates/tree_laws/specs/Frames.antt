@@ -1,5 +1,4 @@
 -- The tree that the pages of an index hold, for a number of features that is fixed; what a step keeps of an index; what can be written.
-<<<<<<< HEAD
 use mathlib.Core.Path.{_≡_, refl, _∙_}
 use mathlib.Core.Bool.{true}
 use mathlib.Core.List.{List, [], _∷_, _++_, map}
@@ -17,31 +16,6 @@ use Rattle.pagestore.specs.Store.RangeLaws.{range-high, range-fits, range-whole
 use Rattle.pagestore.specs.Store.PageLaws.{PageFits, leafFits, innerFits, length-set-page, field-page, field-other, field-same}
 use Rattle.pagestore.specs.Store.FreeLaws.{rest-page, length-take-page, field-take, rest-take, length-free-page, field-free, rest-free}
 use Rattle.trees.specs.Trees.{Item, records, pages, noRecord, firstKey, lastKey, entryOf, node}
-=======
-use mathlib.Core.Path.{_≡_, refl, sym, ap, _∙_}
-use mathlib.Core.Bool.{Bool, true, false}
-use mathlib.Core.List.{List, [], _∷_, _++_, map}
-use mathlib.Core.Logic.{_≢_}
-use Prim.Native.Nat.{ℕ, zero, suc, _+_, _-_, _*_, _^_, _≤_, _<_}
-use native.Mathlib.Omega.{arith}
-use lib.Dec.{eqb}
-use lib.ListN.{length, drop, getD, length-map}
-use borrow.Author.Tests.{eq-eqb}
-use Rattle.lists.specs.Basics.{pick, tick, All, none, also, flat, all-append, upFrom}
-use Rattle.lists.specs.Ascending.{headOr, lastOr}
-use Rattle.lists.specs.Choices.{bool-cases, tick-le, tick-true}
-use Rattle.lists.specs.Counts.{mult, mult-append, mult-more, mult-self, absent}
-use Rattle.lists.specs.Parts.{head-of, last-of}
-use Rattle.lists.specs.Tests.{cases}
-use Rattle.pagestore.specs.declared.Record.{Record}
-use Rattle.pagestore.specs.declared.Entry.{Entry}
-use Rattle.pagestore.specs.Fits.{RecordFits, EntryFits, KeyFits}
-use Rattle.pagestore.specs.Store.{Page, pageAt, setPage, Field, freed, fresh, Apart, fieldAt, setField, linkAt, inRange, pagesIn, restAt, freedAt, freshAt, freeAt, pageTaken, takePage, freePage}
-use Rattle.pagestore.specs.Store.RangeLaws.{range-low, range-high, range-fits, range-whole, range-same, pages-same}
-use Rattle.pagestore.specs.Store.PageLaws.{PageFits, leafFits, innerFits, length-set-page, length-set-field, field-page, field-other, field-same}
-use Rattle.pagestore.specs.Store.FreeLaws.{rest-page, length-take-page, field-take, rest-take, length-free-page, field-free, rest-free}
-use Rattle.trees.specs.Trees.{Item, records, pages, noRecord, keyOf, firstKey, lastKey, entryOf, node}
->>>>>>> bd3fb00be8303a1aec77bbd07d24d3bc0c5131d1
 use Rattle.tree_laws.specs.Shapes.{Ok, records-some}
 use Rattle.tree_laws.specs.KeysFit.{key-fits}
 

@@ -1,37 +1,22 @@
 -- The root link and the total: what setting them leaves as it was, and what an act comes to once the total is set.
 use mathlib.Core.Path.{_≡_, refl, sym, ap, _∙_, subst}
-<<<<<<< HEAD
 use mathlib.Core.Bool.{true}
 use mathlib.Core.List.{List, map}
 use Prim.Native.Nat.{ℕ, suc, _+_, _-_, _≤_, _<_}
-=======
-use mathlib.Core.Bool.{Bool, true, false}
-use mathlib.Core.List.{List, [], _∷_, _++_, map}
-use Prim.Native.Nat.{ℕ, zero, suc, _+_, _-_, _*_, _^_, _≤_, _<_}
->>>>>>> bd3fb00be8303a1aec77bbd07d24d3bc0c5131d1
 use native.Mathlib.Omega.{arith}
 use lib.ListN.{length}
 use Rattle.lists.specs.Basics.{tick, All}
 use Rattle.lists.specs.Counts.{mult}
 use Rattle.pagestore.specs.declared.Record.{Record}
-<<<<<<< HEAD
 use Rattle.pagestore.specs.Store.{pageAt, Field, size, features, root, level, total, freed, fresh, Apart, fieldAt, setField, inRange, freeAt, viewOf}
-=======
-use Rattle.pagestore.specs.Store.{pageAt, Field, size, features, root, level, total, freed, fresh, Apart, fieldAt, setField, inRange, pagesIn, restAt, freeAt, viewOf}
->>>>>>> bd3fb00be8303a1aec77bbd07d24d3bc0c5131d1
 use Rattle.pagestore.specs.Store.RangeLaws.{range-same, range-fits, range-whole, pages-same}
 use Rattle.pagestore.specs.Store.PageLaws.{length-set-field, field-same, field-other, page-field}
 use Rattle.pagestore.specs.Store.FreeLaws.{rest-field, free-field}
 use Rattle.trees.specs.Trees.{Item, records, pages, identOf, live}
 use Rattle.trees.specs.Sound.{Permitted, RecordOk, SoundIndex}
-<<<<<<< HEAD
 use Rattle.tree_laws.specs.Shapes.{Shape}
 use Rattle.tree_laws.specs.Frames.{held-frame, Well, Kept}
 use Rattle.tree_laws.specs.Wholes.{Whole, Right, shapeAt, whole-shape, whole-live, whole-sound}
-=======
-use Rattle.tree_laws.specs.Frames.{Held, held-frame, Well}
-use Rattle.tree_laws.specs.Wholes.{Whole, Right, whole-live, whole-sound}
->>>>>>> bd3fb00be8303a1aec77bbd07d24d3bc0c5131d1
 
 -- ANY FIELD BUT THOSE OF THE FREE PAGES
 
@@ -77,19 +62,10 @@ module _ (b : List ℕ) (p l : ℕ) where
 
 -- WHAT AN ACT COMES TO
 
-<<<<<<< HEAD
 -- c is b changed: it holds the tree of s, whose records are rs, and the pages fs are free
 pub record Changed (d : ℕ) (b c : List ℕ) (s : Shape) (rs : List Record) (fs : List ℕ) : Type 0 where
   pub whole : Whole d c (s .0) (s .1)
   pub records-are : records (suc (s .0)) (s .1) ≡ rs
-=======
--- c is b changed: it holds a tree with the records rs, and the pages fs are free
-pub record Changed (d : ℕ) (b c : List ℕ) (rs : List Record) (fs : List ℕ) : Type 0 where
-  pub height : ℕ
-  pub tree : Item (suc height)
-  pub whole : Whole d c height tree
-  pub records-are : records (suc height) tree ≡ rs
->>>>>>> bd3fb00be8303a1aec77bbd07d24d3bc0c5131d1
   pub free-are : freeAt c ≡ fs
   pub length-is : length c ≡ length b
   pub others : (f : Field) → Apart freed f → Apart fresh f → Apart root f → Apart level f → fieldAt f c ≡ fieldAt f b
@@ -108,7 +84,6 @@ whole-total d b l t v w =
       order = w .order;
     }
 
-<<<<<<< HEAD
 pub total-changed : {d : ℕ} {b c : List ℕ} {s : Shape} {rs : List Record} {fs : List ℕ} (v : ℕ) → Changed d b c s rs fs
     → (live (viewOf (setField total c v)) ≡ rs) × (freeAt (setField total c v) ≡ fs) × (length (setField total c v) ≡ length b) × (fieldAt features (setField total c v) ≡ d) × (_≡_ {A = Shape} (shapeAt (setField total c v)) s)
 total-changed {d} {b} {c} {s} {rs} {fs} v x =
@@ -125,23 +100,6 @@ pub changed-sound : {d : ℕ} {b c : List ℕ} {s : Shape} {olds rs : List Recor
     → All (RecordOk d) rs → ((i : ℕ) → mult i (map identOf rs) ≤ 1) → v ≡ length rs → length rs ≤ 65535 → SoundIndex (setField total c v)
 changed-sound {d} {b} {c} {s} {olds} {rs} {fs} v r x ok one e few =
     let w = whole-total d c (s .0) (s .1) v (x .whole) in
-=======
-pub total-changed : {d : ℕ} {b c : List ℕ} {rs : List Record} {fs : List ℕ} (v : ℕ) → Changed d b c rs fs
-    → (live (viewOf (setField total c v)) ≡ rs) × (freeAt (setField total c v) ≡ fs) × (length (setField total c v) ≡ length b) × (fieldAt features (setField total c v) ≡ d)
-total-changed {d} {b} {c} {rs} {fs} v x =
-    let w = whole-total d c (x .height) (x .tree) v (x .whole) in (
-      whole-live d (setField total c v) (x .height) (x .tree) w ∙ x .records-are,
-      free-field total c v refl refl ∙ x .free-are,
-      length-set-field total c v ∙ x .length-is,
-      w .features-are,
-    )
-
--- b was right for the records before; the changed index is sound with the records rs once its total is theirs
-pub changed-sound : {d : ℕ} {b c : List ℕ} {olds rs : List Record} {fs : List ℕ} (v : ℕ) → Right d b olds → Changed d b c rs fs
-    → All (RecordOk d) rs → ((i : ℕ) → mult i (map identOf rs) ≤ 1) → v ≡ length rs → length rs ≤ 65535 → SoundIndex (setField total c v)
-changed-sound {d} {b} {c} {olds} {rs} {fs} v r x ok one e few =
-    let w = whole-total d c (x .height) (x .tree) v (x .whole) in
->>>>>>> bd3fb00be8303a1aec77bbd07d24d3bc0c5131d1
     let room : 1024 ≤ length c = omega (arith, x .length-is, r .lent .low) in
     let rt : Right d (setField total c v) rs =
     record {
@@ -154,7 +112,6 @@ changed-sound {d} {b} {c} {olds} {rs} {fs} v r x ok one e few =
       total-is = field-same total c v room (omega arith) ∙ e;
       most = few;
     } in
-<<<<<<< HEAD
     whole-sound d (setField total c v) (s .0) (s .1) w (subst (Right d (setField total c v)) (sym (x .records-are)) rt)
 
 -- a change of b′, to which b was brought by steps that keep the header
@@ -171,6 +128,3 @@ changed-over {d} {b} {b′} {c} {c′} {s} {s′} {rs} {rs′} {fs} {fs′} k e 
     } in
     subst (λ (z : List ℕ). Changed d b z s′ rs′ fs′) e
     (subst (λ (z : Shape). Changed d b c z rs′ fs′) h (subst (λ (z : List Record). Changed d b c s z fs′) f (subst (λ (z : List ℕ). Changed d b c s rs z) g y)))
-=======
-    whole-sound d (setField total c v) (x .height) (x .tree) w (subst (Right d (setField total c v)) (sym (x .records-are)) rt)
->>>>>>> bd3fb00be8303a1aec77bbd07d24d3bc0c5131d1

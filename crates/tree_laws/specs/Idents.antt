@@ -1,5 +1,4 @@
 -- Identifiers among records: how often they stand there, with a record put in or deleted.
-<<<<<<< HEAD
 use mathlib.Core.Path.{_≡_, refl, sym, ap}
 use mathlib.Core.Logic.{_≢_}
 use mathlib.Core.List.{List, [], _∷_, _++_, map}
@@ -8,17 +7,6 @@ use native.Mathlib.Omega.{arith}
 use lib.Dec.{ltb, eqb}
 use lib.ListN.{length}
 use borrow.Author.Tests.{eqb-true, eqb-false, ne-eqb}
-=======
-use mathlib.Core.Path.{_≡_, refl, sym, ap, _∙_}
-use mathlib.Core.Bool.{Bool, true, false}
-use mathlib.Core.Logic.{_≢_}
-use mathlib.Core.List.{List, [], _∷_, _++_, map}
-use Prim.Native.Nat.{ℕ, zero, suc, _+_, _≤_, _<_}
-use native.Mathlib.Omega.{arith}
-use lib.Dec.{ltb, eqb}
-use lib.ListN.{length}
-use borrow.Author.Tests.{eqb-true, eqb-false, eq-eqb, ne-eqb}
->>>>>>> bd3fb00be8303a1aec77bbd07d24d3bc0c5131d1
 use Rattle.lists.specs.Basics.{pick, tick, All, none, also, all-map}
 use Rattle.lists.specs.Choices.{bool-cases, pick-cases, tick-le}
 use Rattle.lists.specs.Counts.{mult, mult-more, mult-not, absent}

@@ -1,6 +1,5 @@
 -- What an insertion promises: the index is sound again, its records are the old ones with the new one in key order, and the pages taken are those wanted.
 use mathlib.Core.Path.{_≡_, refl, sym, ap, _∙_}
-<<<<<<< HEAD
 use mathlib.Core.List.{List, map}
 use Prim.Native.Nat.{ℕ, suc, _+_, _%_, _^_, _≤_, _<_}
 use native.Mathlib.Omega.{arith}
@@ -8,20 +7,10 @@ use native.Mathlib.Numerals.{add-one}
 use lib.Dec.{eqb}
 use lib.ListN.{length, drop, getD}
 use Rattle.lists.specs.Basics.{tick}
-=======
-use mathlib.Core.List.{List, [], _∷_, _++_, map}
-use Prim.Native.Nat.{ℕ, zero, suc, _+_, _*_, _%_, _^_, _≤_, _<_}
-use native.Mathlib.Omega.{arith}
-use native.Mathlib.Numerals.{add-one}
-use lib.Dec.{eqb}
-use lib.ListN.{length, drop}
-use Rattle.lists.specs.Basics.{tick, All}
->>>>>>> bd3fb00be8303a1aec77bbd07d24d3bc0c5131d1
 use Rattle.lists.specs.Counts.{mult}
 use Rattle.lists.specs.Rising.{Rising, ins-all, length-ins, ins-rising}
 use Rattle.pagestore.specs.declared.Record.{Record}
 use Rattle.pagestore.specs.Fits.{RecordFits}
-<<<<<<< HEAD
 use Rattle.pagestore.specs.Store.{features, root, level, total, fieldAt, setField, levelOf, levelAt, freeAt, viewOf}
 use Rattle.pagestore.specs.Store.PageLaws.{page-level, page-field}
 use Rattle.trees.specs.Trees.{rankOf, identOf, treeOf, live}
@@ -33,16 +22,6 @@ use Rattle.tree_laws.specs.InsertSim.{full-run}
 use Rattle.tree_laws.specs.InsertRoot.{insert-root}
 use Rattle.tree_laws.specs.InsertOrder.{order-of}
 use Rattle.tree_laws.specs.Wholes.{Whole, shapeAt, sound-whole, sound-right, root-fit, view-d}
-=======
-use Rattle.pagestore.specs.Store.{Field, features, root, level, total, fieldAt, setField, freeAt, View, viewOf}
-use Rattle.trees.specs.Trees.{Item, records, rankOf, identOf, treeOf, live}
-use Rattle.trees.specs.Sound.{RecordOk, Sound, SoundIndex}
-use Rattle.tree.specs.Insertion.{insertRecord, insertAt, growRoot, addToTotal, insertInto, fullRun, pagesWanted}
-use Rattle.tree_laws.specs.InsertTree.{runOf}
-use Rattle.tree_laws.specs.InsertSim.{full-run}
-use Rattle.tree_laws.specs.InsertRoot.{insert-root}
-use Rattle.tree_laws.specs.Wholes.{Whole, Right, sound-whole, sound-right, root-fit, view-d}
->>>>>>> bd3fb00be8303a1aec77bbd07d24d3bc0c5131d1
 use Rattle.tree_laws.specs.Depth.{level-small}
 use Rattle.tree_laws.specs.Header.{Changed, total-changed, changed-sound}
 use Rattle.tree_laws.specs.Idents.{rank-new, distinct-ins}
@@ -55,7 +34,6 @@ pub record MayInsert (b : List ℕ) (r : Record) : Type 0 where
   pub room : viewOf b .total < 65535
   pub free : pagesWanted b r ≤ length (freeAt b)
 
-<<<<<<< HEAD
 -- the pages wanted, by the tree: its run of full pages, plus one if that takes in the root
 pub pages-wanted : (b : List ℕ) (r : Record) → SoundIndex b
     → let n = runOf (viewOf b .d) (viewOf b .level) (rankOf (viewOf b .d) r) (treeOf (viewOf b)) in pagesWanted b r ≡ n + tick (eqb n (suc (viewOf b .level)))
@@ -64,8 +42,6 @@ pages-wanted b r s =
     let w = sound-whole b s in
     rw (w .features-are, w .level-is, w .root-is, full-run (viewOf b .d) (viewOf b .level) b (rankOf (viewOf b .d) r) (treeOf (viewOf b)) (w .ok) (w .held), add-one (viewOf b .level)) refl
 
-=======
->>>>>>> bd3fb00be8303a1aec77bbd07d24d3bc0c5131d1
 module _ (b : List ℕ) (r : Record) (s : SoundIndex b) (m : MayInsert b r) where
   abbrev d : ℕ
   d = viewOf b .d
@@ -80,24 +56,14 @@ module _ (b : List ℕ) (r : Record) (s : SoundIndex b) (m : MayInsert b r) wher
   run = runOf (viewOf b .d) (viewOf b .level) (rankOf (viewOf b .d) r) (treeOf (viewOf b))
 
   wanted : pagesWanted b r ≡ run + tick (eqb run (suc (viewOf b .level)))
-<<<<<<< HEAD
   wanted = pages-wanted b r s
-=======
-  unfolding pagesWanted
-  wanted =
-      rw (w .features-are, w .level-is, w .root-is, full-run (viewOf b .d) (viewOf b .level) b (rankOf (viewOf b .d) r) (treeOf (viewOf b)) (w .ok) (w .held), add-one (viewOf b .level)) refl
->>>>>>> bd3fb00be8303a1aec77bbd07d24d3bc0c5131d1
 
   rise : Rising (rankOf (viewOf b .d)) (insertRecord (viewOf b .d) r (live (viewOf b)))
   unfolding live
   rise = ins-rising (rankOf d) r (rank-new d r (live (viewOf b)) (m .fits) (root-fit l (treeOf (viewOf b)) (w .ok)) (m .new)) (w .order)
 
   changed : Changed d b (growRoot (fieldAt level b) (insertAt (fieldAt features b) (fieldAt level b) b (fieldAt root b) r .bytes) (insertAt (fieldAt features b) (fieldAt level b) b (fieldAt root b) r .entries))
-<<<<<<< HEAD
       (insertedTree d r (freeAt b) (shapeAt b)) (insertRecord d r (live (viewOf b))) (drop (pagesWanted b r) (freeAt b))
-=======
-      (insertRecord d r (live (viewOf b))) (drop (pagesWanted b r) (freeAt b))
->>>>>>> bd3fb00be8303a1aec77bbd07d24d3bc0c5131d1
   unfolding live
   changed =
       let v = level-small b l (treeOf (viewOf b)) (w .ok) (w .own) in
@@ -140,7 +106,6 @@ module _ (b : List ℕ) (r : Record) (s : SoundIndex b) (m : MayInsert b r) wher
   unfolding insertInto addToTotal
   insert-pages = total-changed ((fieldAt total grown + 1) % 2 ^ 32) changed .1
 
-<<<<<<< HEAD
   -- lower levels first: the page at place k of the free pages is the new one of level k, so that a new root takes its page last
   pub insert-order : (k : ℕ) → k < pagesWanted b r → levelAt (insertInto b r) (getD (freeAt b) k 0) ≡ k
   unfolding insertInto addToTotal live
@@ -156,8 +121,6 @@ module _ (b : List ℕ) (r : Record) (s : SoundIndex b) (m : MayInsert b r) wher
   unfolding insertInto addToTotal
   insert-shape = total-changed ((fieldAt total grown + 1) % 2 ^ 32) changed .4
 
-=======
->>>>>>> bd3fb00be8303a1aec77bbd07d24d3bc0c5131d1
   pub insert-length : length (insertInto b r) ≡ length b
   unfolding insertInto addToTotal
   insert-length = total-changed ((fieldAt total grown + 1) % 2 ^ 32) changed .2

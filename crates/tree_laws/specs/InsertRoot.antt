@@ -1,5 +1,4 @@
 -- Insertion at the root: where it splits, a new root is held above the two pages.
-<<<<<<< HEAD
 use mathlib.Core.Path.{_≡_, refl, sym, ap, _∙_}
 use mathlib.Core.Bool.{true}
 use mathlib.Core.List.{List, [], _∷_, map, append-nil}
@@ -24,33 +23,6 @@ use Rattle.tree_laws.specs.Frames.{Held, held-frame, held-list, Well, Ke
 use Rattle.tree_laws.specs.InsertSim.{Sim, oneOf, one-sim, insert-sim, first-rest}
 use Rattle.tree_laws.specs.Wholes.{Whole}
 use Rattle.tree_laws.specs.Header.{setRoot, root-length, root-field, root-page, root-free, root-well, root-range, root-set, level-set, Changed, changed-over}
-=======
-use mathlib.Core.Path.{_≡_, refl, sym, ap, _∙_, subst}
-use mathlib.Core.Bool.{Bool, true, false}
-use mathlib.Core.List.{List, [], _∷_, _++_, map, append-nil}
-use Prim.Native.Nat.{ℕ, zero, suc, _+_, _-_, _*_, _%_, _^_, _≤_, _<_}
-use native.Mathlib.Omega.{arith}
-use lib.Dec.{eqb}
-use lib.ListN.{length, take, drop, getD, length-drop}
-use lib.Seq.{drop-drop}
-use Rattle.lists.specs.Basics.{pick, tick, All, none, also, flat, all-head}
-use Rattle.lists.specs.Choices.{tick-le, tick-true}
-use Rattle.lists.specs.Counts.{mult, mult-append, mult-self, mult-more}
-use Rattle.lists.specs.Rising.{Rising}
-use Rattle.pagestore.specs.declared.Record.{Record}
-use Rattle.pagestore.specs.declared.Entry.{Entry}
-use Rattle.pagestore.specs.Fits.{RecordFits}
-use Rattle.pagestore.specs.Store.{pageAt, setPage, setInner, Field, features, root, level, freed, fresh, Apart, fieldAt, setField, inRange, freeAt, pageTaken, takePage}
-use Rattle.pagestore.specs.Store.FreeLaws.{taken-first, free-take, page-take}
-use Rattle.trees.specs.Trees.{Item, records, pages, rankOf, entryOf, node}
-use Rattle.tree.specs.Insertion.{Inserted, insertRecord, insertAt, growRoot, fullRun, pagesWanted}
-use Rattle.tree_laws.specs.Shapes.{Ok, Some, Root}
-use Rattle.tree_laws.specs.InsertTree.{insertTree, runOf, Res, one, two, insert-records, insert-res, insert-page, insert-took, insert-kept}
-use Rattle.tree_laws.specs.Frames.{Held, held-frame, held-list, Well, Kept, kept-range, kept-trans, kept-take}
-use Rattle.tree_laws.specs.InsertSim.{Sim, oneOf, one-sim, insert-sim, first-rest, full-run}
-use Rattle.tree_laws.specs.Wholes.{Whole}
-use Rattle.tree_laws.specs.Header.{setRoot, root-length, root-field, root-page, root-free, root-well, root-range, root-set, level-set, Changed}
->>>>>>> bd3fb00be8303a1aec77bbd07d24d3bc0c5131d1
 
 -- a new root n over the trees a and c of b
 module _ (d l : ℕ) (b : List ℕ) (a c : Item (suc l)) (n : ℕ) (fs : List ℕ) (fr : freeAt b ≡ n ∷ fs) (v : suc l < 256) (well : Well b) (ok : All (Ok (suc l)) (a ∷ c ∷ []))
@@ -104,17 +76,9 @@ module _ (d l : ℕ) (b : List ℕ) (a c : Item (suc l)) (n : ℕ) (fs : List �
         order = st;
       }
 
-<<<<<<< HEAD
   pub new-changed : fieldAt features b ≡ d → Rising (rankOf d) (records (suc (suc l)) (n, a ∷ c ∷ [])) → Changed d b b3 (suc l, (n, a ∷ c ∷ [])) (records (suc (suc l)) (n, a ∷ c ∷ [])) fs
   new-changed ft st =
       record {
-=======
-  pub new-changed : fieldAt features b ≡ d → Rising (rankOf d) (records (suc (suc l)) (n, a ∷ c ∷ [])) → Changed d b b3 (records (suc (suc l)) (n, a ∷ c ∷ [])) fs
-  new-changed ft st =
-      record {
-        height = suc l;
-        tree = (n, a ∷ c ∷ []);
->>>>>>> bd3fb00be8303a1aec77bbd07d24d3bc0c5131d1
         whole = new-whole ft st;
         records-are = refl;
         free-are = new-free;
@@ -123,35 +87,11 @@ module _ (d l : ℕ) (b : List ℕ) (a c : Item (suc l)) (n : ℕ) (fs : List �
       }
 
 -- the code's new root is that one
-<<<<<<< HEAD
 pub grow-two : (d l : ℕ) (b : List ℕ) (a c : Item (suc l)) → l < 255
-=======
-grow-two : (d l : ℕ) (b : List ℕ) (a c : Item (suc l)) → l < 255
->>>>>>> bd3fb00be8303a1aec77bbd07d24d3bc0c5131d1
     → growRoot l b (entryOf d l a ∷ entryOf d l c ∷ []) ≡ setRoot (setPage (takePage b) (getD (freeAt b) 0 0) (node d (suc l) (a ∷ c ∷ []))) (getD (freeAt b) 0 0) (suc l)
 unfolding growRoot setPage node
 grow-two d l b a c h = let e : (l + 1) % 256 ≡ suc l = omega arith in rw (e, taken-first b)
 
-<<<<<<< HEAD
-=======
-changed-cast : {d : ℕ} {b c c' : List ℕ} {rs rs' : List Record} {fs fs' : List ℕ} → c ≡ c' → rs ≡ rs' → fs ≡ fs' → Changed d b c rs fs → Changed d b c' rs' fs'
-changed-cast {d} {b} {c} {c'} {rs} {rs'} {fs} {fs'} e f g x =
-    subst (λ (z : List ℕ). Changed d b z rs' fs') e (subst (λ (z : List Record). Changed d b c z fs') f (subst (λ (z : List ℕ). Changed d b c rs z) g x))
-
--- the changes of b over those up to b1
-over : {d : ℕ} {b b1 c : List ℕ} {rs : List Record} {fs : List ℕ} → Kept b b1 → Changed d b1 c rs fs → Changed d b c rs fs
-over k x =
-    record {
-      height = x .height;
-      tree = x .tree;
-      whole = x .whole;
-      records-are = x .records-are;
-      free-are = x .free-are;
-      length-is = x .length-is ∙ k .size;
-      others = λ f u v y z. x .others f u v y z ∙ k .field f u v;
-    }
-
->>>>>>> bd3fb00be8303a1aec77bbd07d24d3bc0c5131d1
 module _ (d : ℕ) (b : List ℕ) (r : Record) (l : ℕ) (t : Item (suc l)) (v : l < 255) (hr : RecordFits r) (w : Whole d b l t)
     (room : runOf d l (rankOf d r) t + tick (eqb (runOf d l (rankOf d r) t) (suc l)) ≤ length (freeAt b))
     (rise : Rising (rankOf d) (insertRecord d r (records (suc l) t))) where
@@ -161,40 +101,23 @@ module _ (d : ℕ) (b : List ℕ) (r : Record) (l : ℕ) (t : Item (suc l)) (v :
   abbrev o : Inserted
   o = insertAt d l b (t .0) r
 
-<<<<<<< HEAD
   pub sim : Sim d l b (pages (suc l) t) (insertAt d l b (t .0) r) (insertTree d l r (freeAt b) t)
   sim = insert-sim d l b r t (omega arith) hr (w .ok) (w .held) (w .well) (λ q. omega (arith, w .own q)) (omega arith)
 
   pub free-o : freeAt (o .bytes) ≡ drop run (freeAt b)
-=======
-  sim : Sim d l b (pages (suc l) t) (insertAt d l b (t .0) r) (insertTree d l r (freeAt b) t)
-  sim = insert-sim d l b r t (omega arith) hr (w .ok) (w .held) (w .well) (λ q. omega (arith, w .own q)) (omega arith)
-
-  free-o : freeAt (o .bytes) ≡ drop run (freeAt b)
->>>>>>> bd3fb00be8303a1aec77bbd07d24d3bc0c5131d1
   free-o = sim .free ∙ insert-took d l r (freeAt b) t (w .ok) .free
 
   done : (ts : List (Item (suc l))) → ts ≡ insertTree d l r (freeAt b) t .trees → Res l ts → All (Held d (suc l) (o .bytes)) ts
       → ((q : ℕ) → mult q (flat (pages (suc l)) ts) + mult q (freeAt (o .bytes)) ≡ tick (inRange (o .bytes) q))
       → flat (records (suc l)) ts ≡ insertRecord d r (records (suc l) t)
-<<<<<<< HEAD
       → Changed d b (growRoot l (o .bytes) (map (entryOf d l) ts)) (rooted l (getD (freeAt (o .bytes)) 0 0) ts) (insertRecord d r (records (suc l) t)) (drop (run + tick (eqb run (suc l))) (freeAt b))
   unfolding growRoot rooted records flat
-=======
-      → Changed d b (growRoot l (o .bytes) (map (entryOf d l) ts)) (insertRecord d r (records (suc l) t)) (drop (run + tick (eqb run (suc l))) (freeAt b))
-  unfolding growRoot records flat
->>>>>>> bd3fb00be8303a1aec77bbd07d24d3bc0c5131d1
   done ts e (one {t = a} ra) held own rs =
       let ra' : records (suc l) a ≡ insertRecord d r (records (suc l) t) = sym (append-nil (records (suc l) a)) ∙ rs in
       let tk = insert-took d l r (freeAt b) t (w .ok) in
       let n : 1 ≡ length (insertTree d l r (freeAt b) t .trees) = ap (λ (z : List (Item (suc l))). length z) e in
       let z : run + tick (eqb run (suc l)) ≡ run = omega (arith, tk .trees) in
       record {
-<<<<<<< HEAD
-=======
-        height = l;
-        tree = a;
->>>>>>> bd3fb00be8303a1aec77bbd07d24d3bc0c5131d1
         whole =
             record {
               features-are = sim .kept .field features refl refl ∙ w .features-are;
@@ -219,7 +142,6 @@ module _ (d : ℕ) (b : List ℕ) (r : Record) (l : ℕ) (t : Item (suc l)) (v :
       let m : length (freeAt b') ≡ length (freeAt b) - run = ap (λ (y : List ℕ). length y) free-o ∙ length-drop run (freeAt b) in
       let fr = first-rest (freeAt b') (omega (arith, room)) in
       let ft : fieldAt features b' ≡ d = sim .kept .field features refl refl ∙ w .features-are in
-<<<<<<< HEAD
       changed-over (sim .kept) (sym (grow-two d l b' a c v)) refl rs (ap (drop 1) free-o ∙ drop-drop 1 run (freeAt b) ∙ ap (λ (y : ℕ). drop y (freeAt b)) (sym z))
       (new-changed d l b' a c (getD (freeAt b') 0 0) (drop 1 (freeAt b')) fr (omega arith) (sim .kept .well) (also oa (also oc none)) own held ft (rw rs rise))
 
@@ -233,16 +155,3 @@ module _ (d : ℕ) (b : List ℕ) (r : Record) (l : ℕ) (t : Item (suc l)) (v :
   insert-root =
       rw (sim .entries, ← sim .free)
       (done (insertTree d l r (freeAt b) t .trees) refl (insert-res d l r (freeAt b) t hr (w .ok)) (sim .held) own-o (insert-records d l r (freeAt b) t (w .ok) (w .order)))
-=======
-      changed-cast (sym (grow-two d l b' a c v)) rs (ap (drop 1) free-o ∙ drop-drop 1 run (freeAt b) ∙ ap (λ (y : ℕ). drop y (freeAt b)) (sym z))
-      (over (sim .kept)
-      (new-changed d l b' a c (getD (freeAt b') 0 0) (drop 1 (freeAt b')) fr (omega arith) (sim .kept .well) (also oa (also oc none)) own held ft (rw rs rise)))
-
-  pub insert-root : Changed d b (growRoot l (o .bytes) (o .entries)) (insertRecord d r (records (suc l) t)) (drop (run + tick (eqb run (suc l))) (freeAt b))
-  insert-root =
-      rw (sim .entries)
-      (done (insertTree d l r (freeAt b) t .trees) refl (insert-res d l r (freeAt b) t hr (w .ok)) (sim .held)
-      (λ q. ap (λ (z : List ℕ). mult q (flat (pages (suc l)) (insertTree d l r (freeAt b) t .trees)) + mult q z) (sim .free)
-      ∙ insert-kept d l r q (freeAt b) t (w .ok) (omega arith) ∙ w .own q ∙ ap tick (sym (kept-range (sim .kept) q)))
-      (insert-records d l r (freeAt b) t (w .ok) (w .order)))
->>>>>>> bd3fb00be8303a1aec77bbd07d24d3bc0c5131d1

@@ -18,17 +18,10 @@ use Rattle.lists.specs.Runs.{all-take, all-at}
 use Rattle.pagestore.specs.declared.Record.{Record}
 use Rattle.pagestore.specs.declared.Entry.{Entry}
 use Rattle.pagestore.specs.Fits.{RecordFits}
-<<<<<<< HEAD
 use Rattle.pagestore.specs.Store.{leaf, inner, pageAt, setPage, setLeaf, leafAt, innerAt, countAt, fillOf, recordsIn, entriesIn, inRange, freeAt, pageTaken, takePage}
 use Rattle.pagestore.specs.Store.RangeLaws.{range-fits}
 use Rattle.pagestore.specs.Store.PageLaws.{page-same, page-other, leaf-view, inner-view, page-fill}
 use Rattle.pagestore.specs.Store.FreeLaws.{free-page, taken-first, page-take, free-take}
-=======
-use Rattle.pagestore.specs.Store.{Page, leaf, inner, pageAt, setPage, setLeaf, setInner, leafAt, innerAt, countAt, fillOf, recordsIn, entriesIn, inRange, freeAt, pageTaken, takePage}
-use Rattle.pagestore.specs.Store.RangeLaws.{range-fits, range-same}
-use Rattle.pagestore.specs.Store.PageLaws.{length-set-page, page-same, page-other, leaf-view, inner-view, page-fill}
-use Rattle.pagestore.specs.Store.FreeLaws.{free-page, taken-first, length-take-page, page-take, free-take}
->>>>>>> bd3fb00be8303a1aec77bbd07d24d3bc0c5131d1
 use Rattle.trees.specs.Trees.{Item, records, pages, rankOf, entryOf, node}
 use Rattle.trees.specs.TreeLaws.{fill-node}
 use Rattle.tree.specs.Entries.{choose, childAt, replaced, leafEntry, innerEntry}

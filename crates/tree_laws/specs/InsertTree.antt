@@ -7,11 +7,7 @@ use native.Mathlib.Omega.{arith}
 use lib.Dec.{leb, eqb}
 use lib.ListN.{length, take, drop, getD, take-append-drop, length-take, length-drop}
 use lib.Seq.{drop-drop}
-<<<<<<< HEAD
 use borrow.Author.Tests.{leb-true, leb-false, eqb-true, le-leb, lt-leb, eq-eqb, ne-eqb}
-=======
-use borrow.Author.Tests.{leb-true, leb-false, eqb-true, eqb-false, le-leb, lt-leb, eq-eqb, ne-eqb}
->>>>>>> bd3fb00be8303a1aec77bbd07d24d3bc0c5131d1
 use Rattle.lists.specs.Basics.{pick, tick, All, none, also, flat, flat-append}
 use Rattle.lists.specs.Choices.{bool-cases, pick-cases}
 use Rattle.lists.specs.Counts.{mult, mult-append}
@@ -23,11 +19,7 @@ use Rattle.pagestore.specs.Fits.{RecordFits}
 use Rattle.trees.specs.Trees.{Item, records, pages, rankOf}
 use Rattle.tree.specs.Entries.{replaced}
 use Rattle.tree.specs.Insertion.{insertRecord}
-<<<<<<< HEAD
 use Rattle.tree_laws.specs.Shapes.{Ok, Some, Root, ok-root, Shape, noTree, flat-records, no-pages, chosen, chosen-lt, before-chosen, behind-chosen}
-=======
-use Rattle.tree_laws.specs.Shapes.{Ok, Some, Root, ok-root, noTree, flat-records, no-pages, chosen, chosen-lt, before-chosen, behind-chosen}
->>>>>>> bd3fb00be8303a1aec77bbd07d24d3bc0c5131d1
 
 -- what a page has become, and the pages then free
 pub record Cut (A : Type 0) : Type 0 where
@@ -47,7 +39,6 @@ insertTree d (suc l) r fs t =
     let c = insertTree d l r fs (getD (t .1) i (noTree l)) in
     cut (t .0) (c .free) (replaced i (c .trees) (t .1))
 
-<<<<<<< HEAD
 -- the tree of the pages ts of level l: the one page, or a new root n over two
 unfoldable pub rooted : (l : ℕ) → ℕ → List (Item (suc l)) → Shape
 rooted l n [] = (l, noTree l)
@@ -58,8 +49,6 @@ rooted l n (a ∷ c ∷ ts) = (suc l, (n, a ∷ c ∷ []))
 unfoldable pub insertedTree : ℕ → Record → List ℕ → Shape → Shape
 insertedTree d r fs s = let u = insertTree d (s .0) r fs (s .1) in rooted (s .0) (getD (u .free) 0 0) (u .trees)
 
-=======
->>>>>>> bd3fb00be8303a1aec77bbd07d24d3bc0c5131d1
 -- the full pages in an unbroken run upward from the leaf
 unfoldable pub runOf : ℕ → (l : ℕ) → ℕ → Item (suc l) → ℕ
 runOf d zero k t = tick (leb 16 (length (t .1)))
@@ -201,19 +190,11 @@ split-both l n m le =
     bool-cases (λ d. eqb (n + tick d) (suc (suc l)) ≡ d) (leb 16 m) (λ f. eq-eqb (n + 1) (suc (suc l)) (omega arith)) (λ f. ne-eqb (n + 0) (suc (suc l)) (λ (z : n + 0 ≡ suc (suc l)). omega arith)))
     (λ e. ne-eqb (n + 0) (suc (suc l)) (λ (z : n + 0 ≡ suc (suc l)). omega arith))
 
-<<<<<<< HEAD
 pub over : (c : Bool) (m len : ℕ) → len ≡ m + tick c → m ≤ 16 → 16 < len → pick c (leb 16 m) false ≡ true
 over true m len e h g = le-leb 16 m (omega arith)
 over false m len e h g = absurd (omega arith)
 
 pub under : (c : Bool) (m len : ℕ) → len ≡ m + tick c → len ≤ 16 → pick c (leb 16 m) false ≡ false
-=======
-over : (c : Bool) (m len : ℕ) → len ≡ m + tick c → m ≤ 16 → 16 < len → pick c (leb 16 m) false ≡ true
-over true m len e h g = le-leb 16 m (omega arith)
-over false m len e h g = absurd (omega arith)
-
-under : (c : Bool) (m len : ℕ) → len ≡ m + tick c → len ≤ 16 → pick c (leb 16 m) false ≡ false
->>>>>>> bd3fb00be8303a1aec77bbd07d24d3bc0c5131d1
 under true m len e g = lt-leb 16 m (omega arith)
 under false m len e g = refl
 

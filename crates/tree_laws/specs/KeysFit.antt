@@ -1,31 +1,16 @@
 -- The key of a record that fits can be stored, and ranks of different identifiers differ.
-<<<<<<< HEAD
 use mathlib.Core.Path.{_≡_, refl, ap}
 use mathlib.Core.List.{List, [], _∷_}
 use Prim.Native.Nat.{ℕ, zero, suc, _+_, _-_, _^_, _≤_, _<_}
-=======
-use mathlib.Core.Path.{_≡_, refl, sym, ap, _∙_}
-use mathlib.Core.Bool.{Bool, true, false}
-use mathlib.Core.List.{List, [], _∷_}
-use Prim.Native.Nat.{ℕ, zero, suc, max, _+_, _-_, _*_, _^_, _≤_, _<_}
->>>>>>> bd3fb00be8303a1aec77bbd07d24d3bc0c5131d1
 use native.Mathlib.Omega.{arith}
 use lib.Dec.{ltb, eqb}
 use lib.IntN.{ℤ, pos, negsuc, natAbs}
 use lib.ListN.{length, getD, take, length-take}
-<<<<<<< HEAD
-=======
-use lib.Seq.{take-nil}
->>>>>>> bd3fb00be8303a1aec77bbd07d24d3bc0c5131d1
 use borrow.Author.Tests.{ltb-true, ltb-false, lt-ltb, le-ltb}
 use Rattle.lists.specs.Basics.{pick, All, none, also}
 use Rattle.lists.specs.Choices.{bool-cases}
 use Rattle.lists.specs.Runs.{all-take}
 use Rattle.lists.specs.Tests.{cases}
-<<<<<<< HEAD
-=======
-use Rattle.geometry.specs.declared.Key.{Key}
->>>>>>> bd3fb00be8303a1aec77bbd07d24d3bc0c5131d1
 use Rattle.geometry.specs.Keys.{keyNumber}
 use Rattle.geometry.specs.Points.{isNeg, heightOf, axisAt, axisOf, pyramidOf}
 use Rattle.geometry.specs.Stored.{coordOf, pointOf}
@@ -37,11 +22,7 @@ use Rattle.tree.specs.Entries.{noKey}
 coord-low : (x : ℕ) → x < 1000 → coordOf x ≡ negsuc (999 - x)
 coord-low x l = rw (lt-ltb x 1000 l) (ap negsuc (let e : 1000 - suc x ≡ 999 - x = omega arith in e))
 
-<<<<<<< HEAD
 pub coord-high : (x : ℕ) → 1000 ≤ x → coordOf x ≡ pos (x - 1000)
-=======
-coord-high : (x : ℕ) → 1000 ≤ x → coordOf x ≡ pos (x - 1000)
->>>>>>> bd3fb00be8303a1aec77bbd07d24d3bc0c5131d1
 coord-high x l = rw (le-ltb x 1000 l)
 
 coord-fits : (x : ℕ) → x < 2 ^ 16 → natAbs (coordOf x) < 2 ^ 16

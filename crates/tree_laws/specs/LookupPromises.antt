@@ -1,13 +1,7 @@
 -- What is read from a sound index is what it holds: its records, the record of an identifier, its leaves.
 use mathlib.Core.Path.{_≡_, refl, sym, ap, _∙_}
-<<<<<<< HEAD
 use mathlib.Core.Logic.{_≢_}
 use mathlib.Core.List.{List, [], _∷_, _++_, map}
-=======
-use mathlib.Core.Bool.{Bool, true, false}
-use mathlib.Core.Logic.{_≢_}
-use mathlib.Core.List.{List, [], _∷_, _++_, map, append-nil}
->>>>>>> bd3fb00be8303a1aec77bbd07d24d3bc0c5131d1
 use Prim.Native.Nat.{ℕ, zero, suc, _+_, _≤_, _<_}
 use native.Mathlib.Omega.{arith}
 use lib.Dec.{eqb}
@@ -16,20 +10,12 @@ use borrow.Author.Tests.{eqb-true, eqb-false, eq-eqb, ne-eqb}
 use Rattle.lists.specs.Basics.{pick, tick, All, none, also, flat, all-map}
 use Rattle.lists.specs.Ascending.{headOr}
 use Rattle.lists.specs.Choices.{bool-cases}
-<<<<<<< HEAD
 use Rattle.lists.specs.Counts.{mult, mult-more, mult-not, absent}
-=======
-use Rattle.lists.specs.Counts.{mult, mult-self, mult-more, mult-not, absent}
->>>>>>> bd3fb00be8303a1aec77bbd07d24d3bc0c5131d1
 use Rattle.lists.specs.FlatLaws.{map-append}
 use Rattle.lists.specs.Sorting.{keep, sum}
 use Rattle.pagestore.specs.declared.Record.{Record}
 use Rattle.pagestore.specs.declared.Entry.{Entry}
-<<<<<<< HEAD
 use Rattle.pagestore.specs.Store.{root, level, fieldAt, viewOf}
-=======
-use Rattle.pagestore.specs.Store.{Field, root, level, fieldAt, innerAt, entriesIn, View, viewOf}
->>>>>>> bd3fb00be8303a1aec77bbd07d24d3bc0c5131d1
 use Rattle.trees.specs.Trees.{Item, records, leaves, identOf, entryOf, treeOf, live, leavesOf}
 use Rattle.trees.specs.Sound.{SoundIndex}
 use Rattle.tree.specs.Lookup.{recordsUnder, withIdent, blank, findUnder, findIn, leafEntries, leafCount}
@@ -37,11 +23,7 @@ use Rattle.tree_laws.specs.Shapes.{flat-records}
 use Rattle.tree_laws.specs.Idents.{none-of}
 use Rattle.tree_laws.specs.Frames.{Held}
 use Rattle.tree_laws.specs.InsertSim.{leaf-items, inner-items}
-<<<<<<< HEAD
 use Rattle.tree_laws.specs.Wholes.{sound-whole, sound-right}
-=======
-use Rattle.tree_laws.specs.Wholes.{Whole, sound-whole, sound-right}
->>>>>>> bd3fb00be8303a1aec77bbd07d24d3bc0c5131d1
 
 -- THE RECORDS
 
@@ -51,12 +33,8 @@ unfolding flat entryOf
 kids-under d l b f none = refl
 kids-under d l b f (also {x = t} h r) = λ i. f t h i ++ kids-under d l b f r i
 
-<<<<<<< HEAD
 -- below any page of the tree
 pub under-is : (d l : ℕ) (b : List ℕ) (t : Item (suc l)) → Held d (suc l) b t → recordsUnder l b (t .0) ≡ records (suc l) t
-=======
-under-is : (d l : ℕ) (b : List ℕ) (t : Item (suc l)) → Held d (suc l) b t → recordsUnder l b (t .0) ≡ records (suc l) t
->>>>>>> bd3fb00be8303a1aec77bbd07d24d3bc0c5131d1
 unfolding recordsUnder records Held
 under-is d zero b t h = leaf-items d b t h ∙ sym (flat-records (t .1))
 under-is d (suc l) b t h = ap (flat (λ e. recordsUnder l b (e .child))) (inner-items d l b t h) ∙ kids-under d l b (under-is d l b) (h .1)
@@ -124,12 +102,8 @@ unfolding flat
 kids-leaves d l b f none = refl
 kids-leaves d l b f (also {x = t} {xs = ts} h r) = (λ i. f t h i ++ kids-leaves d l b f r i) ∙ sym (map-append (entryOf d 0) (leaves l t) (flat (leaves l) ts))
 
-<<<<<<< HEAD
 -- below the entry of any page of the tree
 pub entries-are : (d l : ℕ) (b : List ℕ) (t : Item (suc l)) → Held d (suc l) b t → leafEntries l b (entryOf d l t) ≡ map (entryOf d 0) (leaves l t)
-=======
-entries-are : (d l : ℕ) (b : List ℕ) (t : Item (suc l)) → Held d (suc l) b t → leafEntries l b (entryOf d l t) ≡ map (entryOf d 0) (leaves l t)
->>>>>>> bd3fb00be8303a1aec77bbd07d24d3bc0c5131d1
 unfolding leafEntries leaves Held entryOf
 entries-are d zero b t h = refl
 entries-are d (suc l) b t h = ap (flat (leafEntries l b)) (inner-items d l b t h) ∙ kids-leaves d l b (entries-are d l b) (h .1)
@@ -140,12 +114,8 @@ unfolding flat sum entryOf
 kids-count d l b f none = refl
 kids-count d l b f (also {x = t} {xs = ts} h r) = omega (arith, f t h, kids-count d l b f r, length-append (leaves l t) (flat (leaves l) ts))
 
-<<<<<<< HEAD
 -- below any page of the tree
 pub count-is : (d l : ℕ) (b : List ℕ) (t : Item (suc l)) → Held d (suc l) b t → leafCount l b (t .0) ≡ length (leaves l t)
-=======
-count-is : (d l : ℕ) (b : List ℕ) (t : Item (suc l)) → Held d (suc l) b t → leafCount l b (t .0) ≡ length (leaves l t)
->>>>>>> bd3fb00be8303a1aec77bbd07d24d3bc0c5131d1
 unfolding leafCount leaves Held
 count-is d zero b t h = refl
 count-is d (suc l) b t h = ap (sum (λ e. leafCount l b (e .child))) (inner-items d l b t h) ∙ kids-count d l b (count-is d l b) (h .1)

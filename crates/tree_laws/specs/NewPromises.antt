@@ -1,19 +1,11 @@
 -- A new index is sound, holds no record, and every page but the header and the root is free.
-<<<<<<< HEAD
 use mathlib.Core.Path.{_≡_, sym, ap, _∙_, subst}
 use mathlib.Core.List.{List, [], _∷_, map}
 use Prim.Native.Nat.{ℕ, zero, suc, _+_, _-_, _*_, _≤_}
-=======
-use mathlib.Core.Path.{_≡_, refl, sym, ap, _∙_, subst}
-use mathlib.Core.Bool.{Bool, true, false}
-use mathlib.Core.List.{List, [], _∷_, _++_, map}
-use Prim.Native.Nat.{ℕ, zero, suc, _+_, _-_, _*_, _/_, _%_, _≤_, _<_, min}
->>>>>>> bd3fb00be8303a1aec77bbd07d24d3bc0c5131d1
 use native.Mathlib.Omega.{arith}
 use lib.Dec.{eqb}
 use lib.ListN.{length}
 use borrow.Author.Tests.{ne-eqb}
-<<<<<<< HEAD
 use Rattle.lists.specs.Basics.{tick, none, flat, upFrom}
 use Rattle.lists.specs.Counts.{mult, up-below, up-past, up-within}
 use Rattle.lists.specs.Rising.{end}
@@ -26,21 +18,6 @@ use Rattle.trees.specs.Sound.{Permitted, SoundIndex}
 use Rattle.tree_laws.specs.Shapes.{Some, Shape}
 use Rattle.tree_laws.specs.Frames.{Held}
 use Rattle.tree_laws.specs.Wholes.{Whole, Right, shapeAt, whole-shape, whole-live, whole-sound, view-d}
-=======
-use Rattle.lists.specs.Basics.{tick, All, none, flat, upFrom}
-use Rattle.lists.specs.Counts.{mult, up-below, up-past, up-within}
-use Rattle.lists.specs.Rising.{Rising, end}
-use Rattle.lists.specs.Tests.{cases}
-use Rattle.pagestore.specs.declared.Record.{Record}
-use Rattle.pagestore.specs.Store.{Field, pagesIn, inRange, freeAt, newIndex, View, viewOf}
-use Rattle.pagestore.specs.Store.RangeLaws.{range-is, range-high, range-zero, range-past, range-same, pages-same}
-use Rattle.pagestore.specs.Store.NewLaws.{New, length-new, new-index}
-use Rattle.trees.specs.Trees.{Item, records, pages, rankOf, identOf, node, live}
-use Rattle.trees.specs.Sound.{Permitted, RecordOk, SoundIndex}
-use Rattle.tree_laws.specs.Shapes.{Ok, Some, Root}
-use Rattle.tree_laws.specs.Frames.{Held, Well}
-use Rattle.tree_laws.specs.Wholes.{Whole, Right, whole-live, whole-sound, view-d}
->>>>>>> bd3fb00be8303a1aec77bbd07d24d3bc0c5131d1
 
 none-there : (i : ℕ) → mult i (map identOf []) ≤ 1
 unfolding mult
@@ -109,10 +86,7 @@ module _ (b : List ℕ) (d : ℕ) (lent : Permitted (length b)) (low : 1 ≤ d) 
 
   pub new-features : viewOf (newIndex b d) .d ≡ d
   new-features = view-d (newIndex b d) ∙ new .features
-<<<<<<< HEAD
 
   -- a root leaf without record
   pub new-shape : _≡_ {A = Shape} (shapeAt (newIndex b d)) (0, (1, []))
   new-shape = whole-shape d (newIndex b d) 0 (1, []) whole
-=======
->>>>>>> bd3fb00be8303a1aec77bbd07d24d3bc0c5131d1

@@ -1,29 +1,16 @@
 -- Trees with right fills, and the child that a descent chooses among theirs. Nothing here speaks of bytes.
-<<<<<<< HEAD
 use mathlib.Core.Path.{_≡_, refl, ap}
-=======
-use mathlib.Core.Path.{_≡_, refl, sym, ap, _∙_}
-use mathlib.Core.Bool.{Bool, true, false}
->>>>>>> bd3fb00be8303a1aec77bbd07d24d3bc0c5131d1
 use mathlib.Core.List.{List, [], _∷_, _++_, map}
 use Prim.Native.Nat.{ℕ, zero, suc, _+_, _≤_, _<_}
 use native.Mathlib.Omega.{arith}
 use lib.Dec.{leb}
-<<<<<<< HEAD
 use lib.ListN.{length, take, drop, getD, length-append, length-map}
-=======
-use lib.ListN.{length, take, drop, getD, length-append, length-map, List·getD-map}
->>>>>>> bd3fb00be8303a1aec77bbd07d24d3bc0c5131d1
 use borrow.Author.Tests.{leb-true, leb-false}
 use Rattle.lists.specs.Basics.{pick, All, none, also, flat, all-append, all-left, all-map}
 use Rattle.lists.specs.Ascending.{headOr}
 use Rattle.lists.specs.Choices.{bool-cases}
 use Rattle.lists.specs.Parts.{head-of}
-<<<<<<< HEAD
 use Rattle.lists.specs.Rising.{Rising, step, rising-right, rising-cross}
-=======
-use Rattle.lists.specs.Rising.{Rising, end, step, rising-right, rising-cross}
->>>>>>> bd3fb00be8303a1aec77bbd07d24d3bc0c5131d1
 use Rattle.geometry.specs.Keys.{keyNumber}
 use Rattle.pagestore.specs.declared.Record.{Record}
 use Rattle.pagestore.specs.declared.Entry.{Entry}
@@ -60,13 +47,10 @@ records-some (suc l) t o = go (t .1) (omega arith) (o .2) (records-some l)
     go [] h a f = absurd (omega arith)
     go (u ∷ us) h (also p a) f = let g : 0 < length (records l u) = f u p in rw (length-append (records l u) (flat (records l) us)) (omega arith)
 
-<<<<<<< HEAD
 -- a tree with its level
 abbrev pub Shape : Type 0
 Shape = (l : ℕ) × Item (suc l)
 
-=======
->>>>>>> bd3fb00be8303a1aec77bbd07d24d3bc0c5131d1
 -- in the place of a tree where there is none
 abbrev pub noTree : (l : ℕ) → Item (suc l)
 noTree l = (0, [])

@@ -1,29 +1,16 @@
 -- An index that holds a tree as a sound one does, whatever its total says; and that this, with the ranges, is soundness.
 use mathlib.Core.Path.{_≡_, refl, sym, ap, _∙_, subst}
-<<<<<<< HEAD
 use mathlib.Core.List.{List, _++_, map}
 use Prim.Native.Nat.{ℕ, zero, suc, _+_, _-_, _*_, _≤_}
 use native.Mathlib.Omega.{arith}
 use lib.ListN.{length}
 use Rattle.lists.specs.Basics.{tick, All, all-map, upFrom}
 use Rattle.lists.specs.Counts.{mult, mult-append}
-=======
-use mathlib.Core.Bool.{Bool, true, false, _&&_}
-use mathlib.Core.List.{List, [], _∷_, _++_, map}
-use Prim.Native.Nat.{ℕ, zero, suc, _+_, _-_, _*_, _^_, _≤_, _<_}
-use native.Mathlib.Omega.{arith}
-use lib.Dec.{ltb}
-use lib.ListN.{length}
-use Rattle.lists.specs.Basics.{pick, tick, All, none, also, flat, all-map, upFrom}
-use Rattle.lists.specs.Choices.{tick-true}
-use Rattle.lists.specs.Counts.{mult, mult-append, mult-self}
->>>>>>> bd3fb00be8303a1aec77bbd07d24d3bc0c5131d1
 use Rattle.lists.specs.FlatLaws.{all-both, all-flat}
 use Rattle.lists.specs.Rising.{Rising, rising-of, ascending-of}
 use Rattle.lists.specs.Tests.{cases}
 use Rattle.pagestore.specs.declared.Record.{Record}
 use Rattle.pagestore.specs.Fits.{RecordFits}
-<<<<<<< HEAD
 use Rattle.pagestore.specs.Store.{size, features, root, level, total, freed, fresh, fieldAt, inRange, leafAt, recordsIn, freedAt, freshAt, freeAt, View, viewOf}
 use Rattle.pagestore.specs.Store.RangeLaws.{range-past}
 use Rattle.pagestore.specs.Store.PageLaws.{records-fit as stored-fit}
@@ -32,17 +19,6 @@ use Rattle.trees.specs.TreeLaws.{rep-is}
 use Rattle.trees.specs.Sound.{Permitted, isPage, freshPages, RootFilled, Filled, RecordOk, SoundIndex}
 use Rattle.tree_laws.specs.Shapes.{Ok, Some, Root, Shape}
 use Rattle.tree_laws.specs.Frames.{Held, Well, records-fit}
-=======
-use Rattle.pagestore.specs.Store.{Page, pageAt, Field, size, features, root, level, total, freed, fresh, Apart, fieldAt, setField, inRange, pagesIn, leafAt, recordsIn, restAt, freedAt, freshAt, freeAt, View, viewOf}
-use Rattle.pagestore.specs.Store.RangeLaws.{range-is, range-past, range-same, range-high, range-whole, range-fits, pages-same}
-use Rattle.pagestore.specs.Store.PageLaws.{records-fit as stored-fit, length-set-field, field-same, field-other, page-field}
-use Rattle.pagestore.specs.Store.FreeLaws.{rest-field, free-field}
-use Rattle.trees.specs.Trees.{Item, records, pages, rankOf, identOf, Rep, treeAt, treeOf, live}
-use Rattle.trees.specs.TreeLaws.{rep-is}
-use Rattle.trees.specs.Sound.{Permitted, isPage, freshPages, RootFilled, Filled, RecordOk, Sound, SoundIndex}
-use Rattle.tree_laws.specs.Shapes.{Ok, Some, Root, ok-root}
-use Rattle.tree_laws.specs.Frames.{Held, held-frame, Well, Kept, records-fit}
->>>>>>> bd3fb00be8303a1aec77bbd07d24d3bc0c5131d1
 use Rattle.tree_laws.specs.InsertSim.{leaf-items}
 
 -- b holds the tree t of level l, for d features
@@ -99,20 +75,12 @@ root-fit l t r = all-flat (records l) (t .1) (all-map (records-fit l) (r .subs))
 
 -- THE VIEW
 
-<<<<<<< HEAD
 pub rep-held : (b : List ℕ) (l : ℕ) (x : Item l) → Rep l (viewOf b) x → Held (viewOf b .d) l b x
-=======
-rep-held : (b : List ℕ) (l : ℕ) (x : Item l) → Rep l (viewOf b) x → Held (viewOf b .d) l b x
->>>>>>> bd3fb00be8303a1aec77bbd07d24d3bc0c5131d1
 unfolding Rep Held viewOf
 rep-held b zero x r = tt
 rep-held b (suc l) t r = (r .0, all-map (rep-held b l) (r .1))
 
-<<<<<<< HEAD
 pub held-rep : (b : List ℕ) (l : ℕ) (x : Item l) → Held (viewOf b .d) l b x → Rep l (viewOf b) x
-=======
-held-rep : (b : List ℕ) (l : ℕ) (x : Item l) → Held (viewOf b .d) l b x → Rep l (viewOf b) x
->>>>>>> bd3fb00be8303a1aec77bbd07d24d3bc0c5131d1
 unfolding Rep Held viewOf
 held-rep b zero x r = tt
 held-rep b (suc l) t r = (r .0, all-map (held-rep b l) (r .1))
@@ -194,7 +162,6 @@ whole-live d b l t w =
     subst (λ (m : ℕ). (u : Item (suc m)) → Whole d b m u → live (viewOf b) ≡ records (suc m) u) (view-level b ∙ w .level-is)
     (λ u x. live-at d b u (sym (x .features-are) ∙ sym (view-d b)) x) t w
 
-<<<<<<< HEAD
 -- the level and the tree of an index
 abbrev pub shapeAt : List ℕ → Shape
 shapeAt b = (viewOf b .level, treeOf (viewOf b))
@@ -204,8 +171,6 @@ whole-shape d b l t w =
     subst (λ (m : ℕ). (u : Item (suc m)) → Whole d b m u → _≡_ {A = Shape} (shapeAt b) (m, u)) (view-level b ∙ w .level-is)
     (λ u x. ap (λ (y : Item (suc (viewOf b .level))). let z : Shape = (viewOf b .level, y) in z) (sym (whole-tree d b u (sym (x .features-are) ∙ sym (view-d b)) x))) t w
 
-=======
->>>>>>> bd3fb00be8303a1aec77bbd07d24d3bc0c5131d1
 sound-at : (b : List ℕ) (t : Item (suc (viewOf b .level))) → Whole (viewOf b .d) b (viewOf b .level) t → Right (viewOf b .d) b (records (suc (viewOf b .level)) t) → SoundIndex b
 unfolding viewOf live
 sound-at b t w r =
