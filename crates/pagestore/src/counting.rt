@@ -2,7 +2,7 @@
 ghost use mathlib.Core.Path.{_≡_};
 ghost use lib.ListN.{length};
 ghost use Rattle.pagestore.specs.Store.{freedAt, freshAt, freeAt};
-use crate::free::link_at;
+use crate::pages::link_at;
 use crate::header::freed_head;
 use crate::header::fresh_page;
 use crate::pages::in_range;
