@@ -10,4 +10,7 @@ pub mod PlaceLaws
 pub mod Counts
 pub mod Runs
 pub mod Ascending
+pub mod Members
+pub mod Weights
+pub mod AscendingLaws
 pub mod Shift
