@@ -53,7 +53,8 @@ fn check_tree(index: &[u8], marks: &mut [u8], freed: &[u8], named: &mut [u8]) ->
         return Checked { code: 2, page: p };
     }
     let n = count_points(index, marks);
-    if n != place(total_records(index)) {
+    let total = place(total_records(index));
+    if n != total {
         return Checked { code: 2, page: 0 };
     }
     if 65535 < n {
