@@ -1,31 +1,29 @@
 -- Where no link is faulty, the followed pages hold the tree, each just once. With what each page shows by itself, that is soundness.
 use mathlib.Core.Path.{_≡_, refl, sym, ap, _∙_, subst}
-use mathlib.Core.Bool.{Bool, true, false, _&&_}
-use mathlib.Core.Logic.{_≢_, _⊎_, inl, inr, ⊎-elim}
+use mathlib.Core.Logic.{_≢_, _⊎_, ⊎-elim}
 use mathlib.Core.List.{List, [], _∷_, _++_, map}
 use Prim.Native.Nat.{ℕ, zero, suc, _+_, _-_, _≤_, _<_}
 use native.Mathlib.Omega.{arith}
 use lib.Dec.{eqb, ltb}
 use lib.ListN.{length, length-append, length-map}
 use borrow.Author.Tests.{ltb-true, ltb-false, lt-ltb, le-ltb, eq-eqb, ne-eqb}
-use Rattle.lists.specs.Basics.{All, none, also, all-append, flat, tick, upFrom}
+use Rattle.lists.specs.Basics.{All, none, also, all-append, flat, tick}
 use Rattle.lists.specs.Ascending.{Ascending}
-use Rattle.lists.specs.Counts.{mult, by-cases, mult-append, mult-self, mult-not, up-below, up-past, up-within}
+use Rattle.lists.specs.Counts.{mult, by-cases, mult-append, mult-not, up-below, up-past, up-within}
 use Rattle.lists.specs.Members.{At, same?, all-spot, spots-all, spot-map, map-spot, mult-spot, mult-find, mult-find-two, flat-find}
 use Rattle.lists.specs.Sorting.{sum}
 use Rattle.lists.specs.FlatLaws.{map-append}
 use Rattle.lists.specs.Weights.{sum-one, sum-only, sum-zero, sum-some, sum-members}
-use Rattle.geometry.specs.declared.Key.{Key}
 use Rattle.pagestore.specs.declared.Record.{Record}
 use Rattle.pagestore.specs.declared.Entry.{Entry}
 use Rattle.pagestore.specs.Store.{Page, leaf, inner, levelOf, fillOf, recordsOf, entriesOf, View}
 use Rattle.trees.specs.Trees.{Item, records, pages, rankOf, identOf, entryOf, node, Rep, treeAt, treeOf, live}
 use Rattle.trees.specs.TreeLaws.{fill-node}
 use Rattle.trees.specs.Sound.{Permitted, isPage, freshPages, Filled, RootFilled, RecordOk, Sound}
-use Rattle.faults.specs.Faults.{IsPage, Freed, RootFill, NodeFill, firstOf, lastOf, ends, ranksIn, Rooted, Reached, EntryAt}
+use Rattle.faults.specs.Faults.{IsPage, Freed, RootFill, firstOf, lastOf, ends, ranksIn, Rooted, Reached, EntryAt}
 use Rattle.faults.specs.Stored.{Counted, Stored}
-use Rattle.faults.specs.Linked.{Linked, EntryFine, PageFine, InState, Followed}
-use Rattle.faults.specs.Shapes.{childOf, kids, idents, ranks, itemRanks, pages-named, records-held, first-node, last-node, kids-asc, own-records, no-pages}
+use Rattle.faults.specs.Linked.{Linked, PageFine, InState, Followed}
+use Rattle.faults.specs.Shapes.{childOf, kids, idents, itemRanks, pages-named, records-held, first-node, last-node, kids-asc, own-records, no-pages}
 
 -- ---- PAGES BY THEIR ITEMS
 

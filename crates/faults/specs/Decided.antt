@@ -1,8 +1,8 @@
 -- check-sound, the theory: an index of a permitted length is sound exactly if it fails at no page.
-use mathlib.Core.Path.{_≡_, refl, sym, ap, _∙_, subst}
-use mathlib.Core.Logic.{_≢_, _⊎_, inl, inr, ⊎-elim}
-use mathlib.Core.List.{List, [], _∷_, map}
-use Prim.Native.Nat.{ℕ, zero, suc, _+_, _*_, _≤_, _<_}
+use mathlib.Core.Path.{_≡_, ap}
+use mathlib.Core.Logic.{_⊎_, inl, inr, ⊎-elim}
+use mathlib.Core.List.{List, map}
+use Prim.Native.Nat.{ℕ, suc, _*_, _≤_, _<_}
 use native.Mathlib.Omega.{arith}
 use lib.Dec.{ltb, leb}
 use lib.ListN.{length, take}
@@ -10,17 +10,15 @@ use borrow.Author.Tests.{ltb-true, ltb-false, leb-true, leb-false}
 use Rattle.lists.specs.Ascending.{Ascending}
 use Rattle.lists.specs.AscendingLaws.{ascends?}
 use Rattle.lists.specs.Counts.{mult, by-cases}
-use Rattle.lists.specs.Members.{At, same?, all-spot, spots-all}
-use Rattle.lists.specs.Sorting.{sum}
+use Rattle.lists.specs.Members.{same?, all-spot, spots-all}
 use Rattle.geometry.specs.declared.Key.{Key}
 use Rattle.pagestore.specs.declared.Record.{Record}
 use Rattle.pagestore.specs.declared.Entry.{Entry}
 use Rattle.pagestore.specs.Store.{Page, leaf, inner, levelOf, fillOf, recordsOf, View, viewOf}
 use Rattle.trees.specs.Trees.{identOf, live, pages, treeOf}
 use Rattle.trees.specs.Sound.{Permitted, RecordOk, Sound, SoundIndex}
-use Rattle.faults.specs.Faults.{IsPage, Features, Freed, Fresh, RootFill, NodeFill, firstOf, lastOf, ranksIn, Rooted, Reached, EntryAt, RecordAt, EntryFault, NoFault, FailsAt}
+use Rattle.faults.specs.Faults.{IsPage, Features, Freed, RootFill, firstOf, lastOf, ranksIn, Rooted, Reached, EntryAt, EntryFault, NoFault, FailsAt}
 use Rattle.faults.specs.Stored.{Stored, view-stored}
-use Rattle.faults.specs.Shapes.{idents}
 use Rattle.faults.specs.Linked.{HeaderFine, FreedFine, Grounded, EntryFine, Linked, PageFine, InState}
 use Rattle.faults.specs.Assembled.{linked-sound, tree-followed, live-idents}
 use Rattle.faults.specs.Repeated.{twice-fails}

@@ -1,7 +1,6 @@
 -- A sound index fails at no page.
 use mathlib.Core.Path.{_≡_, refl, sym, ap, _∙_, subst}
-use mathlib.Core.Bool.{Bool, true, false, _&&_}
-use mathlib.Core.Logic.{_≢_}
+use mathlib.Core.Bool.{Bool, true, false}
 use mathlib.Core.List.{List, [], _∷_, _++_, map}
 use Prim.Native.Nat.{ℕ, zero, suc, _+_, _-_, _≤_, _<_}
 use native.Mathlib.Omega.{arith}
@@ -18,11 +17,11 @@ use Rattle.lists.specs.FlatLaws.{map-append}
 use Rattle.lists.specs.Weights.{sum-one, sum-two}
 use Rattle.pagestore.specs.declared.Record.{Record}
 use Rattle.pagestore.specs.declared.Entry.{Entry}
-use Rattle.pagestore.specs.Store.{Page, leaf, inner, levelOf, fillOf, recordsOf, entriesOf, View}
-use Rattle.trees.specs.Trees.{Item, records, pages, rankOf, identOf, entryOf, node, Rep, treeAt, treeOf, live}
+use Rattle.pagestore.specs.Store.{Page, levelOf, fillOf, recordsOf, entriesOf, View}
+use Rattle.trees.specs.Trees.{Item, records, pages, rankOf, identOf, entryOf, node, Rep, treeOf, live}
 use Rattle.trees.specs.TreeLaws.{fill-node, rep-level}
 use Rattle.trees.specs.Sound.{isPage, freshPages, Filled, RootFilled, RecordOk, Sound}
-use Rattle.faults.specs.Faults.{IsPage, Freed, Fresh, RootFill, NodeFill, firstOf, lastOf, ranksIn, Rooted, Reached, EntryAt, RecordAt, EntryFault, NoFault, FailsAt}
+use Rattle.faults.specs.Faults.{IsPage, Freed, Fresh, RootFill, firstOf, lastOf, ranksIn, Reached, EntryAt, RecordAt, EntryFault, FailsAt}
 use Rattle.faults.specs.Shapes.{childOf, kids, idents, ranks, itemRanks, pages-named, records-held, no-pages, own-records, first-node, last-node, asc-node}
 use Rattle.faults.specs.Assembled.{page-tree, is-page, mult-none}
 

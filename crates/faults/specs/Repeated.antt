@@ -1,13 +1,13 @@
 -- Identifiers: what a count over the followed pages says of them.
-use mathlib.Core.Path.{_≡_, refl, sym, ap, _∙_, subst}
-use mathlib.Core.Logic.{_≢_, ⊎-elim}
-use mathlib.Core.List.{List, [], _∷_, map}
-use Prim.Native.Nat.{ℕ, zero, suc, _+_, _≤_, _<_}
+use mathlib.Core.Path.{sym, _∙_, subst}
+use mathlib.Core.Logic.{⊎-elim}
+use mathlib.Core.List.{List, map}
+use Prim.Native.Nat.{ℕ, _≤_}
 use native.Mathlib.Omega.{arith}
 use lib.Dec.{ltb}
 use borrow.Author.Tests.{ltb-true, ltb-false}
 use Rattle.lists.specs.Counts.{mult, by-cases}
-use Rattle.lists.specs.Members.{At, same?, map-spot, mult-find, mult-find-two}
+use Rattle.lists.specs.Members.{same?, map-spot, mult-find, mult-find-two}
 use Rattle.lists.specs.Sorting.{sum}
 use Rattle.lists.specs.Weights.{sum-only, sum-other, sum-some, sum-zero}
 use Rattle.pagestore.specs.declared.Record.{Record}

@@ -6,17 +6,16 @@ use native.Mathlib.Omega.{arith}
 use lib.Dec.{eqb}
 use lib.ListN.{length, length-append, length-map}
 use Rattle.lists.specs.Basics.{All, none, also, flat, tick}
-use Rattle.lists.specs.Ascending.{headOr, lastOr, Ascending, one, more, head-append, last-append, last-any, head-any, head-map, last-map, asc-left, asc-right}
+use Rattle.lists.specs.Ascending.{headOr, lastOr, Ascending, one, more, head-append, last-append, last-any, last-map, asc-left, asc-right}
 use Rattle.lists.specs.AscendingLaws.{hd, lst, asc-append, asc-cross, asc-ends}
 use Rattle.lists.specs.Counts.{mult, mult-append}
 use Rattle.lists.specs.Sorting.{sum}
 use Rattle.lists.specs.FlatLaws.{sum-append, map-append}
-use Rattle.geometry.specs.declared.Key.{Key}
 use Rattle.geometry.specs.Keys.{keyNumber}
 use Rattle.pagestore.specs.declared.Record.{Record}
 use Rattle.pagestore.specs.declared.Entry.{Entry}
-use Rattle.pagestore.specs.Store.{Page, leaf, inner, levelOf, fillOf, recordsOf, entriesOf, View}
-use Rattle.trees.specs.Trees.{Item, records, pages, keyOf, rankOf, identOf, noRecord, firstKey, lastKey, entryOf, node, Rep, treeAt}
+use Rattle.pagestore.specs.Store.{Page, recordsOf, entriesOf, View}
+use Rattle.trees.specs.Trees.{Item, records, pages, keyOf, rankOf, identOf, noRecord, firstKey, lastKey, entryOf, node, Rep}
 use Rattle.trees.specs.Sound.{Filled}
 use Rattle.faults.specs.Faults.{firstOf, lastOf, ends, ranksIn, noEntry}
 

@@ -1,15 +1,12 @@
 -- What holds of the view of any bytes: a page whose count is at most 16 has that many items, and the freed pages are pages.
-use mathlib.Core.Path.{_≡_, refl, sym, ap, _∙_, subst}
-use mathlib.Core.Bool.{Bool, true, false}
-use mathlib.Core.List.{List, [], _∷_}
-use Prim.Native.Nat.{ℕ, zero, suc, _≤_, _<_}
+use mathlib.Core.Path.{_≡_, refl, sym, subst}
+use mathlib.Core.Bool.{true}
+use mathlib.Core.List.{List}
+use Prim.Native.Nat.{ℕ, zero, suc, _≤_}
 use native.Mathlib.Omega.{arith}
-use lib.ListN.{length, take, length-take}
-use Rattle.lists.specs.Basics.{All}
+use lib.ListN.{length, length-take}
 use Rattle.lists.specs.Counts.{mult, mult-of-all}
-use Rattle.pagestore.specs.declared.Record.{Record}
-use Rattle.pagestore.specs.declared.Entry.{Entry}
-use Rattle.pagestore.specs.Store.{Page, leaf, inner, View, viewOf, pageAt, levelAt, leafAt, innerAt, recordsIn, entriesIn, inRange, freedAt}
+use Rattle.pagestore.specs.Store.{Page, leaf, inner, View, viewOf, pageAt, levelAt, leafAt, innerAt, inRange}
 use Rattle.pagestore.specs.Store.PageLaws.{leaf-page, inner-page, records-slots, entries-slots}
 use Rattle.pagestore.specs.Store.RangeLaws.{range-low, range-high}
 use Rattle.pagestore.specs.Store.FreeLaws.{freed-range}

@@ -17,21 +17,25 @@ use Rattle.pagestore.specs.Store.PageLaws.{SamePage, same-refl, same-tra
 
 -- ---- A CHAIN OF LINKS
 
-chain-out : (n : ℕ) (b : List ℕ) (p : ℕ) → inRange b p ≡ false → chain n b p ≡ []
+pub chain-out : (n : ℕ) (b : List ℕ) (p : ℕ) → inRange b p ≡ false → chain n b p ≡ []
 unfolding chain
 chain-out zero b p h = refl
 chain-out (suc n) b p h = rw h
 
-end-out : (n : ℕ) (b : List ℕ) (p : ℕ) → inRange b p ≡ false → chainEnd n b p ≡ p
+pub end-out : (n : ℕ) (b : List ℕ) (p : ℕ) → inRange b p ≡ false → chainEnd n b p ≡ p
 unfolding chainEnd
 end-out zero b p h = refl
 end-out (suc n) b p h = rw h
 
-chain-in : (n : ℕ) (b : List ℕ) (p : ℕ) → inRange b p ≡ true → chain (suc n) b p ≡ p ∷ chain n b (linkAt b p)
+pub end-none : (b : List ℕ) (p : ℕ) → chainEnd 0 b p ≡ p
+unfolding chainEnd
+end-none b p = refl
+
+pub chain-in : (n : ℕ) (b : List ℕ) (p : ℕ) → inRange b p ≡ true → chain (suc n) b p ≡ p ∷ chain n b (linkAt b p)
 unfolding chain
 chain-in n b p h = rw h
 
-end-in : (n : ℕ) (b : List ℕ) (p : ℕ) → inRange b p ≡ true → chainEnd (suc n) b p ≡ chainEnd n b (linkAt b p)
+pub end-in : (n : ℕ) (b : List ℕ) (p : ℕ) → inRange b p ≡ true → chainEnd (suc n) b p ≡ chainEnd n b (linkAt b p)
 unfolding chainEnd
 end-in n b p h = rw h
 

@@ -1,0 +1,39 @@
+-- The verdict, from the outcome of the links and from the identifiers. Assumes nothing.
+use mathlib.Core.Path.{_≡_, refl, sym, ap, _∙_, subst}
+use mathlib.Core.Bool.{Bool}
+use mathlib.Core.List.{List, map}
+use Prim.Native.Nat.{ℕ, _≤_}
+use native.Mathlib.Omega.{arith}
+use lib.Dec.{eqb}
+use lib.ListN.{length}
+use borrow.Author.Tests.{ne-eqb}
+use Rattle.lists.specs.Basics.{pick}
+use Rattle.lists.specs.Counts.{mult}
+use Rattle.pagestore.specs.Store.{viewOf}
+use Rattle.trees.specs.Trees.{identOf, live}
+use Rattle.trees.specs.Sound.{Permitted, SoundIndex}
+use Rattle.faults.specs.Faults.{FailsAt}
+use Rattle.faults.specs.Stored.{view-stored}
+use Rattle.faults.specs.Assembled.{linked-sound}
+use Rattle.soundness.specs.Judged.{Found, nowhere, at}
+use Rattle.soundness.specs.Outcome.{Counted, Outcome, Verdict}
+use Rattle.soundness.specs.declared.Checked.{Checked}
+
+pub outcome-fails : (b : List ℕ) {m : List ℕ} {r : Checked} → Outcome (viewOf b) m r → ¬ (r .code ≡ 0) → Verdict b r
+outcome-fails b (Outcome.fine c) n = absurd (n refl)
+outcome-fails b (Outcome.fails f) n = Verdict.fails f
+
+pub outcome-counted : (b : List ℕ) {m : List ℕ} {r : Checked} → Outcome (viewOf b) m r → r .code ≡ 0 → Counted (viewOf b) m
+outcome-counted b (Outcome.fine c) e = c
+outcome-counted b (Outcome.fails f) e = absurd (omega arith)
+
+counted-sound : (b m : List ℕ) → Counted (viewOf b) m → ((i : ℕ) → mult i (map identOf (live (viewOf b))) ≤ 1) → Permitted (length b) → SoundIndex b
+unfolding viewOf
+counted-sound b m c d lent = linked-sound (viewOf b) (view-stored b) (c .linked) lent (c .fine) (c .state) d (c .total) (c .most)
+
+pub verdict : (b m : List ℕ) {k q : ℕ} → Counted (viewOf b) m → k ≡ pick (eqb q 0) 0 2
+    → Found ((i : ℕ) → mult i (map identOf (live (viewOf b))) ≤ 1) (FailsAt (viewOf b)) q → Verdict b (record { code = k; page = q })
+verdict b m c e (nowhere d) = subst (λ (k : ℕ). Verdict b (record { code = k; page = 0 })) (sym e) (Verdict.sound (counted-sound b m c d))
+verdict b m c e (at q o f) =
+    subst (λ (k : ℕ). Verdict b (record { code = k; page = q })) (sym (e ∙ ap (λ (y : Bool). pick y 0 2) (ne-eqb q 0 (λ z. absurd (omega arith)))))
+    (Verdict.fails f)

@@ -1,0 +1,48 @@
+-- Pages of an index by their level bytes. Assumes nothing.
+use mathlib.Core.Path.{_≡_, refl, sym, ap, _∙_}
+use mathlib.Core.Bool.{true, false}
+use mathlib.Core.List.{List}
+use Prim.Native.Nat.{ℕ, zero, suc, _-_}
+use native.Mathlib.Omega.{arith}
+use Rattle.pagestore.specs.declared.Leaf.{Leaf}
+use Rattle.pagestore.specs.declared.Inner.{Inner}
+use Rattle.pagestore.specs.Store.{leaf, inner, levelOf, fillOf, pageAt, levelAt, countAt, leafAt, innerAt, recordsIn, entriesIn, inRange, viewOf}
+use Rattle.pagestore.specs.Store.PageLaws.{leaf-page, inner-page, page-fill, page-level, leaf-counts, inner-counts}
+use Rattle.lists.specs.Basics.{tick}
+use Rattle.pagestore.specs.Store.RangeLaws.{range-low, range-high, range-is}
+use Rattle.faults.specs.Faults.{IsPage}
+
+module _ (b : List ℕ) (p : ℕ) where
+  pub leaf-fill : (x : Leaf) → x ≡ leafAt b p → x .count ≡ fillOf (pageAt b p)
+  leaf-fill x e = ap (λ (y : Leaf). y .count) e ∙ leaf-counts b p ∙ sym (page-fill b p)
+
+  pub inner-fill : (x : Inner) → x ≡ innerAt b p → x .count ≡ fillOf (pageAt b p)
+  inner-fill x e = ap (λ (y : Inner). y .count) e ∙ inner-counts b p ∙ sym (page-fill b p)
+
+  pub leaf-is : (x : Leaf) → x ≡ leafAt b p → levelAt b p ≡ 0 → pageAt b p ≡ leaf (x .count) (recordsIn x)
+  leaf-is x e h = leaf-page b p h ∙ ap (λ (y : Leaf). leaf (y .count) (recordsIn y)) (sym e)
+
+  inner-at : (l : ℕ) → levelAt b p ≡ l → ¬ (l ≡ 0) → pageAt b p ≡ inner (l - 1) (innerAt b p .count) (entriesIn (innerAt b p))
+  inner-at zero h n = absurd (n refl)
+  inner-at (suc l) h n = inner-page b p l h ∙ ap (λ (k : ℕ). inner k (innerAt b p .count) (entriesIn (innerAt b p))) (omega arith)
+
+  pub inner-is : (x : Inner) → x ≡ innerAt b p → ¬ (levelAt b p ≡ 0) → pageAt b p ≡ inner (levelAt b p - 1) (x .count) (entriesIn x)
+  inner-is x e n = inner-at (levelAt b p) refl n ∙ ap (λ (y : Inner). inner (levelAt b p - 1) (y .count) (entriesIn y)) (sym e)
+
+-- ---- the view's fields by those of the bytes
+
+pub page-of : (b : List ℕ) (p : ℕ) → inRange b p ≡ true → IsPage (viewOf b) p
+unfolding viewOf
+page-of b p h = (range-low b p h, range-high b p h)
+
+pub page-out : (b : List ℕ) (p : ℕ) → inRange b p ≡ false → ¬ IsPage (viewOf b) p
+unfolding viewOf
+page-out b p h r = let z : _≡_ {A = ℕ} 0 1 = ap tick (sym h ∙ range-is b p (r .0) (r .1)) in omega arith
+
+pub view-level : (b : List ℕ) (p : ℕ) → levelOf (viewOf b .page p) ≡ levelAt b p
+unfolding viewOf
+view-level b p = page-level b p
+
+pub view-fill : (b : List ℕ) (p : ℕ) → fillOf (viewOf b .page p) ≡ countAt b p
+unfolding viewOf
+view-fill b p = page-fill b p

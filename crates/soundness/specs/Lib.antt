@@ -1,0 +1,5 @@
+pub mod Judged
+pub mod Marks
+pub mod Collect
+pub mod Outcome
+pub mod CheckSound
