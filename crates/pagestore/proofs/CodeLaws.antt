@@ -1,19 +1,29 @@
 -- What the functions of this crate return and leave, step by step. Assumes nothing.
 use mathlib.Core.Path.{_≡_, refl, sym, ap, _∙_}
-use mathlib.Core.List.{List, [], _∷_, _++_, append-assoc}
-use Prim.Native.Nat.{ℕ, _+_, _*_}
+use mathlib.Core.Bool.{Bool, true, false}
+use mathlib.Core.List.{List, [], _∷_, _++_, map, append-assoc, append-nil}
+use Prim.Native.Nat.{ℕ, _+_, _-_, _*_, _≤_, _<_, min}
 use native.Mathlib.Omega.{arith}
-use lib.ListN.{length, length-append}
-use Rattle.lists.specs.Basics.{run}
+use lib.Dec.{leb}
+use lib.ListN.{length, getD, take, drop, replicate, length-append, length-take, length-drop, length-map, drop-of-length-le}
+use lib.Seq.{take-take, take-all}
+use borrow.Author.Tests.{leb-true, leb-false}
+use borrow.Rule.Slice.PartMut.{putMid, post-is}
+use Rattle.lists.specs.Basics.{run, flat, length-run}
+use Rattle.lists.specs.Counts.{by-cases}
+use Rattle.lists.specs.Runs.{run-take, length-flat}
 use Rattle.geometry.specs.declared.Key.{Key}
 use Rattle.pagestore.specs.declared.Record.{Record}
 use Rattle.pagestore.specs.declared.Leaf.{Leaf}
 use Rattle.pagestore.specs.declared.Entry.{Entry}
 use Rattle.pagestore.specs.declared.Inner.{Inner}
 use Rattle.pagestore.specs.Bytes.{byteAt, leAt, leBytes, put}
-use Rattle.pagestore.specs.ByteLaws.{length-le, put-next}
-use Rattle.pagestore.specs.Layout.{keyAt, keyBytes, entryAt, entryBytes, recordAt, coordBytes, recordBytes, leafOf, innerOf}
-use Rattle.pagestore.specs.LayoutLaws.{length-key, length-coords}
+use Rattle.pagestore.specs.ByteLaws.{length-le, length-put, put-next, put-front}
+use Rattle.pagestore.specs.Layout.{keyAt, keyBytes, entryAt, entryBytes, recordAt, coordBytes, recordBytes, leafOf, innerOf, itemBytes, leafBytes, innerBytes}
+use Rattle.pagestore.specs.LayoutLaws.{length-key, length-coords, noRecord, noEntry}
+use Rattle.pagestore.specs.Store.{inRange, stretch, setStretch, recordsIn, entriesIn}
+use Rattle.pagestore.specs.Store.RangeLaws.{range-whole}
+use Rattle.pagestore.specs.Store.StretchLaws.{stretch-in, set-in, set-out}
 
 -- ---- what the readers return
 
@@ -72,3 +82,78 @@ record-put l s t u v at r p q g h =
     behind l u v at ((a ++ b) ++ z) (at + 40) z
     (behind l t u at (a ++ b) (at + 36) z (behind l s t at a (at + 4) b p q (past at 4 a (length-le 4 (r .id)))) g (past at 36 (a ++ b) n)) h (past at 40 ((a ++ b) ++ z) m)
     ∙ ap (put l at) (append-assoc (a ++ b) z z ∙ append-assoc a b (z ++ z))
+
+-- the four bytes at the head of a page
+pub head-put : (l r s t : List ℕ) (v n : ℕ) → r ≡ put l 0 (v ∷ []) → s ≡ put r 1 (n ∷ []) → t ≡ put s 2 (leBytes 2 0) → t ≡ put l 0 (v ∷ n ∷ 0 ∷ 0 ∷ [])
+unfolding leBytes
+head-put l r s t v n p q g =
+    behind l s t 0 (v ∷ n ∷ []) 2 (0 ∷ 0 ∷ []) (behind l r s 0 (v ∷ []) 1 (n ∷ []) p q refl) g refl
+
+-- the bytes vs at the front of a page, and zeros up to its end
+page-put : (s t vs : List ℕ) (n : ℕ) → length s ≡ 1024 → n ≤ 1024 → take n s ≡ vs
+    → t ≡ replicate (length (take (length s - n) (drop n s))) 0 → putMid n (length s - n) s t ≡ vs ++ replicate (1024 - n) 0
+page-put s t vs n hs hn a q =
+    let k : length (take (length s - n) (drop n s)) ≡ 1024 - n = simp (length-take, length-drop) (omega arith) in
+    let z : t ≡ replicate (1024 - n) 0 = q ∙ ap (λ (m : ℕ). replicate m 0) k in
+    let e : drop (length s - n) (drop n s) ≡ [] = drop-of-length-le (drop n s) {i = length s - n} (omega (arith, length-drop n s)) in
+    rw (a, z, e) (ap (λ (r : List ℕ). vs ++ r) (append-nil (replicate (1024 - n) 0)))
+
+-- a page of items of k bytes: the head, the items, and zeros
+pub items-put : {A : Type 0} (e : A → List ℕ) (k : ℕ) → ((x : A) → length (e x) ≡ k) → (p l s t : List ℕ) (i v n : ℕ) (f : ℕ → A)
+    → length p ≡ 1024 → 4 + k * n ≤ 1024 → i ≡ n → l ≡ put p 0 (v ∷ n ∷ 0 ∷ 0 ∷ []) → s ≡ put l 4 (flat e (run i f))
+    → t ≡ replicate (length (take (length s - (4 + k * n)) (drop (4 + k * n) s))) 0
+    → putMid (4 + k * n) (length s - (4 + k * n)) s t ≡ itemBytes e k v (run n f)
+unfolding itemBytes
+items-put e k g p l s t i v n f hp hn q o r z =
+    let h : List ℕ = v ∷ n ∷ 0 ∷ 0 ∷ [] in
+    let hs : length s ≡ 1024 = ap length r ∙ length-put l 4 (flat e (run i f)) ∙ ap length o ∙ length-put p 0 h ∙ hp in
+    let w : length (flat e (run n f)) ≡ k * n = length-flat e k g (run n f) ∙ ap (λ (m : ℕ). k * m) (length-run n f) in
+    let b : length (h ++ flat e (run n f)) ≡ 4 + k * n = length-append h (flat e (run n f)) ∙ ap (λ (m : ℕ). 4 + m) w in
+    let d : s ≡ put p 0 (h ++ flat e (run n f)) = behind p l s 0 h 4 (flat e (run n f)) o (rw q at r) refl in
+    let a : take (4 + k * n) s ≡ h ++ flat e (run n f) = rw d (put-front p (h ++ flat e (run n f)) (4 + k * n) b (omega arith)) in
+    let m : 1024 - (4 + k * n) ≡ 1020 - k * n = omega arith in
+    page-put s t (h ++ flat e (run n f)) (4 + k * n) hs hn a z
+    ∙ rw (length-run n f, m) refl
+
+-- of a count c, the items that there are
+pub capped : {A : Type 0} (xs : List A) (d : A) (c n : ℕ) → length xs ≡ 16 → n ≡ min 16 c → run n (λ i. getD xs i d) ≡ take 16 (take c xs)
+capped xs d c n s e =
+    run-take xs d n (omega arith)
+    ∙ by-cases (leb 16 c)
+        (λ t. let g : 16 ≤ c = leb-true 16 c t in let f : n ≡ 16 = omega arith in rw f (sym (take-take 16 c xs g)))
+        (λ t. let g : c < 16 = leb-false 16 c t in let f : n ≡ c = omega arith in
+          rw f (sym (take-all 16 (take c xs) (omega (arith, length-take c xs)))))
+
+pub leaf-put : (s : List ℕ) (m : Leaf) (n : ℕ) → length (m .records) ≡ 16 → n ≡ min 16 (m .count)
+    → s ≡ itemBytes recordBytes 44 0 (run n (λ i. getD (m .records) i noRecord)) → s ≡ leafBytes (recordsIn m)
+unfolding leafBytes
+leaf-put s m n h e p = p ∙ ap (itemBytes recordBytes 44 0) (capped (m .records) noRecord (m .count) n h e)
+
+pub inner-put : (s : List ℕ) (m : Inner) (n : ℕ) → length (m .entries) ≡ 16 → n ≡ min 16 (m .count)
+    → s ≡ itemBytes entryBytes 20 (m .level) (run n (λ i. getD (m .entries) i noEntry)) → s ≡ innerBytes (m .level) (entriesIn m)
+unfolding innerBytes
+inner-put s m n h e p = p ∙ ap (itemBytes entryBytes 20 (m .level)) (capped (m .entries) noEntry (m .count) n h e)
+
+-- ---- a page's own stretch of the index
+
+-- a test that held, or failed, of a page number
+pub held : (t u v : Bool) → t ≡ u → t ≡ v → u ≡ v
+held t u v e f = sym e ∙ f
+
+-- the part that is handed over
+pub part-is : (b : List ℕ) (p : ℕ) → inRange b p ≡ true → take (p * 1024 + 1024 - p * 1024) (drop (p * 1024) b) ≡ stretch b p
+part-is b p h = let k : p * 1024 + 1024 - p * 1024 ≡ 1024 = omega arith in rw k (sym (stretch-in b p h))
+
+pub part-whole : (b : List ℕ) (p : ℕ) → inRange b p ≡ true → p * 1024 + 1024 ≤ length b
+part-whole b p h = range-whole b p h
+
+-- and the index when the part is back
+pub part-set : (b : List ℕ) (p : ℕ) (xs ys : List ℕ) → inRange b p ≡ true → ys ≡ xs → putMid (p * 1024) (p * 1024 + 1024 - p * 1024) b ys ≡ setStretch b p xs
+part-set b p xs ys h e = rw (e, post-is (p * 1024) (p * 1024 + 1024) b (omega arith)) (sym (set-in b p xs h))
+
+pub part-none : (b : List ℕ) (p : ℕ) (xs : List ℕ) → inRange b p ≡ false → b ≡ setStretch b p xs
+part-none b p xs h = sym (set-out b p xs h)
+
+-- an array has as many elements as its values
+pub unmapped : {X Y : Type 0} (g : X → Y) (l : List X) (n : ℕ) → length (map g l) ≡ n → length l ≡ n
+unmapped g l n e = sym (length-map l g) ∙ e

@@ -125,10 +125,10 @@ items-count : {A : Type 0} (e : A → List ℕ) (k v : ℕ) (xs : List A) → le
 unfolding itemBytes
 items-count e k v xs h = omega arith
 
-noRecord : Record
+abbrev pub noRecord : Record
 noRecord = record { id = 0; coords = [] }
 
-noEntry : Entry
+abbrev pub noEntry : Entry
 noEntry = record { child = 0; first = record { pyramid = record { 0 = 0 }; height = record { 0 = 0 }; id = 0 }; last = record { pyramid = record { 0 = 0 }; height = record { 0 = 0 }; id = 0 } }
 
 -- ---- leaf, inner and freed pages

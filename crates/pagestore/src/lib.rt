@@ -4,6 +4,7 @@ use geometry::Key;
 
 mod items;
 mod numbers;
+pub mod pages;
 
 // A record as it is stored: its identifier, and 16 coordinate slots, each a coordinate with 1,000 added.
 pub struct Record {

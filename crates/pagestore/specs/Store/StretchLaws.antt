@@ -10,8 +10,12 @@ use lib.ListN.{length, getD, take, drop, length-append, length-take, length-drop
 use lib.Seq.{take-at, drop-at, length-take-le, getD-take, getD-drop, getD-append-add, ext-getD}
 use borrow.Author.Tests.{leb-true, leb-false}
 use Rattle.lists.specs.Counts.{by-cases}
+use Rattle.pagestore.specs.Bytes.{byteAt}
 use Rattle.pagestore.specs.ByteLaws.{le-ext}
-use Rattle.pagestore.specs.Store.{inRange, stretch, setStretch, Field, offset, width, fieldAt, size, features, root, level, total, freed, fresh}
+use Rattle.pagestore.specs.Layout.{leafOf, innerOf, linkOf, leafBytes, innerBytes, freedBytes}
+use Rattle.pagestore.specs.declared.Record.{Record}
+use Rattle.pagestore.specs.declared.Entry.{Entry}
+use Rattle.pagestore.specs.Store.{inRange, stretch, setStretch, leafAt, innerAt, levelAt, countAt, linkAt, setLeaf, setInner, setLink, Field, offset, width, fieldAt, size, features, root, level, total, freed, fresh}
 use Rattle.pagestore.specs.Store.RangeLaws.{range-low, range-same, range-whole}
 
 pub stretch-in : (b : List ℕ) (p : ℕ) → inRange b p ≡ true → stretch b p ≡ take 1024 (drop (p * 1024) b)
@@ -108,3 +112,37 @@ module _ (b : List ℕ) (p : ℕ) (xs : List ℕ) (n : length xs ≡ 1024) where
   field-stretch f =
       let r = field-room f in
       rw (length-stretch, le-ext (width f) (setStretch b p xs) b (offset f) (λ i g h. byte-header i (omega (arith, r .1, r .2))))
+
+-- ---- the views and the writes, in stretches
+
+pub leaf-opens : (b : List ℕ) (p : ℕ) → leafAt b p ≡ leafOf (stretch b p)
+unfolding leafAt
+leaf-opens b p = refl
+
+pub inner-opens : (b : List ℕ) (p : ℕ) → innerAt b p ≡ innerOf (stretch b p)
+unfolding innerAt
+inner-opens b p = refl
+
+pub level-opens : (b : List ℕ) (p : ℕ) → levelAt b p ≡ byteAt (stretch b p) 0
+unfolding levelAt
+level-opens b p = refl
+
+pub count-opens : (b : List ℕ) (p : ℕ) → countAt b p ≡ byteAt (stretch b p) 1
+unfolding countAt
+count-opens b p = refl
+
+pub link-opens : (b : List ℕ) (p : ℕ) → linkAt b p ≡ linkOf (stretch b p)
+unfolding linkAt
+link-opens b p = refl
+
+pub set-leaf-opens : (b : List ℕ) (p : ℕ) (rs : List Record) → setLeaf b p rs ≡ setStretch b p (leafBytes rs)
+unfolding setLeaf
+set-leaf-opens b p rs = refl
+
+pub set-inner-opens : (b : List ℕ) (p v : ℕ) (es : List Entry) → setInner b p v es ≡ setStretch b p (innerBytes v es)
+unfolding setInner
+set-inner-opens b p v es = refl
+
+pub set-link-opens : (b : List ℕ) (p n : ℕ) → setLink b p n ≡ setStretch b p (freedBytes n)
+unfolding setLink
+set-link-opens b p n = refl
