@@ -1,0 +1,143 @@
+// Items gathered one after the other, and made into pages. A function for each of the two kinds of items; HeldLaws has each law once.
+ghost use mathlib.Core.Path.{_≡_};
+ghost use mathlib.Core.List.{[], _∷_, _++_};
+ghost use Prim.Native.Nat.{_+_, _<_, _≤_};
+ghost use lib.Seq.{slice};
+ghost use Rattle.tree.specs.Held.{Held, heldRecords, heldEntries};
+use crate::Entries;
+use crate::Records;
+use pagestore::Entry;
+use pagestore::Inner;
+use pagestore::Leaf;
+use pagestore::Record;
+
+// No records; the slots hold one that counts for nothing.
+pub fn no_records(any: Record) -> Records
+    ensures { λ r. ⌜ Held (r .count) (r .items) [] ⌝ }
+{
+    let items = [any; 17];
+    Records {
+        count: 0,
+        items: items,
+    }
+}
+
+pub fn push_record(all: Records, x: Record) -> Records
+    requires { ⌜ all .count < 17 ⌝ }
+    ensures { λ r. ⌜ Held (r .count) (r .items) (heldRecords all ++ (x ∷ [])) ⌝ }
+{
+    let n = all.count;
+    let mut items = all.items;
+    items[n] = x;
+    Records {
+        count: n + 1,
+        items: items,
+    }
+}
+
+// The records gathered, and behind them those of a leaf from one slot up to another; none if that is not above.
+pub fn append_records(all: Records, leaf: Leaf, from: usize, to: usize) -> Records
+    requires { ⌜ (all .count ≤ 17) × (to ≤ 16) × (all .count + to ≤ 17 + from) ⌝ }
+    ensures { λ r. ⌜ Held (r .count) (r .items) (heldRecords all ++ slice from to (leaf .records)) ⌝ }
+{
+    let records = leaf.records;
+    let mut n = all.count;
+    let mut items = all.items;
+    let mut i = from;
+    while i < to {
+        items[n] = records[i];
+        n += 1;
+        i += 1;
+    }
+    Records {
+        count: n,
+        items: items,
+    }
+}
+
+// A leaf of the records gathered, from one place up to another.
+pub fn leaf_of(all: Records, from: usize, to: usize) -> Leaf
+    requires { ⌜ (from ≤ to) × (to ≤ all .count) × (all .count ≤ 17) × (to ≤ 16 + from) ⌝ }
+    ensures { λ r. ⌜ Held (r .count) (r .records) (slice from to (heldRecords all)) ⌝ }
+{
+    let items = all.items;
+    let any = items[0];
+    let mut records = [any; 16];
+    let mut n = 0;
+    let mut i = from;
+    while i < to {
+        records[n] = items[i];
+        n += 1;
+        i += 1;
+    }
+    Leaf {
+        count: n,
+        records: records,
+    }
+}
+
+// No entries; the slots hold one that counts for nothing.
+pub fn no_entries(any: Entry) -> Entries
+    ensures { λ r. ⌜ Held (r .count) (r .items) [] ⌝ }
+{
+    let items = [any; 17];
+    Entries {
+        count: 0,
+        items: items,
+    }
+}
+
+pub fn push_entry(all: Entries, x: Entry) -> Entries
+    requires { ⌜ all .count < 17 ⌝ }
+    ensures { λ r. ⌜ Held (r .count) (r .items) (heldEntries all ++ (x ∷ [])) ⌝ }
+{
+    let n = all.count;
+    let mut items = all.items;
+    items[n] = x;
+    Entries {
+        count: n + 1,
+        items: items,
+    }
+}
+
+// The entries gathered, and behind them those of an inner page from one slot up to another; none if that is not above.
+pub fn append_entries(all: Entries, inner: Inner, from: usize, to: usize) -> Entries
+    requires { ⌜ (all .count ≤ 17) × (to ≤ 16) × (all .count + to ≤ 17 + from) ⌝ }
+    ensures { λ r. ⌜ Held (r .count) (r .items) (heldEntries all ++ slice from to (inner .entries)) ⌝ }
+{
+    let entries = inner.entries;
+    let mut n = all.count;
+    let mut items = all.items;
+    let mut i = from;
+    while i < to {
+        items[n] = entries[i];
+        n += 1;
+        i += 1;
+    }
+    Entries {
+        count: n,
+        items: items,
+    }
+}
+
+// An inner page of the entries gathered, from one place up to another.
+pub fn inner_of(all: Entries, level: u8, from: usize, to: usize) -> Inner
+    requires { ⌜ (from ≤ to) × (to ≤ all .count) × (all .count ≤ 17) × (to ≤ 16 + from) ⌝ }
+    ensures { λ r. ⌜ (r .level ≡ level) × Held (r .count) (r .entries) (slice from to (heldEntries all)) ⌝ }
+{
+    let items = all.items;
+    let any = items[0];
+    let mut entries = [any; 16];
+    let mut n = 0;
+    let mut i = from;
+    while i < to {
+        entries[n] = items[i];
+        n += 1;
+        i += 1;
+    }
+    Inner {
+        level: level,
+        count: n,
+        entries: entries,
+    }
+}
