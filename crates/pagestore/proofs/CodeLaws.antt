@@ -120,9 +120,9 @@ pub capped : {A : Type 0} (xs : List A) (d : A) (c n : ℕ) → length xs ≡ 16
 capped xs d c n s e =
     run-take xs d n (omega arith)
     ∙ by-cases (leb 16 c)
-    (λ t. let g : 16 ≤ c = leb-true 16 c t in let f : n ≡ 16 = omega arith in rw f (sym (take-take 16 c xs g)))
-    (λ t. let g : c < 16 = leb-false 16 c t in let f : n ≡ c = omega arith in
-    rw f (sym (take-all 16 (take c xs) (omega (arith, length-take c xs)))))
+        (λ t. let g : 16 ≤ c = leb-true 16 c t in let f : n ≡ 16 = omega arith in rw f (sym (take-take 16 c xs g)))
+        (λ t. let g : c < 16 = leb-false 16 c t in let f : n ≡ c = omega arith in
+          rw f (sym (take-all 16 (take c xs) (omega (arith, length-take c xs)))))
 
 pub leaf-put : (s : List ℕ) (m : Leaf) (n : ℕ) → length (m .records) ≡ 16 → n ≡ min 16 (m .count)
     → s ≡ itemBytes recordBytes 44 0 (run n (λ i. getD (m .records) i noRecord)) → s ≡ leafBytes (recordsIn m)

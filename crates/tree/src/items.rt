@@ -4,39 +4,39 @@ ghost use mathlib.Core.List.{[], _∷_, _++_};
 ghost use Prim.Native.Nat.{_+_, _<_, _≤_};
 ghost use lib.Seq.{slice};
 ghost use Rattle.tree.specs.Held.{Held, heldRecords, heldEntries};
-use crate::Entries;
-use crate::Records;
+use crate::EntryList;
+use crate::RecordList;
 use pagestore::Entry;
 use pagestore::Inner;
 use pagestore::Leaf;
 use pagestore::Record;
 
 // No records; the slots hold one that counts for nothing.
-pub fn no_records(any: Record) -> Records
+pub fn no_records(any: Record) -> RecordList
     ensures { λ r. ⌜ Held (r .count) (r .items) [] ⌝ }
 {
     let items = [any; 17];
-    Records {
+    RecordList {
         count: 0,
         items: items,
     }
 }
 
-pub fn push_record(all: Records, x: Record) -> Records
+pub fn push_record(all: RecordList, x: Record) -> RecordList
     requires { ⌜ all .count < 17 ⌝ }
     ensures { λ r. ⌜ Held (r .count) (r .items) (heldRecords all ++ (x ∷ [])) ⌝ }
 {
     let n = all.count;
     let mut items = all.items;
     items[n] = x;
-    Records {
+    RecordList {
         count: n + 1,
         items: items,
     }
 }
 
 // The records gathered, and behind them those of a leaf from one slot up to another; none if that is not above.
-pub fn append_records(all: Records, leaf: Leaf, from: usize, to: usize) -> Records
+pub fn append_records(all: RecordList, leaf: Leaf, from: usize, to: usize) -> RecordList
     requires { ⌜ (all .count ≤ 17) × (to ≤ 16) × (all .count + to ≤ 17 + from) ⌝ }
     ensures { λ r. ⌜ Held (r .count) (r .items) (heldRecords all ++ slice from to (leaf .records)) ⌝ }
 {
@@ -49,14 +49,14 @@ pub fn append_records(all: Records, leaf: Leaf, from: usize, to: usize) -> Recor
         n += 1;
         i += 1;
     }
-    Records {
+    RecordList {
         count: n,
         items: items,
     }
 }
 
 // A leaf of the records gathered, from one place up to another.
-pub fn leaf_of(all: Records, from: usize, to: usize) -> Leaf
+pub fn leaf_of(all: RecordList, from: usize, to: usize) -> Leaf
     requires { ⌜ (from ≤ to) × (to ≤ all .count) × (all .count ≤ 17) × (to ≤ 16 + from) ⌝ }
     ensures { λ r. ⌜ Held (r .count) (r .records) (slice from to (heldRecords all)) ⌝ }
 {
@@ -77,31 +77,31 @@ pub fn leaf_of(all: Records, from: usize, to: usize) -> Leaf
 }
 
 // No entries; the slots hold one that counts for nothing.
-pub fn no_entries(any: Entry) -> Entries
+pub fn no_entries(any: Entry) -> EntryList
     ensures { λ r. ⌜ Held (r .count) (r .items) [] ⌝ }
 {
     let items = [any; 17];
-    Entries {
+    EntryList {
         count: 0,
         items: items,
     }
 }
 
-pub fn push_entry(all: Entries, x: Entry) -> Entries
+pub fn push_entry(all: EntryList, x: Entry) -> EntryList
     requires { ⌜ all .count < 17 ⌝ }
     ensures { λ r. ⌜ Held (r .count) (r .items) (heldEntries all ++ (x ∷ [])) ⌝ }
 {
     let n = all.count;
     let mut items = all.items;
     items[n] = x;
-    Entries {
+    EntryList {
         count: n + 1,
         items: items,
     }
 }
 
 // The entries gathered, and behind them those of an inner page from one slot up to another; none if that is not above.
-pub fn append_entries(all: Entries, inner: Inner, from: usize, to: usize) -> Entries
+pub fn append_entries(all: EntryList, inner: Inner, from: usize, to: usize) -> EntryList
     requires { ⌜ (all .count ≤ 17) × (to ≤ 16) × (all .count + to ≤ 17 + from) ⌝ }
     ensures { λ r. ⌜ Held (r .count) (r .items) (heldEntries all ++ slice from to (inner .entries)) ⌝ }
 {
@@ -114,14 +114,14 @@ pub fn append_entries(all: Entries, inner: Inner, from: usize, to: usize) -> Ent
         n += 1;
         i += 1;
     }
-    Entries {
+    EntryList {
         count: n,
         items: items,
     }
 }
 
 // An inner page of the entries gathered, from one place up to another.
-pub fn inner_of(all: Entries, level: u8, from: usize, to: usize) -> Inner
+pub fn inner_of(all: EntryList, level: u8, from: usize, to: usize) -> Inner
     requires { ⌜ (from ≤ to) × (to ≤ all .count) × (all .count ≤ 17) × (to ≤ 16 + from) ⌝ }
     ensures { λ r. ⌜ (r .level ≡ level) × Held (r .count) (r .entries) (slice from to (heldEntries all)) ⌝ }
 {

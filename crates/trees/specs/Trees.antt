@@ -32,7 +32,7 @@ abbrev pub identOf : Record → ℕ
 identOf r = r .id
 
 -- the first and the last key of some records
-pub noRecord : Record
+unfoldable pub noRecord : Record
 noRecord = record { id = 0; coords = [] }
 
 unfoldable pub firstKey : ℕ → List Record → Key

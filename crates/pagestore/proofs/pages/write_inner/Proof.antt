@@ -100,14 +100,14 @@ same-length c = c .before .page3 .given .1 ∙ c .before .before .before .before
 
 -- src/pages.rt:120:1
 returns : tie.Need-returns Inv-loop μ-loop
-returns c =
+returns c = 
     let L = c .before .before .before .before .before .loop in
     let S = (c .before .before .before .before .before .before .before .before .before .before .before .before) in
     let F = c .before .before .before .before .before .before .before .before .before .before .fill in
     let slots : length (S .args .t2 .entries) ≡ 16 = search (unmapped, needs) in
     inner-put _ (S .args .t2) (F .result) slots (F .ensures)
-    (items-put entryBytes 20 length-entry (S .args .page .now) _ (L .page) _ (L .i) (S .args .t2 .level) (F .result) _ (S .pre) (omega arith) (omega arith)
-    (c .before .before .before .before .before .before .before .before .put-head .ensures) (L .inv .2) (c .before .before .clear .ensures))
+      (items-put entryBytes 20 length-entry (S .args .page .now) _ (L .page) _ (L .i) (S .args .t2 .level) (F .result) _ (S .pre) (omega arith) (omega arith)
+        (c .before .before .before .before .before .before .before .before .put-head .ensures) (L .inv .2) (c .before .before .clear .ensures))
 
 pub write-inner-spec : {M : Type 1} → statement M
 write-inner-spec =
