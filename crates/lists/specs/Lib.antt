@@ -10,3 +10,4 @@ pub mod PlaceLaws
 pub mod Counts
 pub mod Runs
 pub mod Ascending
+pub mod Leading

@@ -2,7 +2,9 @@
 use pagestore::Entry;
 use pagestore::Record;
 
+mod entries;
 mod items;
+mod keys;
 
 // Items gathered one after the other: up to 17, one more than a page holds.
 pub struct RecordList {
