@@ -6,8 +6,8 @@ use Prim.Native.Nat.{ℕ, zero, suc, _+_, _*_, _≤_, _<_}
 use native.Mathlib.Numerals.{add-one}
 use native.Mathlib.Nat.{eq-or-lt-of-le, mul-suc, add-comm, le-of-suc-le-suc, not-suc-le-zero}
 use native.Mathlib.Omega.{arith}
-use lib.ListN.{length, getD, set, take, drop, length-append, length-take, List·getD-append}
-use lib.Seq.{take-suc-set, take-suc, take-all, take-append-le, drop-cons, drop-append-add, getD-at, getD-take, ext-getD}
+use lib.ListN.{length, getD, set, take, drop, length-append, List·getD-append}
+use lib.Seq.{take-suc-set, take-suc, take-all, take-append-le, drop-cons, drop-append-add, getD-at}
 use Rattle.lists.specs.Basics.{flat, flat-append, run, length-run, All, none, also}
 
 -- ---- a list by index

@@ -2,13 +2,13 @@
 use mathlib.Core.Path.{_≡_, refl, sym, ap, _∙_}
 use mathlib.Core.Bool.{Bool, true, false}
 use mathlib.Core.List.{List, [], _∷_, _++_, map, append-assoc, append-nil}
-use Prim.Native.Nat.{ℕ, _+_, _-_, _*_, _≤_, _<_, min}
+use Prim.Native.Nat.{ℕ, _+_, _-_, _*_, _%_, _≤_, _<_, min}
 use native.Mathlib.Omega.{arith}
 use lib.Dec.{leb}
 use lib.ListN.{length, getD, take, drop, replicate, length-append, length-take, length-drop, length-map, drop-of-length-le}
 use lib.Seq.{take-take, take-all}
 use borrow.Author.Tests.{leb-true, leb-false}
-use borrow.Rule.Slice.PartMut.{putMid, post-is}
+use borrow.Rule.Slice.PartMut.{putMid, postOf, post-is}
 use Rattle.lists.specs.Basics.{run, flat, length-run}
 use Rattle.lists.specs.Counts.{by-cases}
 use Rattle.lists.specs.Runs.{run-take, length-flat}
@@ -19,11 +19,11 @@ use Rattle.pagestore.specs.declared.Entry.{Entry}
 use Rattle.pagestore.specs.declared.Inner.{Inner}
 use Rattle.pagestore.specs.Bytes.{byteAt, leAt, leBytes, put}
 use Rattle.pagestore.specs.ByteLaws.{length-le, length-put, put-next, put-front}
-use Rattle.pagestore.specs.Layout.{keyAt, keyBytes, entryAt, entryBytes, recordAt, coordBytes, recordBytes, leafOf, innerOf, itemBytes, leafBytes, innerBytes}
+use Rattle.pagestore.specs.Layout.{keyBytes, entryAt, entryBytes, recordAt, coordBytes, recordBytes, leafOf, innerOf, itemBytes, leafBytes, innerBytes, freedBytes}
 use Rattle.pagestore.specs.LayoutLaws.{length-key, length-coords, noRecord, noEntry}
-use Rattle.pagestore.specs.Store.{inRange, stretch, setStretch, recordsIn, entriesIn}
+use Rattle.pagestore.specs.Store.{pagesIn, inRange, stretch, setStretch, recordsIn, entriesIn, linkAt, setLink, setLeaf, fieldAt, setField, size, features, root, freed, fresh, pageTaken, takePage, freePage, clearHeader, setFields, newIndex}
 use Rattle.pagestore.specs.Store.RangeLaws.{range-whole}
-use Rattle.pagestore.specs.Store.StretchLaws.{stretch-in, set-in, set-out}
+use Rattle.pagestore.specs.Store.StretchLaws.{stretch-in, set-in, set-out, clear-long}
 
 -- ---- what the readers return
 
@@ -120,9 +120,9 @@ pub capped : {A : Type 0} (xs : List A) (d : A) (c n : ℕ) → length xs ≡ 16
 capped xs d c n s e =
     run-take xs d n (omega arith)
     ∙ by-cases (leb 16 c)
-        (λ t. let g : 16 ≤ c = leb-true 16 c t in let f : n ≡ 16 = omega arith in rw f (sym (take-take 16 c xs g)))
-        (λ t. let g : c < 16 = leb-false 16 c t in let f : n ≡ c = omega arith in
-          rw f (sym (take-all 16 (take c xs) (omega (arith, length-take c xs)))))
+    (λ t. let g : 16 ≤ c = leb-true 16 c t in let f : n ≡ 16 = omega arith in rw f (sym (take-take 16 c xs g)))
+    (λ t. let g : c < 16 = leb-false 16 c t in let f : n ≡ c = omega arith in
+    rw f (sym (take-all 16 (take c xs) (omega (arith, length-take c xs)))))
 
 pub leaf-put : (s : List ℕ) (m : Leaf) (n : ℕ) → length (m .records) ≡ 16 → n ≡ min 16 (m .count)
     → s ≡ itemBytes recordBytes 44 0 (run n (λ i. getD (m .records) i noRecord)) → s ≡ leafBytes (recordsIn m)
@@ -157,3 +157,68 @@ part-none b p xs h = sym (set-out b p xs h)
 -- an array has as many elements as its values
 pub unmapped : {X Y : Type 0} (g : X → Y) (l : List X) (n : ℕ) → length (map g l) ≡ n → length l ≡ n
 unmapped g l n e = sym (length-map l g) ∙ e
+
+-- ---- a number of one byte
+
+pub le-one : (s : List ℕ) (at : ℕ) → leAt 1 s at ≡ byteAt s at
+unfolding leAt
+le-one s at = omega arith
+
+pub put-one : (s : List ℕ) (at v : ℕ) → v < 256 → put s at (leBytes 1 v) ≡ put s at (v ∷ [])
+unfolding leBytes
+put-one s at v h = let e : v % 256 ≡ v = omega arith in rw e
+
+-- ---- free pages
+
+pub freed-put : (p s t u : List ℕ) (n : ℕ) → length p ≡ 1024 → s ≡ put p 0 (leBytes 4 0) → t ≡ put s 4 (leBytes 4 n)
+    → u ≡ replicate (length (take (length t - 8) (drop 8 t))) 0 → putMid 8 (length t - 8) t u ≡ freedBytes n
+unfolding freedBytes leBytes
+freed-put p s t u n h e f g =
+    let vs : List ℕ = leBytes 4 0 ++ leBytes 4 n in
+    let l : length t ≡ 1024 = ap length f ∙ length-put s 4 (leBytes 4 n) ∙ ap length e ∙ length-put p 0 (leBytes 4 0) ∙ h in
+    let d : t ≡ put p 0 (leBytes 4 0 ++ leBytes 4 n) = behind p s t 0 (leBytes 4 0) 4 (leBytes 4 n) e f refl in
+    page-put t u vs 8 l (omega arith) (rw d (put-front p vs 8 refl (omega arith))) g
+
+module _ (b : List ℕ) where
+  -- the page freed last is taken, or one never used, or none
+  pub take-freed : (f n : ℕ) (c : List ℕ) → f ≡ fieldAt freed b → inRange b f ≡ true → n ≡ linkAt b f → c ≡ setField freed b n
+      → (f ≡ pageTaken b) × (c ≡ takePage b)
+  unfolding pageTaken takePage
+  take-freed f n c p h l e = let g : inRange b (fieldAt freed b) ≡ true = rw p at h in (rw g p, rw g (e ∙ ap (setField freed b) (l ∙ ap (linkAt b) p)))
+
+  pub take-fresh : (f g : ℕ) (c : List ℕ) → f ≡ fieldAt freed b → inRange b f ≡ false → g ≡ fieldAt fresh b → inRange b g ≡ true
+      → c ≡ setField fresh b (g + 1) → (g ≡ pageTaken b) × (c ≡ takePage b)
+  unfolding pageTaken takePage
+  take-fresh f g c p h q k e =
+      let u : inRange b (fieldAt freed b) ≡ false = rw p at h in
+      let v : inRange b (fieldAt fresh b) ≡ true = rw q at k in
+      (rw (u, v) q, rw (u, v) (e ∙ ap (λ (x : ℕ). setField fresh b (x + 1)) q))
+
+  pub take-none : (f g : ℕ) → f ≡ fieldAt freed b → inRange b f ≡ false → g ≡ fieldAt fresh b → inRange b g ≡ false
+      → (0 ≡ pageTaken b) × (b ≡ takePage b)
+  unfolding pageTaken takePage
+  take-none f g p h q k =
+      let u : inRange b (fieldAt freed b) ≡ false = rw p at h in
+      let v : inRange b (fieldAt fresh b) ≡ false = rw q at k in
+      (rw (u, v), rw (u, v))
+
+  pub free-step : (p f : ℕ) (c d : List ℕ) → inRange b p ≡ true → f ≡ fieldAt freed b → c ≡ setLink b p f → d ≡ setField freed c p → d ≡ freePage b p
+  unfolding freePage
+  free-step p f c d h e g k = rw h (k ∙ ap (λ (x : List ℕ). setField freed x p) (g ∙ ap (setLink b p) e))
+
+  pub free-none : (p : ℕ) → inRange b p ≡ false → b ≡ freePage b p
+  unfolding freePage
+  free-none p h = rw h
+
+-- ---- a new index
+
+zeros : (n : ℕ) (b ys : List ℕ) → n ≤ length b → ys ≡ replicate (length (take n b)) 0 → ys ≡ replicate n 0
+zeros n b ys h e = let k : length (take n b) ≡ n = omega (arith, length-take n b) in rw k at e
+
+pub clear-step : (b ys : List ℕ) → 1024 ≤ length b → ys ≡ replicate (length (take 1024 b)) 0 → ys ++ postOf 0 1024 b ≡ clearHeader b
+clear-step b ys h e = ap (λ (x : List ℕ). ys ++ x) (post-is 0 1024 b (omega arith)) ∙ rw (zeros 1024 b ys h e) (sym (clear-long b h))
+
+pub make-step : (b c₀ c₁ c₂ c₃ c₄ c : List ℕ) (n d : ℕ) (m : Leaf) → n ≡ pagesIn b → c₀ ≡ clearHeader b → c₁ ≡ setField size c₀ n → c₂ ≡ setField features c₁ d
+    → c₃ ≡ setField root c₂ 1 → c₄ ≡ setField fresh c₃ 2 → m ≡ leafOf [] → c ≡ setLeaf c₄ 1 (recordsIn m) → c ≡ newIndex b d
+unfolding newIndex setFields leafOf
+make-step b c₀ c₁ c₂ c₃ c₄ c n d m e a p q r s l z = z ∙ rw (l, s, r, q, p, a, e)

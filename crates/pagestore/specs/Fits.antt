@@ -1,6 +1,6 @@
 -- What a page can hold: the values of the stored types. All that is read from an index fits.
 use mathlib.Core.Path.{_≡_}
-use Prim.Native.Nat.{ℕ, _^_, _<_}
+use Prim.Native.Nat.{_^_, _<_}
 use lib.ListN.{length}
 use Rattle.lists.specs.Basics.{All}
 use Rattle.geometry.specs.declared.Key.{Key}

@@ -1,19 +1,17 @@
 -- Laws of the bytes of one page: what is written has 1,024 bytes and is read back, and what is read fits. Assumes nothing.
 use mathlib.Core.Path.{_≡_, refl, sym, ap, _∙_}
 use mathlib.Core.List.{List, [], _∷_, _++_, append-assoc}
-use mathlib.Core.Logic.{⊎-elim}
-use Prim.Native.Nat.{ℕ, zero, suc, _+_, _-_, _*_, _/_, _%_, _^_, _≤_, _<_}
-use native.Mathlib.Nat.{eq-zero-or-pos}
+use Prim.Native.Nat.{ℕ, suc, _+_, _-_, _*_, _^_, _≤_, _<_}
 use native.Mathlib.Omega.{arith}
-use lib.ListN.{length, getD, take, drop, replicate, length-append, length-replicate, length-take, List·getD-eq-default}
+use lib.ListN.{length, getD, take, drop, replicate, length-append, length-replicate, length-take}
 use lib.Seq.{drop-drop, take-all}
-use Rattle.lists.specs.Basics.{run, flat, length-run, All, none, also}
+use Rattle.lists.specs.Basics.{run, flat, length-run, All}
 use Rattle.lists.specs.Runs.{getD-run, run-ext, run-take, take-run, length-flat, flat-at, all-at, all-run}
 use Rattle.geometry.specs.declared.Key.{Key}
 use Rattle.pagestore.specs.declared.Record.{Record}
 use Rattle.pagestore.specs.declared.Entry.{Entry}
 use Rattle.pagestore.specs.Bytes.{byteAt, leAt, leBytes}
-use Rattle.pagestore.specs.ByteLaws.{le-fits, length-le, le-at, le-bytes, byte-at, next-at}
+use Rattle.pagestore.specs.ByteLaws.{le-fits, length-le, le-at, byte-at, next-at}
 use Rattle.pagestore.specs.Layout.{keyAt, keyBytes, entryAt, entryBytes, recordAt, coordBytes, recordBytes, leafOf, innerOf, linkOf, itemBytes, leafBytes, innerBytes, freedBytes}
 use Rattle.pagestore.specs.Fits.{RecordFits, KeyFits, EntryFits}
 

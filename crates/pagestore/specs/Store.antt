@@ -1,7 +1,7 @@
 -- The page store: what an index holds, whatever its bytes are, and what each operation leaves. Nothing above this crate sees a byte:
 -- the definitions without a mark open only to the modules below this one, and PageLaws and FreeLaws say all that is used of them.
 use mathlib.Core.Path.{_≡_}
-use mathlib.Core.Bool.{Bool, true, false, _&&_}
+use mathlib.Core.Bool.{Bool, false, _&&_}
 use mathlib.Core.List.{List, [], _∷_, _++_}
 use Prim.Native.Nat.{ℕ, zero, suc, _+_, _-_, _*_, _/_, min}
 use lib.Dec.{ltb, leb, eqb}
@@ -136,11 +136,18 @@ width fresh = 4
 abbrev pub Apart : Field → Field → Type 0
 Apart f g = eqb (offset f) (offset g) ≡ false
 
-pub fieldAt : Field → List ℕ → ℕ
-fieldAt f b = pick (leb 1024 (length b)) (leAt (width f) b (offset f)) 0
+-- the number of w bytes at an offset of the header, and the index with another one there; in fewer than 1,024 bytes 0, and no change
+pub numberAt : ℕ → ℕ → List ℕ → ℕ
+numberAt w at b = pick (leb 1024 (length b)) (leAt w b at) 0
 
-pub setField : Field → List ℕ → ℕ → List ℕ
-setField f b v = pick (leb 1024 (length b)) (put b (offset f) (leBytes (width f) v)) b
+pub setNumber : ℕ → ℕ → List ℕ → ℕ → List ℕ
+setNumber w at b v = pick (leb 1024 (length b)) (put b at (leBytes w v)) b
+
+abbrev pub fieldAt : Field → List ℕ → ℕ
+fieldAt f b = numberAt (width f) (offset f) b
+
+abbrev pub setField : Field → List ℕ → ℕ → List ℕ
+setField f b v = setNumber (width f) (offset f) b v
 
 -- ---- FREE PAGES
 

@@ -2,9 +2,49 @@
 // Every function is total: a page number out of range reads as an empty page, and a write there does nothing.
 use geometry::Key;
 
+mod free;
+mod header;
 mod items;
 mod numbers;
-pub mod pages;
+mod pages;
+
+// One page, handed over as a part of the index.
+pub use pages::read_inner;
+pub use pages::read_leaf;
+pub use pages::write_inner;
+pub use pages::write_leaf;
+
+// Pages by number.
+pub use pages::count_at;
+pub use pages::in_range;
+pub use pages::inner_at;
+pub use pages::leaf_at;
+pub use pages::level_at;
+pub use pages::page_count;
+pub use pages::set_inner;
+pub use pages::set_leaf;
+
+// The header's fields.
+pub use header::features_of;
+pub use header::freed_head;
+pub use header::fresh_page;
+pub use header::index_size;
+pub use header::root_level;
+pub use header::root_page;
+pub use header::set_features;
+pub use header::set_freed_head;
+pub use header::set_fresh_page;
+pub use header::set_index_size;
+pub use header::set_root_level;
+pub use header::set_root_page;
+pub use header::set_total_records;
+pub use header::total_records;
+
+// Free pages, and a new index.
+pub use free::free_page;
+pub use free::link_at;
+pub use free::make;
+pub use free::take_page;
 
 // A record as it is stored: its identifier, and 16 coordinate slots, each a coordinate with 1,000 added.
 pub struct Record {

@@ -16,8 +16,8 @@ use crate::items::put_entry;
 use crate::items::put_record;
 use crate::numbers::clear;
 use crate::numbers::get_u8;
-use crate::numbers::put_u16;
 use crate::numbers::put_u8;
+use crate::numbers::put_u16;
 use geometry::Height;
 use geometry::Key;
 use geometry::Pyramid;
@@ -133,7 +133,7 @@ pub fn write_inner(page: &mut [u8], inner: Inner)
 }
 
 // The number of whole pages lent; no index has more than 16,384.
-pub fn pages(index: &[u8]) -> u32
+pub fn page_count(index: &[u8]) -> u32
     ensures { λ r. ⌜ r ≡ pagesIn (now (index .entry)) ⌝ }
 {
     let n = index.len() / 1024;
@@ -144,7 +144,7 @@ pub fn pages(index: &[u8]) -> u32
 pub fn in_range(index: &[u8], page: u32) -> bool
     ensures { λ r. ⌜ r ≡ inRange (now (index .entry)) page ⌝ }
 {
-    let n = pages(index);
+    let n = page_count(index);
     0 < page && page < n
 }
 
@@ -176,7 +176,7 @@ pub fn count_at(index: &[u8], page: u32) -> u8
     byte_of(index, page, 1)
 }
 
-fn empty_leaf() -> Leaf
+pub fn empty_leaf() -> Leaf
     ensures { λ r. ⌜ r ≡ leafOf [] ⌝ }
 {
     let records = [no_record(); 16];
@@ -186,7 +186,7 @@ fn empty_leaf() -> Leaf
     }
 }
 
-fn empty_inner() -> Inner
+pub fn empty_inner() -> Inner
     ensures { λ r. ⌜ r ≡ innerOf [] ⌝ }
 {
     let entries = [no_entry(); 16];

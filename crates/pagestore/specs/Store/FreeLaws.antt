@@ -1,19 +1,19 @@
 -- free-laws: the free pages, in the order in which they will be taken, after each operation. Assumes nothing.
 use mathlib.Core.Path.{_≡_, refl, sym, ap, _∙_}
-use mathlib.Core.Bool.{Bool, true, false}
+use mathlib.Core.Bool.{true, false}
 use mathlib.Core.Logic.{_≢_}
 use mathlib.Core.List.{List, [], _∷_, _++_}
-use Prim.Native.Nat.{ℕ, zero, suc, _+_, _-_, _*_, _^_, _≤_, _<_}
+use Prim.Native.Nat.{ℕ, zero, suc, _+_, _-_, _≤_, _<_}
 use native.Mathlib.Numerals.{add-one}
 use native.Mathlib.Omega.{arith}
-use lib.Dec.{ltb, leb, eqb}
-use lib.ListN.{length, getD, drop, take, replicate}
+use lib.Dec.{ltb, eqb}
+use lib.ListN.{length, getD, drop}
 use borrow.Author.Tests.{eqb-true, eqb-false, ltb-true, ltb-false}
-use Rattle.lists.specs.Basics.{pick, All, none, also, upFrom, all-append, all-map}
-use Rattle.lists.specs.Counts.{mult, by-cases, mult-append, mult-more, mult-self, mult-not, absent, mult-of-all, all-of-mult, up-below, up-past, pigeons}
-use Rattle.pagestore.specs.Store.{pagesIn, inRange, linkAt, Page, pageAt, setPage, Field, Apart, fieldAt, setField, freed, fresh, chain, chainEnd, freedAt, restAt, freshAt, freeAt, pageTaken, takePage, setLink, freePage}
+use Rattle.lists.specs.Basics.{All, none, also, upFrom, all-append, all-map}
+use Rattle.lists.specs.Counts.{mult, by-cases, mult-append, mult-more, mult-self, mult-not, pigeons}
+use Rattle.pagestore.specs.Store.{pagesIn, inRange, linkAt, Page, setPage, Field, Apart, fieldAt, setField, freed, fresh, chain, chainEnd, freedAt, restAt, freshAt, freeAt, pageTaken, takePage, setLink, freePage}
 use Rattle.pagestore.specs.Store.RangeLaws.{range-low, range-high, range-past, range-fits, range-whole, range-is, range-zero, range-same, pages-same}
-use Rattle.pagestore.specs.Store.PageLaws.{SamePage, same-refl, same-trans, page-other, page-field, page-out, field-page, field-same, field-other, field-fits, field-link, link-same, link-other, link-fits, length-set-page, length-set-field, length-set-link}
+use Rattle.pagestore.specs.Store.PageLaws.{SamePage, same-refl, same-trans, page-other, page-field, field-page, field-same, field-other, field-fits, field-link, link-same, link-other, link-fits, length-set-page, length-set-field, length-set-link}
 
 -- ---- A CHAIN OF LINKS
 
@@ -165,6 +165,10 @@ free-range b = all-append (freed-range b) (fresh-range b)
 pub freed-once : (b : List ℕ) → restAt b ≡ 0 → (q : ℕ) → mult q (freedAt b) ≤ 1
 unfolding restAt freedAt
 freed-once b e q = chain-once (pagesIn b) b (fieldAt freed b) e q
+
+pub freed-part : (b : List ℕ) (q : ℕ) → mult q (freedAt b) ≤ mult q (freeAt b)
+unfolding freeAt
+freed-part b q = omega (arith, mult-append q (freedAt b) (freshAt b))
 
 -- ---- WRITES ELSEWHERE
 
@@ -322,6 +326,15 @@ module _ (b : List ℕ) (e : restAt b ≡ 0) (h : inRange b (fieldAt freed b) �
   unfolding freeAt
   pop-free = rw (pop-freed, pop-fresh) (pop-some (freshAt b))
 
+-- no page is freed
+none-freed : (b : List ℕ) → inRange b (fieldAt freed b) ≡ false → freedAt b ≡ []
+unfolding freedAt
+none-freed b h = chain-out (pagesIn b) b (fieldAt freed b) h
+
+none-counted : (q : ℕ) → mult q [] ≡ 0
+unfolding mult
+none-counted q = refl
+
 -- no page is free
 no-free : (b : List ℕ) → inRange b (fieldAt freed b) ≡ false → inRange b (fieldAt fresh b) ≡ false → freeAt b ≡ []
 unfolding freeAt freedAt freshAt
@@ -380,6 +393,22 @@ unfolding takePage popped opened
 rest-take b e =
     by-cases (inRange b (fieldAt freed b)) (λ h. rw h (pop-rest b e h))
     (λ h. rw h (by-cases (inRange b (fieldAt fresh b)) (λ g. rw g (open-rest b h g ∙ e)) (λ g. rw g e)))
+
+-- the page taken is not a freed one any more
+pop-gone : (b : List ℕ) → restAt b ≡ 0 → inRange b (fieldAt freed b) ≡ true → mult (fieldAt freed b) (drop 1 (freedAt b)) ≡ 0
+unfolding freedAt
+pop-gone b e h =
+    let p : ℕ = fieldAt freed b in
+    let r : List ℕ = chain (pagesIn b - 1) b (linkAt b (fieldAt freed b)) in
+    let s : chain (pagesIn b) b (fieldAt freed b) ≡ p ∷ r = chain-some (pagesIn b) b p (some-pages b p h) h in
+    let o : mult p (chain (pagesIn b) b (fieldAt freed b)) ≤ 1 = freed-once b e p in
+    rw s (omega (arith, mult-self p r, ap (mult p) s))
+
+pub taken-gone : (b : List ℕ) → restAt b ≡ 0 → mult (pageTaken b) (freedAt (takePage b)) ≡ 0
+unfolding pageTaken takePage popped opened
+taken-gone b e =
+    by-cases (inRange b (fieldAt freed b)) (λ h. rw (h, pop-freed b e h) (pop-gone b e h))
+    (λ h. rw h (by-cases (inRange b (fieldAt fresh b)) (λ g. rw (g, none-freed (setField fresh b (fieldAt fresh b + 1)) (open-none b h g)) (none-counted (fieldAt fresh b))) (λ g. rw (g, none-freed b h) (none-counted 0))))
 
 -- ---- FREEING A PAGE
 

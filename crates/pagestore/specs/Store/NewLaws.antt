@@ -1,22 +1,22 @@
 -- Laws of a new index: each field of its header, its pages, its free pages. Assumes nothing.
 use mathlib.Core.Path.{_≡_, refl, sym, ap, _∙_}
-use mathlib.Core.Bool.{Bool, true, false}
+use mathlib.Core.Bool.{true}
 use mathlib.Core.Logic.{_≢_}
-use mathlib.Core.List.{List, [], _∷_, _++_, append-assoc}
-use Prim.Native.Nat.{ℕ, zero, suc, _+_, _-_, _*_, _%_, _^_, _≤_, _<_}
+use mathlib.Core.List.{List, [], _++_, append-assoc}
+use Prim.Native.Nat.{ℕ, zero, suc, _+_, _-_, _*_, _≤_, _<_}
 use native.Mathlib.Omega.{arith}
-use lib.Dec.{ltb, leb}
+use lib.Dec.{leb}
 use lib.ListN.{length, getD, drop, take, replicate, length-append, length-replicate, length-take, length-drop, getD-replicate, List·getD-append}
-use lib.Seq.{getD-append-add, getD-drop, drop-at, drop-drop}
-use borrow.Author.Tests.{leb-true, le-leb, lt-ltb, ltb-true}
-use Rattle.lists.specs.Basics.{pick, none, upFrom}
-use Rattle.lists.specs.Counts.{by-cases, mult}
-use Rattle.pagestore.specs.Bytes.{byteAt, leAt, leBytes}
+use lib.Seq.{getD-drop, drop-at, drop-drop}
+use borrow.Author.Tests.{leb-true}
+use Rattle.lists.specs.Basics.{none, upFrom}
+use Rattle.lists.specs.Counts.{by-cases}
+use Rattle.pagestore.specs.Bytes.{leAt, leBytes}
 use Rattle.pagestore.specs.ByteLaws.{length-le, put-drop}
 use Rattle.pagestore.specs.Layout.{leafBytes}
 use Rattle.pagestore.specs.LayoutLaws.{length-leaf}
-use Rattle.pagestore.specs.Store.{pagesIn, inRange, stretch, setStretch, Page, leaf, pageAt, setPage, setLeaf, Field, offset, width, Apart, size, features, root, level, total, freed, fresh, fieldAt, setField, chain, chainEnd, freedAt, restAt, freshAt, freeAt, clearHeader, setFields, newIndex}
-use Rattle.pagestore.specs.Store.RangeLaws.{range-low, range-past, range-is, range-zero, range-same, range-whole, pages-same, pages-few}
+use Rattle.pagestore.specs.Store.{pagesIn, inRange, setStretch, leaf, pageAt, setPage, setLeaf, Field, offset, width, Apart, size, features, root, level, total, freed, fresh, fieldAt, setField, numberAt, setNumber, chain, chainEnd, freedAt, restAt, freshAt, freeAt, clearHeader, setFields, newIndex}
+use Rattle.pagestore.specs.Store.RangeLaws.{range-past, range-is, range-zero, range-same, range-whole, pages-same, pages-few}
 use Rattle.pagestore.specs.Store.StretchLaws.{set-in, set-out, agree, field-room}
 use Rattle.pagestore.specs.Store.PageLaws.{SamePage, same-trans, same-page, page-same, page-other, page-field, field-page, field-same, field-other, length-set-page, length-set-field, leafFits}
 
@@ -65,7 +65,7 @@ le-zero zero s at h = refl
 le-zero (suc n) s at h = rw (h at (omega arith) (omega arith), le-zero n s (at + 1) (λ i a c. h i (omega arith) (omega arith)))
 
 clear-field : (f : Field) (b : List ℕ) → fieldAt f (clearHeader b) ≡ 0
-unfolding fieldAt
+unfolding numberAt
 clear-field f b =
     let r = field-room f in
     by-cases (leb 1024 (length b))
@@ -75,7 +75,7 @@ clear-field f b =
 -- ---- THE BYTES BEHIND A WRITE
 
 drop-field : (f : Field) (b : List ℕ) (v n : ℕ) → 1024 ≤ n → drop n (setField f b v) ≡ drop n b
-unfolding setField
+unfolding setNumber
 drop-field f b v n h =
     let r = field-room f in
     by-cases (leb 1024 (length b))

@@ -1,6 +1,6 @@
 -- page-laws: what is written is read back, and nothing else changes; what is read fits. Assumes nothing.
-use mathlib.Core.Path.{_≡_, refl, sym, ap, _∙_}
-use mathlib.Core.Bool.{Bool, true, false}
+use mathlib.Core.Path.{_≡_, refl, _∙_}
+use mathlib.Core.Bool.{true, false}
 use mathlib.Core.Logic.{_≢_}
 use mathlib.Core.List.{List, []}
 use Prim.Native.Nat.{ℕ, zero, suc, _+_, _*_, _^_, _≤_, _<_}
@@ -21,8 +21,18 @@ use Rattle.pagestore.specs.declared.Record.{Record}
 use Rattle.pagestore.specs.declared.Leaf.{Leaf}
 use Rattle.pagestore.specs.declared.Entry.{Entry}
 use Rattle.pagestore.specs.declared.Inner.{Inner}
-use Rattle.pagestore.specs.Store.{inRange, stretch, setStretch, leafAt, innerAt, levelAt, countAt, linkAt, recordsIn, entriesIn, levelOf, fillOf, setLeaf, setInner, setLink, Page, leaf, inner, pageBy, pageAt, setPage, Field, offset, width, Apart, fieldAt, setField}
+use Rattle.pagestore.specs.Store.{inRange, stretch, setStretch, leafAt, innerAt, levelAt, countAt, linkAt, recordsIn, entriesIn, levelOf, fillOf, setLeaf, setInner, setLink, Page, leaf, inner, pageBy, pageAt, setPage, Field, offset, width, Apart, fieldAt, setField, numberAt, setNumber}
 use Rattle.pagestore.specs.Store.StretchLaws.{stretch-out, set-out, agree, length-stretch, stretch-same, stretch-other, field-stretch, field-room}
+
+-- ---- WRITES OF PAGES, AS ONE
+
+pub set-leaf-is : (b : List ℕ) (p n : ℕ) (rs : List Record) → setLeaf b p rs ≡ setPage b p (leaf n rs)
+unfolding setPage
+set-leaf-is b p n rs = refl
+
+pub set-inner-is : (b : List ℕ) (p l n : ℕ) (es : List Entry) → setInner b p (suc l) es ≡ setPage b p (inner l n es)
+unfolding setPage
+set-inner-is b p l n es = refl
 
 -- ---- LENGTHS ARE KEPT
 
@@ -36,7 +46,7 @@ unfolding setLink
 length-set-link b p n = length-stretch b p (freedBytes n) (length-freed n)
 
 pub length-set-field : (f : Field) (b : List ℕ) (v : ℕ) → length (setField f b v) ≡ length b
-unfolding setField
+unfolding setNumber
 length-set-field f b v =
     by-cases (leb 1024 (length b))
     (λ h. rw h (length-put b (offset f) (leBytes (width f) v)))
@@ -70,7 +80,7 @@ unfolding linkAt setLink
 link-same b p n h g = rw (stretch-same b p (freedBytes n) (length-freed n) h) (link-round n g)
 
 pub field-same : (f : Field) (b : List ℕ) (v : ℕ) → 1024 ≤ length b → v < 256 ^ width f → fieldAt f (setField f b v) ≡ v
-unfolding fieldAt setField
+unfolding numberAt setNumber
 field-same f b v h g =
     let r = field-room f in
     let i : offset f + length (leBytes (width f) v) ≤ length b = omega (arith, length-le (width f) v, r .1, r .2) in
@@ -135,7 +145,7 @@ page-out b p (inner l n es) h = set-out b p (innerBytes (suc l) es) h
 
 -- a field that is set changes that field alone
 pub field-other : (f g : Field) (b : List ℕ) (v : ℕ) → Apart f g → fieldAt g (setField f b v) ≡ fieldAt g b
-unfolding fieldAt setField
+unfolding numberAt setNumber
 field-other f g b v a =
     let r = field-room f in
     let t = field-room g in
@@ -148,7 +158,7 @@ field-other f g b v a =
     (λ h. rw (h, h))
 
 pub page-field : (f : Field) (b : List ℕ) (v : ℕ) (q : ℕ) → SamePage b (setField f b v) q
-unfolding setField
+unfolding setNumber
 page-field f b v q =
     let r = field-room f in
     let vs : List ℕ = leBytes (width f) v in
@@ -266,7 +276,7 @@ unfolding linkAt linkOf
 link-fits b p = le-fits 4 (stretch b p) 4
 
 pub field-fits : (f : Field) (b : List ℕ) → fieldAt f b < 256 ^ width f
-unfolding fieldAt
+unfolding numberAt
 field-fits f b =
     by-cases (leb 1024 (length b)) (λ h. rw h (le-fits (width f) b (offset f))) (λ h. rw h (one-le-pow (width f) 256 (omega arith)))
 

@@ -1,21 +1,21 @@
 -- How pages and fields lie in the bytes of an index; for the laws beside this file and the proofs of this crate's functions. Assumes nothing.
 use mathlib.Core.Path.{_≡_, refl, sym, ap, _∙_}
-use mathlib.Core.Bool.{Bool, true, false}
+use mathlib.Core.Bool.{true, false}
 use mathlib.Core.Logic.{_≢_}
-use mathlib.Core.List.{List, [], _∷_, _++_}
+use mathlib.Core.List.{List, [], _++_}
 use Prim.Native.Nat.{ℕ, _+_, _-_, _*_, _%_, _≤_, _<_}
 use native.Mathlib.Omega.{arith}
 use lib.Dec.{leb}
-use lib.ListN.{length, getD, take, drop, length-append, length-take, length-drop, List·getD-append}
+use lib.ListN.{length, getD, take, drop, replicate, length-append, length-take, length-drop, List·getD-append}
 use lib.Seq.{take-at, drop-at, length-take-le, getD-take, getD-drop, getD-append-add, ext-getD}
-use borrow.Author.Tests.{leb-true, leb-false}
+use borrow.Author.Tests.{leb-true, leb-false, le-leb, lt-leb}
 use Rattle.lists.specs.Counts.{by-cases}
-use Rattle.pagestore.specs.Bytes.{byteAt}
+use Rattle.pagestore.specs.Bytes.{byteAt, leAt, leBytes, put}
 use Rattle.pagestore.specs.ByteLaws.{le-ext}
 use Rattle.pagestore.specs.Layout.{leafOf, innerOf, linkOf, leafBytes, innerBytes, freedBytes}
 use Rattle.pagestore.specs.declared.Record.{Record}
 use Rattle.pagestore.specs.declared.Entry.{Entry}
-use Rattle.pagestore.specs.Store.{inRange, stretch, setStretch, leafAt, innerAt, levelAt, countAt, linkAt, setLeaf, setInner, setLink, Field, offset, width, fieldAt, size, features, root, level, total, freed, fresh}
+use Rattle.pagestore.specs.Store.{inRange, stretch, setStretch, leafAt, innerAt, levelAt, countAt, linkAt, setLeaf, setInner, setLink, Field, offset, width, fieldAt, numberAt, setNumber, clearHeader, size, features, root, level, total, freed, fresh}
 use Rattle.pagestore.specs.Store.RangeLaws.{range-low, range-same, range-whole}
 
 pub stretch-in : (b : List ℕ) (p : ℕ) → inRange b p ≡ true → stretch b p ≡ take 1024 (drop (p * 1024) b)
@@ -108,7 +108,7 @@ module _ (b : List ℕ) (p : ℕ) (xs : List ℕ) (n : length xs ≡ 1024) where
       (λ h. ap (λ (c : List ℕ). getD c m 0) (set-out b p xs h))
 
   pub field-stretch : (f : Field) → fieldAt f (setStretch b p xs) ≡ fieldAt f b
-  unfolding fieldAt
+  unfolding numberAt
   field-stretch f =
       let r = field-room f in
       rw (length-stretch, le-ext (width f) (setStretch b p xs) b (offset f) (λ i g h. byte-header i (omega (arith, r .1, r .2))))
@@ -146,3 +146,29 @@ set-inner-opens b p v es = refl
 pub set-link-opens : (b : List ℕ) (p n : ℕ) → setLink b p n ≡ setStretch b p (freedBytes n)
 unfolding setLink
 set-link-opens b p n = refl
+
+-- ---- the fields of the header, in bytes
+
+pub number-long : (w at : ℕ) (b : List ℕ) → 1024 ≤ length b → numberAt w at b ≡ leAt w b at
+unfolding numberAt
+number-long w at b h = rw (le-leb 1024 (length b) h)
+
+pub number-short : (w at : ℕ) (b : List ℕ) → length b < 1024 → numberAt w at b ≡ 0
+unfolding numberAt
+number-short w at b h = rw (lt-leb 1024 (length b) h)
+
+pub set-number-long : (w at : ℕ) (b : List ℕ) (v : ℕ) → 1024 ≤ length b → setNumber w at b v ≡ put b at (leBytes w v)
+unfolding setNumber
+set-number-long w at b v h = rw (le-leb 1024 (length b) h)
+
+pub set-number-short : (w at : ℕ) (b : List ℕ) (v : ℕ) → length b < 1024 → setNumber w at b v ≡ b
+unfolding setNumber
+set-number-short w at b v h = rw (lt-leb 1024 (length b) h)
+
+pub clear-long : (b : List ℕ) → 1024 ≤ length b → clearHeader b ≡ replicate 1024 0 ++ drop 1024 b
+unfolding clearHeader
+clear-long b h = rw (le-leb 1024 (length b) h)
+
+pub clear-short : (b : List ℕ) → length b < 1024 → clearHeader b ≡ b
+unfolding clearHeader
+clear-short b h = rw (lt-leb 1024 (length b) h)

@@ -2,33 +2,22 @@ use Rattle.pagestore.specs.Layout.{keyAt}
 use borrow.Author.Needs.{needs}
 use Rattle.pagestore.proofs.items.get_key.Statement.{statement}
 use Rattle.pagestore.proofs.items.get_key.Tie as tie
-use Rattle.pagestore.proofs.items.get_key.Reads as reads
-use Rattle.pagestore.proofs.items.get_key.Lts as lts
-use Rattle.pagestore.proofs.numbers.get_u16.Reads as get-u16-reads
-use Rattle.pagestore.proofs.numbers.get_u32.Reads as get-u32-reads
-use Rattle.pagestore.proofs.numbers.get_u8.Reads as get-u8-reads
 
--- src/items.rt:24:36
 add-get-u8 : tie.Need-add-get-u8
 add-get-u8 c = search needs
 
--- src/items.rt:24:26
 get-u8-requires : tie.Need-get-u8-requires
 get-u8-requires c κs = search needs
 
--- src/items.rt:25:35
 add-get-u16 : tie.Need-add-get-u16
 add-get-u16 c = search needs
 
--- src/items.rt:25:24
 get-u16-requires : tie.Need-get-u16-requires
 get-u16-requires c κs = search needs
 
--- src/items.rt:26:13
 get-u32-requires : tie.Need-get-u32-requires
 get-u32-requires c κs = search needs
 
--- src/items.rt:19:1
 returns : tie.Need-returns
 unfolding keyAt
 returns c = cc

@@ -8,10 +8,6 @@ use Rattle.pagestore.proofs.CodeLaws.{record-is}
 use borrow.Author.Needs.{needs}
 use Rattle.pagestore.proofs.items.get_record.Statement.{statement}
 use Rattle.pagestore.proofs.items.get_record.Tie as tie
-use Rattle.pagestore.proofs.items.get_record.Reads as reads
-use Rattle.pagestore.proofs.items.get_record.Lts as lts
-use Rattle.pagestore.proofs.numbers.get_u16.Reads as get-u16-reads
-use Rattle.pagestore.proofs.numbers.get_u32.Reads as get-u32-reads
 
 abbrev Inv-loop : tie.InvT-loop
 Inv-loop s at id coords₀ m₀ coords m = (m ≤ 16) × (length coords ≡ 16) × (take m coords ≡ run m (λ k. leAt 2 s (at + 4 + 2 * k)))
@@ -19,52 +15,40 @@ Inv-loop s at id coords₀ m₀ coords m = (m ≤ 16) × (length coords ≡ 16) 
 abbrev μ-loop : tie.MeasureT-loop
 μ-loop s at id coords₀ m₀ coords m = 16 - m
 
--- src/items.rt:67:9
 get-u32-requires : tie.Need-get-u32-requires Inv-loop μ-loop
 get-u32-requires c κs = search needs
 
--- src/items.rt:70:5
 loop-holds : tie.Need-loop-holds Inv-loop μ-loop
 unfolding run
 loop-holds c = search needs
 
--- src/items.rt:71:32
 add-get-u16 : tie.Need-add-get-u16 Inv-loop μ-loop
 add-get-u16 c = search needs
 
--- src/items.rt:71:41
 mul-get-u16 : tie.Need-mul-get-u16 Inv-loop μ-loop
 mul-get-u16 c = search needs
 
--- src/items.rt:71:32
 add-get-u16-2 : tie.Need-add-get-u16-2 Inv-loop μ-loop
 add-get-u16-2 c = search needs
 
--- src/items.rt:71:21
 get-u16-requires : tie.Need-get-u16-requires Inv-loop μ-loop
 get-u16-requires c κs = search needs
 
--- src/items.rt:71:9
 mul-coords : tie.Need-mul-coords Inv-loop μ-loop
 mul-coords c = search needs
 
--- src/items.rt:71:9
 array-write-coords : tie.Need-array-write-coords Inv-loop μ-loop
 array-write-coords c = search needs
 
--- src/items.rt:72:9
 add-m : tie.Need-add-m Inv-loop μ-loop
 add-m c = search needs
 
--- src/items.rt:70:5
 loop-less : tie.Need-loop-less Inv-loop μ-loop
 loop-less c = search needs
 
--- src/items.rt:70:5
 loop-again : tie.Need-loop-again Inv-loop μ-loop
 loop-again c = let L = c .before .before .loop in let h : L .m < length (L .coords) = search needs in (search needs, search needs, run-more _ (L .coords) (L .m) _ h (L .inv .2) (c .get-u16 .ensures))
 
--- src/items.rt:63:1
 returns : tie.Need-returns Inv-loop μ-loop
 returns c = let L = c .before .loop in record-is _ _ _ _ (c .before .before .get-u32 .ensures) (run-done _ 16 (L .coords) (L .m) (L .inv .0) (c .loop-test .left) (L .inv .1) (L .inv .2))
 

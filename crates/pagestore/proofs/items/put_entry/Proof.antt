@@ -2,36 +2,25 @@ use Rattle.pagestore.proofs.CodeLaws.{entry-put}
 use borrow.Author.Needs.{needs}
 use Rattle.pagestore.proofs.items.put_entry.Statement.{statement}
 use Rattle.pagestore.proofs.items.put_entry.Tie as tie
-use Rattle.pagestore.proofs.items.put_entry.Reads as reads
-use Rattle.pagestore.proofs.items.put_entry.Lts as lts
-use Rattle.pagestore.proofs.items.put_key.Reads as put-key-reads
-use Rattle.pagestore.proofs.numbers.put_u32.Reads as put-u32-reads
 
--- src/items.rt:58:5
 put-u32-requires : tie.Need-put-u32-requires
 put-u32-requires c κs = search needs
 
--- src/items.rt:59:16
 add-put-key : tie.Need-add-put-key
 add-put-key c = search needs
 
--- src/items.rt:59:5
 put-key-requires : tie.Need-put-key-requires
 put-key-requires c κs = search needs
 
--- src/items.rt:60:16
 add-put-key-2 : tie.Need-add-put-key-2
 add-put-key-2 c = search needs
 
--- src/items.rt:60:5
 put-key-requires-2 : tie.Need-put-key-requires-2
 put-key-requires-2 c κs = search needs
 
--- src/items.rt:54:1
 same-length : tie.Need-same-length
 same-length c = search needs
 
--- src/items.rt:54:1
 returns : tie.Need-returns
 returns c = entry-put _ _ _ _ _ (c .before .before .before .before .before .before .before .before .before .before .before .before .before .args .e) (c .before .before .before .before .before .before .before .before .before .before .put-u32 .ensures) (c .before .before .before .before .before .before .put-key .ensures) (c .before .before .put-key2 .ensures)
 

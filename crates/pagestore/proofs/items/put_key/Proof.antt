@@ -2,45 +2,31 @@ use Rattle.pagestore.proofs.CodeLaws.{key-put}
 use borrow.Author.Needs.{needs}
 use Rattle.pagestore.proofs.items.put_key.Statement.{statement}
 use Rattle.pagestore.proofs.items.put_key.Tie as tie
-use Rattle.pagestore.proofs.items.put_key.Reads as reads
-use Rattle.pagestore.proofs.items.put_key.Lts as lts
-use Rattle.pagestore.proofs.numbers.put_u16.Reads as put-u16-reads
-use Rattle.pagestore.proofs.numbers.put_u32.Reads as put-u32-reads
-use Rattle.pagestore.proofs.numbers.put_u8.Reads as put-u8-reads
 
--- src/items.rt:34:5
 put-u32-requires : tie.Need-put-u32-requires
 put-u32-requires c κs = search needs
 
--- src/items.rt:35:16
 add-put-u16 : tie.Need-add-put-u16
 add-put-u16 c = search needs
 
--- src/items.rt:35:5
 put-u16-requires : tie.Need-put-u16-requires
 put-u16-requires c κs = search needs
 
--- src/items.rt:36:15
 add-put-u8 : tie.Need-add-put-u8
 add-put-u8 c = search needs
 
--- src/items.rt:36:5
 put-u8-requires : tie.Need-put-u8-requires
 put-u8-requires c κs = search needs
 
--- src/items.rt:37:15
 add-put-u8-2 : tie.Need-add-put-u8-2
 add-put-u8-2 c = search needs
 
--- src/items.rt:37:5
 put-u8-requires-2 : tie.Need-put-u8-requires-2
 put-u8-requires-2 c κs = search needs
 
--- src/items.rt:30:1
 same-length : tie.Need-same-length
 same-length c = search needs
 
--- src/items.rt:30:1
 returns : tie.Need-returns
 returns c = key-put _ _ _ _ _ _ (c .before .before .before .before .before .before .before .before .before .before .before .before .before .before .before .before .before .args .k) (c .before .before .before .before .before .before .before .before .before .before .before .before .before .before .put-u32 .ensures) (c .before .before .before .before .before .before .before .before .before .before .put-u16 .ensures) (c .before .before .before .before .before .before .put-u8 .ensures) (c .before .before .put-u82 .ensures)
 

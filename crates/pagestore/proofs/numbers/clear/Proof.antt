@@ -7,8 +7,6 @@ use Rattle.pagestore.specs.ByteLaws.{fill-done}
 use borrow.Author.Needs.{needs}
 use Rattle.pagestore.proofs.numbers.clear.Statement.{statement}
 use Rattle.pagestore.proofs.numbers.clear.Tie as tie
-use Rattle.pagestore.proofs.numbers.clear.Reads as reads
-use Rattle.pagestore.proofs.numbers.clear.Lts as lts
 
 abbrev Inv-loop : tie.InvT-loop
 Inv-loop s₀ i₀ s i = (i ≤ length s₀) × (length s ≡ length s₀) × (s ≡ replicate i 0 ++ drop i s₀)
@@ -16,31 +14,24 @@ Inv-loop s₀ i₀ s i = (i ≤ length s₀) × (length s ≡ length s₀) × (s
 abbrev μ-loop : tie.MeasureT-loop
 μ-loop s₀ i₀ s i = length s₀ - i
 
--- src/numbers.rt:79:5
 loop-holds : tie.Need-loop-holds Inv-loop μ-loop
 loop-holds c = search needs
 
--- src/numbers.rt:80:9
 slice-write-s : tie.Need-slice-write-s Inv-loop μ-loop
 slice-write-s c = search needs
 
--- src/numbers.rt:81:9
 add-i : tie.Need-add-i Inv-loop μ-loop
 add-i c = search needs
 
--- src/numbers.rt:79:5
 loop-less : tie.Need-loop-less Inv-loop μ-loop
 loop-less c = search needs
 
--- src/numbers.rt:79:5
 loop-again : tie.Need-loop-again Inv-loop μ-loop
 loop-again c = let L = c .before .loop in let h : L .i < length (c .before .before .args .s .now) = search needs in (search needs, search needs, rw (L .inv .2) (fill-more (L .i) 0 (c .before .before .args .s .now) h))
 
--- src/numbers.rt:75:1
 same-length : tie.Need-same-length Inv-loop μ-loop
 same-length c = search needs
 
--- src/numbers.rt:75:1
 returns : tie.Need-returns Inv-loop μ-loop
 returns c = let L = c .before .loop in fill-done (c .before .before .args .s .now) (L .s) (L .i) 0 (search needs) (L .inv .0) (L .inv .2)
 

@@ -4,58 +4,43 @@ use Rattle.pagestore.specs.Bytes.{leBytes, put}
 use borrow.Author.Needs.{needs}
 use Rattle.pagestore.proofs.numbers.put_u32.Statement.{statement}
 use Rattle.pagestore.proofs.numbers.put_u32.Tie as tie
-use Rattle.pagestore.proofs.numbers.put_u32.Reads as reads
-use Rattle.pagestore.proofs.numbers.put_u32.Lts as lts
 
--- src/numbers.rt:62:13
 cast-s : tie.Need-cast-s
 cast-s c = search needs
 
--- src/numbers.rt:62:5
 slice-write-s : tie.Need-slice-write-s
 slice-write-s c = search needs
 
--- src/numbers.rt:63:13
 add-i : tie.Need-add-i
 add-i c = search needs
 
--- src/numbers.rt:65:12
 cast-s-2 : tie.Need-cast-s-2
 cast-s-2 c = search needs
 
--- src/numbers.rt:65:5
 slice-write-s-2 : tie.Need-slice-write-s-2
 slice-write-s-2 c = simp length-set (omega arith)
 
--- src/numbers.rt:66:13
 add-j : tie.Need-add-j
 add-j c = search needs
 
--- src/numbers.rt:68:12
 cast-s-3 : tie.Need-cast-s-3
 cast-s-3 c = search needs
 
--- src/numbers.rt:68:5
 slice-write-s-3 : tie.Need-slice-write-s-3
 slice-write-s-3 c = simp length-set (omega arith)
 
--- src/numbers.rt:69:13
 add-k : tie.Need-add-k
 add-k c = search needs
 
--- src/numbers.rt:71:12
 cast-s-4 : tie.Need-cast-s-4
 cast-s-4 c = search needs
 
--- src/numbers.rt:71:5
 slice-write-s-4 : tie.Need-slice-write-s-4
 slice-write-s-4 c = simp length-set (omega arith)
 
--- src/numbers.rt:58:1
 same-length : tie.Need-same-length
 same-length c = search needs
 
--- src/numbers.rt:58:1
 returns : tie.Need-returns
 unfolding put leBytes
 returns c = search needs

@@ -1,4 +1,4 @@
-use mathlib.Core.Path.{_≡_, refl, sym, ap, _∙_}
+use mathlib.Core.Path.{sym, ap, _∙_}
 use native.Mathlib.Omega.{arith}
 use mathlib.Core.List.{List}
 use Prim.Native.Nat.{ℕ}
@@ -8,44 +8,31 @@ use Rattle.pagestore.proofs.CodeLaws.{held, part-is, part-whole}
 use borrow.Author.Needs.{needs}
 use Rattle.pagestore.proofs.pages.byte_of.Statement.{statement}
 use Rattle.pagestore.proofs.pages.byte_of.Tie as tie
-use Rattle.pagestore.proofs.pages.byte_of.Reads as reads
-use Rattle.pagestore.proofs.pages.byte_of.Lts as lts
-use Rattle.pagestore.proofs.numbers.get_u8.Reads as get-u8-reads
-use Rattle.pagestore.proofs.pages.in_range.Reads as in-range-reads
 
--- src/pages.rt:156:8
 in-range-requires : tie.Need-in-range-requires
 in-range-requires c κs = search needs
 
--- src/pages.rt:157:18
 mul-at : tie.Need-mul-at
 mul-at c = search needs
 
--- src/pages.rt:158:19
 add-end : tie.Need-add-end
 add-end c = search needs
 
--- src/pages.rt:159:16
 sub-get-u8 : tie.Need-sub-get-u8
 sub-get-u8 c = search needs
 
--- src/pages.rt:159:16
 part-get-u8-start : tie.Need-part-get-u8-start
 part-get-u8-start c = search needs
 
--- src/pages.rt:159:16
 part-get-u8-end : tie.Need-part-get-u8-end
 part-get-u8-end c = omega (arith, part-whole _ _ (held _ _ _ (c .before .in-range .ensures) (c .if1 .taken)))
 
--- src/pages.rt:159:9
 get-u8-requires : tie.Need-get-u8-requires
 get-u8-requires c κs = search needs
 
--- src/pages.rt:152:1
 returns : tie.Need-returns
 returns c = c .get-u8 .ensures ∙ ap (λ (s : List ℕ). byteAt s (c .before .before .before .before .before .args .i)) (part-is _ _ (held _ _ _ (c .before .before .before .in-range .ensures) (c .before .before .if1 .taken)))
 
--- src/pages.rt:152:1
 returns-2 : tie.Need-returns-2
 returns-2 c = sym (ap (λ (s : List ℕ). byteAt s (c .before .before .before .args .i)) (stretch-out _ _ (held _ _ _ (c .before .in-range .ensures) (c .if1 .left))))
 

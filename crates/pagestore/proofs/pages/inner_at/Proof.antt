@@ -1,4 +1,4 @@
-use mathlib.Core.Path.{_≡_, refl, sym, ap, _∙_}
+use mathlib.Core.Path.{sym, ap, _∙_}
 use native.Mathlib.Omega.{arith}
 use Rattle.pagestore.specs.Layout.{innerOf}
 use Rattle.pagestore.specs.Store.StretchLaws.{stretch-out, inner-opens}
@@ -6,49 +6,34 @@ use Rattle.pagestore.proofs.CodeLaws.{held, part-is, part-whole}
 use borrow.Author.Needs.{needs}
 use Rattle.pagestore.proofs.pages.inner_at.Statement.{statement}
 use Rattle.pagestore.proofs.pages.inner_at.Tie as tie
-use Rattle.pagestore.proofs.pages.inner_at.Reads as reads
-use Rattle.pagestore.proofs.pages.inner_at.Lts as lts
-use Rattle.pagestore.proofs.pages.empty_inner.Reads as empty-inner-reads
-use Rattle.pagestore.proofs.pages.in_range.Reads as in-range-reads
-use Rattle.pagestore.proofs.pages.read_inner.Reads as read-inner-reads
 
--- src/pages.rt:217:8
 in-range-requires : tie.Need-in-range-requires
 in-range-requires c κs = search needs
 
--- src/pages.rt:218:18
 mul-at : tie.Need-mul-at
 mul-at c = search needs
 
--- src/pages.rt:219:19
 add-end : tie.Need-add-end
 add-end c = search needs
 
--- src/pages.rt:220:20
 sub-read-inner : tie.Need-sub-read-inner
 sub-read-inner c = search needs
 
--- src/pages.rt:220:20
 part-read-inner-start : tie.Need-part-read-inner-start
 part-read-inner-start c = search needs
 
--- src/pages.rt:220:20
 part-read-inner-end : tie.Need-part-read-inner-end
 part-read-inner-end c = omega (arith, part-whole _ _ (held _ _ _ (c .before .in-range .ensures) (c .if1 .taken)))
 
--- src/pages.rt:220:9
 read-inner-requires : tie.Need-read-inner-requires
 read-inner-requires c κs = search needs
 
--- src/pages.rt:222:9
 empty-inner-requires : tie.Need-empty-inner-requires
 empty-inner-requires c κs = search needs
 
--- src/pages.rt:214:1
 returns : tie.Need-returns
 returns c = c .read-inner .ensures ∙ ap innerOf (part-is _ _ (held _ _ _ (c .before .before .before .in-range .ensures) (c .before .before .if1 .taken))) ∙ sym (inner-opens _ _)
 
--- src/pages.rt:214:1
 returns-2 : tie.Need-returns-2
 returns-2 c = c .empty-inner .ensures ∙ sym (inner-opens _ _ ∙ ap innerOf (stretch-out _ _ (held _ _ _ (c .before .before .in-range .ensures) (c .before .if1 .left))))
 

@@ -1,4 +1,4 @@
-use mathlib.Core.Path.{_≡_, refl, sym, ap, _∙_}
+use mathlib.Core.Path.{sym, ap, _∙_}
 use native.Mathlib.Omega.{arith}
 use Rattle.pagestore.specs.Layout.{leafOf}
 use Rattle.pagestore.specs.Store.StretchLaws.{stretch-out, leaf-opens}
@@ -6,49 +6,34 @@ use Rattle.pagestore.proofs.CodeLaws.{held, part-is, part-whole}
 use borrow.Author.Needs.{needs}
 use Rattle.pagestore.proofs.pages.leaf_at.Statement.{statement}
 use Rattle.pagestore.proofs.pages.leaf_at.Tie as tie
-use Rattle.pagestore.proofs.pages.leaf_at.Reads as reads
-use Rattle.pagestore.proofs.pages.leaf_at.Lts as lts
-use Rattle.pagestore.proofs.pages.empty_leaf.Reads as empty-leaf-reads
-use Rattle.pagestore.proofs.pages.in_range.Reads as in-range-reads
-use Rattle.pagestore.proofs.pages.read_leaf.Reads as read-leaf-reads
 
--- src/pages.rt:204:8
 in-range-requires : tie.Need-in-range-requires
 in-range-requires c κs = search needs
 
--- src/pages.rt:205:18
 mul-at : tie.Need-mul-at
 mul-at c = search needs
 
--- src/pages.rt:206:19
 add-end : tie.Need-add-end
 add-end c = search needs
 
--- src/pages.rt:207:19
 sub-read-leaf : tie.Need-sub-read-leaf
 sub-read-leaf c = search needs
 
--- src/pages.rt:207:19
 part-read-leaf-start : tie.Need-part-read-leaf-start
 part-read-leaf-start c = search needs
 
--- src/pages.rt:207:19
 part-read-leaf-end : tie.Need-part-read-leaf-end
 part-read-leaf-end c = omega (arith, part-whole _ _ (held _ _ _ (c .before .in-range .ensures) (c .if1 .taken)))
 
--- src/pages.rt:207:9
 read-leaf-requires : tie.Need-read-leaf-requires
 read-leaf-requires c κs = search needs
 
--- src/pages.rt:209:9
 empty-leaf-requires : tie.Need-empty-leaf-requires
 empty-leaf-requires c κs = search needs
 
--- src/pages.rt:201:1
 returns : tie.Need-returns
 returns c = c .read-leaf .ensures ∙ ap leafOf (part-is _ _ (held _ _ _ (c .before .before .before .in-range .ensures) (c .before .before .if1 .taken))) ∙ sym (leaf-opens _ _)
 
--- src/pages.rt:201:1
 returns-2 : tie.Need-returns-2
 returns-2 c = c .empty-leaf .ensures ∙ sym (leaf-opens _ _ ∙ ap leafOf (stretch-out _ _ (held _ _ _ (c .before .before .in-range .ensures) (c .before .if1 .left))))
 

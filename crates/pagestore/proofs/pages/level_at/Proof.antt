@@ -1,17 +1,12 @@
-use mathlib.Core.Path.{_≡_, refl, sym, ap, _∙_}
+use mathlib.Core.Path.{sym, _∙_}
 use Rattle.pagestore.specs.Store.StretchLaws.{level-opens}
 use borrow.Author.Needs.{needs}
 use Rattle.pagestore.proofs.pages.level_at.Statement.{statement}
 use Rattle.pagestore.proofs.pages.level_at.Tie as tie
-use Rattle.pagestore.proofs.pages.level_at.Reads as reads
-use Rattle.pagestore.proofs.pages.level_at.Lts as lts
-use Rattle.pagestore.proofs.pages.byte_of.Reads as byte-of-reads
 
--- src/pages.rt:169:5
 byte-of-requires : tie.Need-byte-of-requires
 byte-of-requires c κs = search needs
 
--- src/pages.rt:166:1
 returns : tie.Need-returns
 returns c = c .byte-of .ensures ∙ sym (level-opens _ _)
 

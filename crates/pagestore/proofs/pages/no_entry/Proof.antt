@@ -1,12 +1,9 @@
-use mathlib.Core.Path.{_≡_, refl, sym, ap, _∙_}
+use mathlib.Core.Path.{refl}
 use Rattle.pagestore.specs.Layout.{entryAt, keyAt}
 use Rattle.pagestore.specs.Bytes.{leAt}
 use Rattle.pagestore.proofs.pages.no_entry.Statement.{statement}
 use Rattle.pagestore.proofs.pages.no_entry.Tie as tie
-use Rattle.pagestore.proofs.pages.no_entry.Reads as reads
-use Rattle.pagestore.proofs.pages.no_entry.Lts as lts
 
--- src/pages.rt:34:1
 returns : tie.Need-returns
 unfolding entryAt keyAt leAt
 returns c = refl

@@ -1,13 +1,10 @@
-use mathlib.Core.Path.{_≡_, refl, sym, ap, _∙_}
+use mathlib.Core.Path.{refl}
 use Rattle.pagestore.specs.Layout.{recordAt}
 use Rattle.pagestore.specs.Bytes.{leAt}
 use Rattle.lists.specs.Basics.{run}
 use Rattle.pagestore.proofs.pages.no_record.Statement.{statement}
 use Rattle.pagestore.proofs.pages.no_record.Tie as tie
-use Rattle.pagestore.proofs.pages.no_record.Reads as reads
-use Rattle.pagestore.proofs.pages.no_record.Lts as lts
 
--- src/pages.rt:25:1
 returns : tie.Need-returns
 unfolding recordAt leAt run
 returns c = refl

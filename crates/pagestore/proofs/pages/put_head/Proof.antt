@@ -2,32 +2,22 @@ use Rattle.pagestore.proofs.CodeLaws.{head-put}
 use borrow.Author.Needs.{needs}
 use Rattle.pagestore.proofs.pages.put_head.Statement.{statement}
 use Rattle.pagestore.proofs.pages.put_head.Tie as tie
-use Rattle.pagestore.proofs.pages.put_head.Reads as reads
-use Rattle.pagestore.proofs.pages.put_head.Lts as lts
-use Rattle.pagestore.proofs.numbers.put_u16.Reads as put-u16-reads
-use Rattle.pagestore.proofs.numbers.put_u8.Reads as put-u8-reads
 
--- src/pages.rt:98:5
 put-u8-requires : tie.Need-put-u8-requires
 put-u8-requires c κs = search needs
 
--- src/pages.rt:99:21
 cast-put-u8 : tie.Need-cast-put-u8
 cast-put-u8 c = search needs
 
--- src/pages.rt:99:5
 put-u8-requires-2 : tie.Need-put-u8-requires-2
 put-u8-requires-2 c κs = search needs
 
--- src/pages.rt:100:5
 put-u16-requires : tie.Need-put-u16-requires
 put-u16-requires c κs = search needs
 
--- src/pages.rt:94:1
 same-length : tie.Need-same-length
 same-length c = search needs
 
--- src/pages.rt:94:1
 returns : tie.Need-returns
 returns c = head-put _ _ _ _ _ _ (c .before .before .before .before .before .before .before .before .before .before .put-u8 .ensures) (c .before .before .before .before .before .before .put-u82 .ensures) (c .before .before .put-u16 .ensures)
 

@@ -1,4 +1,4 @@
-use mathlib.Core.Path.{_≡_, refl, sym, ap, _∙_}
+use mathlib.Core.Path.{_≡_}
 use Prim.Native.Nat.{_≤_, _<_, _+_, _*_, _-_}
 use lib.ListN.{length, take}
 use Rattle.lists.specs.Basics.{run}
@@ -8,11 +8,6 @@ use Rattle.pagestore.proofs.CodeLaws.{inner-is}
 use borrow.Author.Needs.{needs}
 use Rattle.pagestore.proofs.pages.read_inner.Statement.{statement}
 use Rattle.pagestore.proofs.pages.read_inner.Tie as tie
-use Rattle.pagestore.proofs.pages.read_inner.Reads as reads
-use Rattle.pagestore.proofs.pages.read_inner.Lts as lts
-use Rattle.pagestore.proofs.items.get_entry.Reads as get-entry-reads
-use Rattle.pagestore.proofs.numbers.get_u8.Reads as get-u8-reads
-use Rattle.pagestore.proofs.pages.no_entry.Reads as no-entry-reads
 
 abbrev Inv-loop : tie.InvT-loop
 Inv-loop page level count entries₀ i₀ entries i = (i ≤ 16) × (length entries ≡ 16) × (take i entries ≡ run i (λ k. entryAt page (4 + 20 * k)))
@@ -20,60 +15,46 @@ Inv-loop page level count entries₀ i₀ entries i = (i ≤ 16) × (length entr
 abbrev μ-loop : tie.MeasureT-loop
 μ-loop page level count entries₀ i₀ entries i = 16 - i
 
--- src/pages.rt:72:9
 get-u8-requires : tie.Need-get-u8-requires Inv-loop μ-loop
 get-u8-requires c κs = search needs
 
--- src/pages.rt:73:17
 get-u8-requires-2 : tie.Need-get-u8-requires-2 Inv-loop μ-loop
 get-u8-requires-2 c κs = search needs
 
--- src/pages.rt:73:17
 cast-count : tie.Need-cast-count Inv-loop μ-loop
 cast-count c = search needs
 
--- src/pages.rt:74:24
 no-entry-requires : tie.Need-no-entry-requires Inv-loop μ-loop
 no-entry-requires c κs = search needs
 
--- src/pages.rt:76:5
 loop-holds : tie.Need-loop-holds Inv-loop μ-loop
 unfolding run
 loop-holds c = search needs
 
--- src/pages.rt:77:42
 mul-get-entry : tie.Need-mul-get-entry Inv-loop μ-loop
 mul-get-entry c = search needs
 
--- src/pages.rt:77:38
 add-get-entry : tie.Need-add-get-entry Inv-loop μ-loop
 add-get-entry c = search needs
 
--- src/pages.rt:77:22
 get-entry-requires : tie.Need-get-entry-requires Inv-loop μ-loop
 get-entry-requires c κs = search needs
 
--- src/pages.rt:77:9
 mul-entries : tie.Need-mul-entries Inv-loop μ-loop
 mul-entries c = search needs
 
--- src/pages.rt:77:9
 array-set-from-entries : tie.Need-array-set-from-entries Inv-loop μ-loop
 array-set-from-entries c = search needs
 
--- src/pages.rt:78:9
 add-i : tie.Need-add-i Inv-loop μ-loop
 add-i c = search needs
 
--- src/pages.rt:76:5
 loop-less : tie.Need-loop-less Inv-loop μ-loop
 loop-less c = search needs
 
--- src/pages.rt:76:5
 loop-again : tie.Need-loop-again Inv-loop μ-loop
 loop-again c = let L = c .before .before .loop in let h : L .i < length (L .entries) = search needs in (search needs, search needs, run-more _ (L .entries) (L .i) _ h (L .inv .2) (c .get-entry .ensures))
 
--- src/pages.rt:68:1
 returns : tie.Need-returns Inv-loop μ-loop
 returns c = let L = c .before .loop in inner-is _ _ _ _ (c .before .before .before .before .get-u8 .ensures) (c .before .before .before .get-u82 .ensures) (run-done _ 16 (L .entries) (L .i) (L .inv .0) (c .loop-test .left) (L .inv .1) (L .inv .2))
 

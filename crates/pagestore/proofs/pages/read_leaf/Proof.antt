@@ -1,4 +1,4 @@
-use mathlib.Core.Path.{_≡_, refl, sym, ap, _∙_}
+use mathlib.Core.Path.{_≡_}
 use Prim.Native.Nat.{_≤_, _<_, _+_, _*_, _-_}
 use lib.ListN.{length, take}
 use Rattle.lists.specs.Basics.{run}
@@ -8,11 +8,6 @@ use Rattle.pagestore.proofs.CodeLaws.{leaf-is}
 use borrow.Author.Needs.{needs}
 use Rattle.pagestore.proofs.pages.read_leaf.Statement.{statement}
 use Rattle.pagestore.proofs.pages.read_leaf.Tie as tie
-use Rattle.pagestore.proofs.pages.read_leaf.Reads as reads
-use Rattle.pagestore.proofs.pages.read_leaf.Lts as lts
-use Rattle.pagestore.proofs.items.get_record.Reads as get-record-reads
-use Rattle.pagestore.proofs.numbers.get_u8.Reads as get-u8-reads
-use Rattle.pagestore.proofs.pages.no_record.Reads as no-record-reads
 
 abbrev Inv-loop : tie.InvT-loop
 Inv-loop page count records₀ i₀ records i = (i ≤ 16) × (length records ≡ 16) × (take i records ≡ run i (λ k. recordAt page (4 + 44 * k)))
@@ -20,56 +15,43 @@ Inv-loop page count records₀ i₀ records i = (i ≤ 16) × (length records �
 abbrev μ-loop : tie.MeasureT-loop
 μ-loop page count records₀ i₀ records i = 16 - i
 
--- src/pages.rt:54:17
 get-u8-requires : tie.Need-get-u8-requires Inv-loop μ-loop
 get-u8-requires c κs = search needs
 
--- src/pages.rt:54:17
 cast-count : tie.Need-cast-count Inv-loop μ-loop
 cast-count c = search needs
 
--- src/pages.rt:55:24
 no-record-requires : tie.Need-no-record-requires Inv-loop μ-loop
 no-record-requires c κs = search needs
 
--- src/pages.rt:57:5
 loop-holds : tie.Need-loop-holds Inv-loop μ-loop
 unfolding run
 loop-holds c = search needs
 
--- src/pages.rt:58:43
 mul-get-record : tie.Need-mul-get-record Inv-loop μ-loop
 mul-get-record c = search needs
 
--- src/pages.rt:58:39
 add-get-record : tie.Need-add-get-record Inv-loop μ-loop
 add-get-record c = search needs
 
--- src/pages.rt:58:22
 get-record-requires : tie.Need-get-record-requires Inv-loop μ-loop
 get-record-requires c κs = search needs
 
--- src/pages.rt:58:9
 mul-records : tie.Need-mul-records Inv-loop μ-loop
 mul-records c = search needs
 
--- src/pages.rt:58:9
 array-set-from-records : tie.Need-array-set-from-records Inv-loop μ-loop
 array-set-from-records c = search needs
 
--- src/pages.rt:59:9
 add-i : tie.Need-add-i Inv-loop μ-loop
 add-i c = search needs
 
--- src/pages.rt:57:5
 loop-less : tie.Need-loop-less Inv-loop μ-loop
 loop-less c = search needs
 
--- src/pages.rt:57:5
 loop-again : tie.Need-loop-again Inv-loop μ-loop
 loop-again c = let L = c .before .before .loop in let h : L .i < length (L .records) = search needs in (search needs, search needs, run-more _ (L .records) (L .i) _ h (L .inv .2) (c .get-record .ensures))
 
--- src/pages.rt:50:1
 returns : tie.Need-returns Inv-loop μ-loop
 returns c = let L = c .before .loop in leaf-is _ _ _ (c .before .before .before .get-u8 .ensures) (run-done _ 16 (L .records) (L .i) (L .inv .0) (c .loop-test .left) (L .inv .1) (L .inv .2))
 

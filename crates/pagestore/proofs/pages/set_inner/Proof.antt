@@ -1,56 +1,41 @@
-use mathlib.Core.Path.{_≡_, refl, sym, ap, _∙_}
+use mathlib.Core.Path.{sym, _∙_}
 use native.Mathlib.Omega.{arith}
 use Rattle.pagestore.specs.Store.StretchLaws.{set-inner-opens}
 use Rattle.pagestore.proofs.CodeLaws.{held, part-whole, part-set, part-none}
 use borrow.Author.Needs.{needs}
 use Rattle.pagestore.proofs.pages.set_inner.Statement.{statement}
 use Rattle.pagestore.proofs.pages.set_inner.Tie as tie
-use Rattle.pagestore.proofs.pages.set_inner.Reads as reads
-use Rattle.pagestore.proofs.pages.set_inner.Lts as lts
-use Rattle.pagestore.proofs.pages.in_range.Reads as in-range-reads
-use Rattle.pagestore.proofs.pages.write_inner.Reads as write-inner-reads
 
--- src/pages.rt:241:8
 in-range-requires : tie.Need-in-range-requires
 in-range-requires c κs = search needs
 
--- src/pages.rt:242:18
 mul-at : tie.Need-mul-at
 mul-at c = search needs
 
--- src/pages.rt:243:19
 add-end : tie.Need-add-end
 add-end c = search needs
 
--- src/pages.rt:244:21
 sub-write-inner : tie.Need-sub-write-inner
 sub-write-inner c = search needs
 
--- src/pages.rt:244:21
 part-write-inner-start : tie.Need-part-write-inner-start
 part-write-inner-start c = search needs
 
--- src/pages.rt:244:21
 part-write-inner-end : tie.Need-part-write-inner-end
 part-write-inner-end c = omega (arith, part-whole _ _ (held _ _ _ (c .before .in-range .ensures) (c .if1 .taken)))
 
--- src/pages.rt:244:9
 write-inner-requires : tie.Need-write-inner-requires
 write-inner-requires c κs = search needs
 
--- src/pages.rt:238:1
 same-length : tie.Need-same-length
 same-length c = search needs
 
--- src/pages.rt:238:1
 returns : tie.Need-returns
 returns c = part-set _ (c .before .before .before .before .before .before .before .before .args .page) _ _ (held _ _ _ (c .before .before .before .before .before .in-range .ensures) (c .before .before .before .before .if1 .taken)) (c .before .before .write-inner .ensures) ∙ sym (set-inner-opens _ _ _ _)
 
--- src/pages.rt:238:1
 same-length-2 : tie.Need-same-length-2
 same-length-2 c = search needs
 
--- src/pages.rt:238:1
 returns-2 : tie.Need-returns-2
 returns-2 c = part-none _ _ _ (held _ _ _ (c .before .in-range .ensures) (c .if1 .left)) ∙ sym (set-inner-opens _ _ _ _)
 

@@ -1,56 +1,41 @@
-use mathlib.Core.Path.{_≡_, refl, sym, ap, _∙_}
+use mathlib.Core.Path.{sym, _∙_}
 use native.Mathlib.Omega.{arith}
 use Rattle.pagestore.specs.Store.StretchLaws.{set-leaf-opens}
 use Rattle.pagestore.proofs.CodeLaws.{held, part-whole, part-set, part-none}
 use borrow.Author.Needs.{needs}
 use Rattle.pagestore.proofs.pages.set_leaf.Statement.{statement}
 use Rattle.pagestore.proofs.pages.set_leaf.Tie as tie
-use Rattle.pagestore.proofs.pages.set_leaf.Reads as reads
-use Rattle.pagestore.proofs.pages.set_leaf.Lts as lts
-use Rattle.pagestore.proofs.pages.in_range.Reads as in-range-reads
-use Rattle.pagestore.proofs.pages.write_leaf.Reads as write-leaf-reads
 
--- src/pages.rt:230:8
 in-range-requires : tie.Need-in-range-requires
 in-range-requires c κs = search needs
 
--- src/pages.rt:231:18
 mul-at : tie.Need-mul-at
 mul-at c = search needs
 
--- src/pages.rt:232:19
 add-end : tie.Need-add-end
 add-end c = search needs
 
--- src/pages.rt:233:20
 sub-write-leaf : tie.Need-sub-write-leaf
 sub-write-leaf c = search needs
 
--- src/pages.rt:233:20
 part-write-leaf-start : tie.Need-part-write-leaf-start
 part-write-leaf-start c = search needs
 
--- src/pages.rt:233:20
 part-write-leaf-end : tie.Need-part-write-leaf-end
 part-write-leaf-end c = omega (arith, part-whole _ _ (held _ _ _ (c .before .in-range .ensures) (c .if1 .taken)))
 
--- src/pages.rt:233:9
 write-leaf-requires : tie.Need-write-leaf-requires
 write-leaf-requires c κs = search needs
 
--- src/pages.rt:227:1
 same-length : tie.Need-same-length
 same-length c = search needs
 
--- src/pages.rt:227:1
 returns : tie.Need-returns
 returns c = part-set _ (c .before .before .before .before .before .before .before .before .args .page) _ _ (held _ _ _ (c .before .before .before .before .before .in-range .ensures) (c .before .before .before .before .if1 .taken)) (c .before .before .write-leaf .ensures) ∙ sym (set-leaf-opens _ _ _)
 
--- src/pages.rt:227:1
 same-length-2 : tie.Need-same-length-2
 same-length-2 c = search needs
 
--- src/pages.rt:227:1
 returns-2 : tie.Need-returns-2
 returns-2 c = part-none _ _ _ (held _ _ _ (c .before .in-range .ensures) (c .if1 .left)) ∙ sym (set-leaf-opens _ _ _)
 
