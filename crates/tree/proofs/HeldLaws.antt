@@ -54,3 +54,13 @@ module _ {A : Type 0} where
   part-held slots xs n m from to e f g h k =
       let t : slice from to (take m xs) ≡ slice from to xs = ap (λ (l : List A). drop from l) (take-take to m xs g) in
       rw t (record { count = omega (arith, length-slice from to xs (omega arith)); items = k })
+
+  -- items held behind others that are known
+  pub held-then : {n m : ℕ} {s t xs : List A} (ys : List A) → Held n s xs → Held m t (take n s ++ ys) → Held m t (xs ++ ys)
+  held-then ys h k = rw (h .items) at k
+
+  pub held-is : {n : ℕ} {s xs ys : List A} → Held n s xs → xs ≡ ys → Held n s ys
+  held-is h e = rw e at h
+
+  pub held-most : {n : ℕ} {s xs : List A} → Held n s xs → n ≤ length s
+  held-most {n} {s} h = omega (arith, h .count, ap length (h .items), length-take n s)

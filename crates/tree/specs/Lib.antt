@@ -3,3 +3,4 @@ pub mod Insertion
 pub mod Deletion
 pub mod Lookup
 pub mod Held
+pub mod CodeTerms

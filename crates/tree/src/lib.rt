@@ -3,6 +3,7 @@ use pagestore::Entry;
 use pagestore::Record;
 
 mod entries;
+mod insertion;
 mod items;
 mod keys;
 
@@ -15,4 +16,10 @@ pub struct RecordList {
 pub struct EntryList {
     pub count: usize,
     pub items: [Entry; 17],
+}
+
+// What a page has become by an insertion: one page, or that and a new one on its right.
+pub enum Grown {
+    One(Entry),
+    Two(Entry, Entry),
 }
