@@ -1,5 +1,6 @@
 -- The steps of an insertion. Assumes nothing.
 use mathlib.Core.Path.{_≡_, refl, sym, ap, _∙_}
+use mathlib.Core.Logic.{_≢_}
 use mathlib.Core.Bool.{Bool, true, false}
 use mathlib.Core.List.{List, [], _∷_, _++_, append-assoc}
 use Prim.Native.Nat.{ℕ, zero, suc, _+_, _-_, _≤_, _<_, min}
@@ -11,9 +12,9 @@ use borrow.Author.Tests.{le-leb, lt-leb}
 use Rattle.lists.specs.Leading.{leading, ins-leading}
 use Rattle.pagestore.specs.declared.Record.{Record}
 use Rattle.pagestore.specs.declared.Entry.{Entry}
-use Rattle.pagestore.specs.Store.{innerAt, entriesIn, pageTaken, takePage}
+use Rattle.pagestore.specs.Store.{leafAt, innerAt, recordsIn, entriesIn, setLeaf, setInner, pageTaken, takePage}
 use Rattle.trees.specs.Trees.{rankOf}
-use Rattle.tree.specs.Entries.{choose, childAt, replaced, innerEntry}
+use Rattle.tree.specs.Entries.{choose, childAt, replaced, leafEntry, innerEntry}
 use Rattle.tree.specs.Held.{Held}
 use Rattle.tree.specs.Insertion.{insertRecord, put, writeInner, insertAt}
 use Rattle.tree.specs.CodeTerms.{rankBelow, grownList, Done}
@@ -58,3 +59,30 @@ module _ {A : Type 0} (write : List ℕ → ℕ → List A → List ℕ) (entry 
   put-two {n} {b1} {b2} {x} {lo} {hi} {e} {f} l n= b1= lo= hi= b2= x= e= f= =
       let w : hi ≡ drop 9 xs = hi= ∙ ap (λ (z : List A). drop 9 z) (take-all 17 xs (omega arith)) in
       rw (lt-leb (length xs) 16 (omega arith)) (record { bytes = cc; entries = cc })
+
+-- an inner page, of which a field may say its level
+pub level-is : (b : List ℕ) (p v l : ℕ) (es : List Entry) {x : List ℕ} → v ≡ l → x ≡ setInner b p v es → x ≡ writeInner l b p es
+level-is b p v l es e f = rw e at f
+
+-- ---- one step of the recursion
+
+pub leaf-step : (d : ℕ) (b : List ℕ) (p : ℕ) (x : Record) {rs : List Record} {y : List ℕ} {g : Grown} → rs ≡ insertRecord d x (recordsIn (leafAt b p))
+    → Done (put setLeaf (leafEntry d) b p rs) y g → Done (insertAt d 0 b p x) y g
+unfolding insertAt
+leaf-step d b p x e h = rw e at h
+
+pub level-zero : (d level : ℕ) (b : List ℕ) (p : ℕ) (x : Record) {y : List ℕ} {g : Grown} → level ≡ 0 → Done (insertAt d 0 b p x) y g → Done (insertAt d level b p x) y g
+level-zero d level b p x e h = rw e h
+
+pub inner-step : (d level : ℕ) (b : List ℕ) (p : ℕ) (x : Record) {k i child : ℕ} {es : List Entry} {b1 y : List ℕ} {g r : Grown}
+    → level ≢ 0 → k ≡ rankOf d x → es ≡ entriesIn (innerAt b p) → i ≡ choose k es → child ≡ childAt es i
+    → Done (insertAt d (level - 1) b child x) b1 g → Done (put (writeInner level) innerEntry b1 p (replaced i (grownList g) es)) y r → Done (insertAt d level b p x) y r
+unfolding insertAt
+inner-step d zero b p x z e₀ e₁ e₂ e₃ h h' = absurd (z refl)
+inner-step d (suc l) b p x {k} {i} {child} {es} {b1} {y} {g} {r} z e₀ e₁ e₂ e₃ h h' =
+    let f : Done (insertAt d l b child x) b1 g = rw sub-one at h in
+    rw (f .bytes, f .entries, e₃, e₂, e₀, e₁) at h'
+
+pub length-grown : (g : Grown) → length (grownList g) ≤ 2
+length-grown (One e) = omega arith
+length-grown (Two e f) = omega arith
