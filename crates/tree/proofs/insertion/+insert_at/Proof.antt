@@ -1,4 +1,11 @@
+use mathlib.Core.Path.{_≡_, _∙_, ap}
 use Prim.Native.Nat.{ℕ, _<_}
+use native.Mathlib.Nat.{pos-of-ne-zero}
+use native.Mathlib.Omega.{arith}
+use denote.Ref.{now}
+use Rattle.pagestore.specs.Store.{entriesIn}
+use Rattle.tree.proofs.InsertionLaws.{level-zero, inner-step}
+use borrow.Author.Needs.{needs}
 use borrow.Fn.Kinds.{In}
 use borrow.Fn.PlainCycle.{Measures, is, falls, and}
 use Rattle.tree.proofs.insertion.insert_at.Reads as insert-at
@@ -13,7 +20,7 @@ use Rattle.tree.proofs.insertion.+insert_at.{statement}
 use Rattle.tree.proofs.insertion.+insert_at.Tie.{close}
 
 abbrev μ-insert-at : Measures 1 insert-at-kinds.ps ℕ
-μ-insert-at κs a = ?
+μ-insert-at κs a = a .1 .1 .0
 
 abbrev insert-at-at : ℕ → In 1 insert-at-kinds.ps
 insert-at-at t = and 1 insert-at-kinds.ps (is 1 insert-at-kinds.ps μ-insert-at t) insert-at.Pre
@@ -22,208 +29,60 @@ abbrev insert-at-below : ℕ → In 1 insert-at-kinds.ps
 insert-at-below t =
     and 1 insert-at-kinds.ps (falls 1 insert-at-kinds.ps _<_ μ-insert-at t) insert-at.Pre
 
--- src/insertion.rt:159:9
-insert-at-insert-leaf-requires : (t : ℕ) → insert-at-lts.Need-insert-leaf-requires (
-  insert-leaf-reads.Asked,
-  insert-leaf-reads.Learnt,
-  inner-at-reads.Asked,
-  inner-at-reads.Learnt,
-  choose-child-reads.Asked,
-  choose-child-reads.Learnt,
-  child-at-reads.Asked,
-  child-at-reads.Learnt,
-  insert-at-below t,
-  insert-at.Post,
-  put-inner-reads.Asked,
-  put-inner-reads.Learnt,
-) (insert-at-at t) insert-at.Post
-insert-at-insert-leaf-requires t c κs = ?
+abbrev calls : ℕ → insert-at-lts.Claims
+calls t = (
+    insert-leaf-reads.Asked,
+    insert-leaf-reads.Learnt,
+    inner-at-reads.Asked,
+    inner-at-reads.Learnt,
+    choose-child-reads.Asked,
+    choose-child-reads.Learnt,
+    child-at-reads.Asked,
+    child-at-reads.Learnt,
+    insert-at-below t,
+    insert-at.Post,
+    put-inner-reads.Asked,
+    put-inner-reads.Learnt,
+  )
 
--- src/insertion.rt:159:9
-insert-at-same-length : (t : ℕ) → insert-at-lts.Need-same-length (
-  insert-leaf-reads.Asked,
-  insert-leaf-reads.Learnt,
-  inner-at-reads.Asked,
-  inner-at-reads.Learnt,
-  choose-child-reads.Asked,
-  choose-child-reads.Learnt,
-  child-at-reads.Asked,
-  child-at-reads.Learnt,
-  insert-at-below t,
-  insert-at.Post,
-  put-inner-reads.Asked,
-  put-inner-reads.Learnt,
-) (insert-at-at t) insert-at.Post
-insert-at-same-length t c = ?
+insert-at-insert-leaf-requires : (t : ℕ) → insert-at-lts.Need-insert-leaf-requires (calls t) (insert-at-at t) insert-at.Post
+insert-at-insert-leaf-requires t c κs = c .before .before .before .pre .1
 
--- src/insertion.rt:159:9
-insert-at-returns : (t : ℕ) → insert-at-lts.Need-returns (
-  insert-leaf-reads.Asked,
-  insert-leaf-reads.Learnt,
-  inner-at-reads.Asked,
-  inner-at-reads.Learnt,
-  choose-child-reads.Asked,
-  choose-child-reads.Learnt,
-  child-at-reads.Asked,
-  child-at-reads.Learnt,
-  insert-at-below t,
-  insert-at.Post,
-  put-inner-reads.Asked,
-  put-inner-reads.Learnt,
-) (insert-at-at t) insert-at.Post
-insert-at-returns t c = ?
+insert-at-same-length : (t : ℕ) → insert-at-lts.Need-same-length (calls t) (insert-at-at t) insert-at.Post
+insert-at-same-length t c = c .before .before .insert-leaf .kept .0
 
--- src/insertion.rt:161:9
-insert-at-inner-at-requires : (t : ℕ) → insert-at-lts.Need-inner-at-requires (
-  insert-leaf-reads.Asked,
-  insert-leaf-reads.Learnt,
-  inner-at-reads.Asked,
-  inner-at-reads.Learnt,
-  choose-child-reads.Asked,
-  choose-child-reads.Learnt,
-  child-at-reads.Asked,
-  child-at-reads.Learnt,
-  insert-at-below t,
-  insert-at.Post,
-  put-inner-reads.Asked,
-  put-inner-reads.Learnt,
-) (insert-at-at t) insert-at.Post
-insert-at-inner-at-requires t c κs = ?
+insert-at-returns : (t : ℕ) → insert-at-lts.Need-returns (calls t) (insert-at-at t) insert-at.Post
+insert-at-returns t c =     let a = c .before .before .before .before .before .before .args in
+    level-zero (a .d) (a .level) (now (a .index)) (a .page) (a .x) (c .before .before .before .before .if1 .taken) (c .before .before .insert-leaf .ensures)
 
--- src/insertion.rt:162:9
-insert-at-choose-child-requires : (t : ℕ) → insert-at-lts.Need-choose-child-requires (
-  insert-leaf-reads.Asked,
-  insert-leaf-reads.Learnt,
-  inner-at-reads.Asked,
-  inner-at-reads.Learnt,
-  choose-child-reads.Asked,
-  choose-child-reads.Learnt,
-  child-at-reads.Asked,
-  child-at-reads.Learnt,
-  insert-at-below t,
-  insert-at.Post,
-  put-inner-reads.Asked,
-  put-inner-reads.Learnt,
-) (insert-at-at t) insert-at.Post
-insert-at-choose-child-requires t c κs = ?
+insert-at-inner-at-requires : (t : ℕ) → insert-at-lts.Need-inner-at-requires (calls t) (insert-at-at t) insert-at.Post
+insert-at-inner-at-requires t c κs = search needs
 
--- src/insertion.rt:163:9
-insert-at-child-at-requires : (t : ℕ) → insert-at-lts.Need-child-at-requires (
-  insert-leaf-reads.Asked,
-  insert-leaf-reads.Learnt,
-  inner-at-reads.Asked,
-  inner-at-reads.Learnt,
-  choose-child-reads.Asked,
-  choose-child-reads.Learnt,
-  child-at-reads.Asked,
-  child-at-reads.Learnt,
-  insert-at-below t,
-  insert-at.Post,
-  put-inner-reads.Asked,
-  put-inner-reads.Learnt,
-) (insert-at-at t) insert-at.Post
-insert-at-child-at-requires t c κs = ?
+insert-at-choose-child-requires : (t : ℕ) → insert-at-lts.Need-choose-child-requires (calls t) (insert-at-at t) insert-at.Post
+insert-at-choose-child-requires t c κs = search needs
 
--- src/insertion.rt:164:41
-insert-at-sub-insert-at : (t : ℕ) → insert-at-lts.Need-sub-insert-at (
-  insert-leaf-reads.Asked,
-  insert-leaf-reads.Learnt,
-  inner-at-reads.Asked,
-  inner-at-reads.Learnt,
-  choose-child-reads.Asked,
-  choose-child-reads.Learnt,
-  child-at-reads.Asked,
-  child-at-reads.Learnt,
-  insert-at-below t,
-  insert-at.Post,
-  put-inner-reads.Asked,
-  put-inner-reads.Learnt,
-) (insert-at-at t) insert-at.Post
-insert-at-sub-insert-at t c = ?
+insert-at-child-at-requires : (t : ℕ) → insert-at-lts.Need-child-at-requires (calls t) (insert-at-at t) insert-at.Post
+insert-at-child-at-requires t c κs = search needs
 
--- src/insertion.rt:164:9
-insert-at-insert-at-requires : (t : ℕ) → insert-at-lts.Need-insert-at-requires (
-  insert-leaf-reads.Asked,
-  insert-leaf-reads.Learnt,
-  inner-at-reads.Asked,
-  inner-at-reads.Learnt,
-  choose-child-reads.Asked,
-  choose-child-reads.Learnt,
-  child-at-reads.Asked,
-  child-at-reads.Learnt,
-  insert-at-below t,
-  insert-at.Post,
-  put-inner-reads.Asked,
-  put-inner-reads.Learnt,
-) (insert-at-at t) insert-at.Post
-insert-at-insert-at-requires t c κs = ?
+insert-at-sub-insert-at : (t : ℕ) → insert-at-lts.Need-sub-insert-at (calls t) (insert-at-at t) insert-at.Post
+insert-at-sub-insert-at t c = omega (arith, pos-of-ne-zero (c .before .before .before .before .before .if1 .left))
 
--- src/insertion.rt:165:5
-insert-at-put-inner-requires : (t : ℕ) → insert-at-lts.Need-put-inner-requires (
-  insert-leaf-reads.Asked,
-  insert-leaf-reads.Learnt,
-  inner-at-reads.Asked,
-  inner-at-reads.Learnt,
-  choose-child-reads.Asked,
-  choose-child-reads.Learnt,
-  child-at-reads.Asked,
-  child-at-reads.Learnt,
-  insert-at-below t,
-  insert-at.Post,
-  put-inner-reads.Asked,
-  put-inner-reads.Learnt,
-) (insert-at-at t) insert-at.Post
-insert-at-put-inner-requires t c κs = ?
+insert-at-insert-at-requires : (t : ℕ) → insert-at-lts.Need-insert-at-requires (calls t) (insert-at-at t) insert-at.Post
+insert-at-insert-at-requires t c κs = (omega (arith, pos-of-ne-zero (c .before .before .before .before .before .if1 .left), c .before .before .before .before .before .before .before .pre .0), c .before .before .before .before .before .before .before .pre .1)
 
--- src/insertion.rt:154:1
-insert-at-same-length-2 : (t : ℕ) → insert-at-lts.Need-same-length-2 (
-  insert-leaf-reads.Asked,
-  insert-leaf-reads.Learnt,
-  inner-at-reads.Asked,
-  inner-at-reads.Learnt,
-  choose-child-reads.Asked,
-  choose-child-reads.Learnt,
-  child-at-reads.Asked,
-  child-at-reads.Learnt,
-  insert-at-below t,
-  insert-at.Post,
-  put-inner-reads.Asked,
-  put-inner-reads.Learnt,
-) (insert-at-at t) insert-at.Post
-insert-at-same-length-2 t c = ?
+insert-at-put-inner-requires : (t : ℕ) → insert-at-lts.Need-put-inner-requires (calls t) (insert-at-at t) insert-at.Post
+insert-at-put-inner-requires t c κs = let C = c .before .before .before .before .before .before .choose-child .ensures in (C .1, C .2)
 
--- src/insertion.rt:154:1
-insert-at-returns-2 : (t : ℕ) → insert-at-lts.Need-returns-2 (
-  insert-leaf-reads.Asked,
-  insert-leaf-reads.Learnt,
-  inner-at-reads.Asked,
-  inner-at-reads.Learnt,
-  choose-child-reads.Asked,
-  choose-child-reads.Learnt,
-  child-at-reads.Asked,
-  child-at-reads.Learnt,
-  insert-at-below t,
-  insert-at.Post,
-  put-inner-reads.Asked,
-  put-inner-reads.Learnt,
-) (insert-at-at t) insert-at.Post
-insert-at-returns-2 t c = ?
+insert-at-same-length-2 : (t : ℕ) → insert-at-lts.Need-same-length-2 (calls t) (insert-at-at t) insert-at.Post
+insert-at-same-length-2 t c = c .before .before .put-inner .kept .0 ∙ c .before .before .before .before .before .before .insert-at .kept .0
+
+insert-at-returns-2 : (t : ℕ) → insert-at-lts.Need-returns-2 (calls t) (insert-at-at t) insert-at.Post
+insert-at-returns-2 t c =     let a = c .before .before .before .before .before .before .before .before .before .before .before .before .before .before .args in
+    inner-step (a .d) (a .level) (now (a .index)) (a .page) (a .x) (c .before .before .before .before .before .before .before .before .before .before .before .before .if1 .left) (c .before .before .before .before .before .before .before .before .before .before .before .before .before .before .pre .1) (ap entriesIn (c .before .before .before .before .before .before .before .before .before .before .inner-at .ensures))
+    (c .before .before .before .before .before .before .before .before .before .choose-child .ensures .0) (c .before .before .before .before .before .before .before .before .child-at .ensures) (c .before .before .before .before .before .before .insert-at .ensures) (c .before .before .put-inner .ensures)
 
 pub +insert-at-spec : {M : Type 1} → statement M
-+insert-at-spec = close μ-insert-at λ t. insert-at-lts.spec (
-  insert-leaf-reads.Asked,
-  insert-leaf-reads.Learnt,
-  inner-at-reads.Asked,
-  inner-at-reads.Learnt,
-  choose-child-reads.Asked,
-  choose-child-reads.Learnt,
-  child-at-reads.Asked,
-  child-at-reads.Learnt,
-  insert-at-below t,
-  insert-at.Post,
-  put-inner-reads.Asked,
-  put-inner-reads.Learnt,
-)
++insert-at-spec = close μ-insert-at λ t. insert-at-lts.spec (calls t)
     (insert-at-at t)
     insert-at.Post
     (insert-at-insert-leaf-requires t)
