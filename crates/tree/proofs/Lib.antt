@@ -1,3 +1,4 @@
 pub mod HeldLaws
 pub mod EntryLaws
 pub mod InsertionLaws
+pub mod RootLaws

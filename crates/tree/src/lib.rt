@@ -6,6 +6,7 @@ mod entries;
 mod insertion;
 mod items;
 mod keys;
+mod roots;
 
 // Items gathered one after the other: up to 17, one more than a page holds.
 pub struct RecordList {
