@@ -8,7 +8,6 @@ use native.Mathlib.Numerals.{sub-one, add-one}
 use lib.Dec.{leb, eqb}
 use borrow.Author.Tests.{le-leb, lt-leb, eq-eqb, ne-eqb}
 use Rattle.lists.specs.Basics.{pick, tick}
-use Rattle.lists.specs.Counts.{by-cases}
 use Rattle.pagestore.specs.declared.Record.{Record}
 use Rattle.pagestore.specs.declared.Entry.{Entry}
 use Rattle.pagestore.specs.Store.{Field, features, root, level, total, innerAt, countAt, entriesIn, setInner, fieldAt, setField, pageTaken, takePage}
@@ -74,6 +73,3 @@ one-more n l e = rw (eq-eqb n (l + 1) e)
 
 pub no-more : (n l : ℕ) → n ≢ l + 1 → n ≡ n + tick (eqb n (l + 1))
 no-more n l e = rw (ne-eqb n (l + 1) e) (omega arith)
-
-pub tick-most : (a n : ℕ) {m : ℕ} → m ≡ tick (leb a n) → m ≤ 1
-tick-most a n e = by-cases (leb a n) (λ t. omega (arith, e ∙ ap tick t)) (λ t. omega (arith, e ∙ ap tick t))

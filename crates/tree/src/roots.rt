@@ -94,7 +94,7 @@ pub fn insert(index: &mut [u8], x: Record)
 
 // 1 if a page is full, else 0.
 fn full_page(index: &[u8], page: u32) -> u32
-    ensures { λ r. ⌜ r ≡ tick (leb 16 (countAt (now (index .entry)) page)) ⌝ }
+    ensures { λ r. ⌜ (r ≡ tick (leb 16 (countAt (now (index .entry)) page))) × (r ≤ 1) ⌝ }
 {
     if 16 <= count_at(index, page) { 1 } else { 0 }
 }

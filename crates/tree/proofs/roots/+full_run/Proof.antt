@@ -4,7 +4,7 @@ use native.Mathlib.Nat.{pos-of-ne-zero}
 use native.Mathlib.Omega.{arith}
 use denote.Ref.{now}
 use Rattle.pagestore.specs.Store.{entriesIn}
-use Rattle.tree.proofs.RootLaws.{tick-most, run-leaf, run-inner}
+use Rattle.tree.proofs.RootLaws.{run-leaf, run-inner}
 use borrow.Author.Needs.{needs}
 use borrow.Fn.Kinds.{In}
 use borrow.Fn.PlainCycle.{Measures, is, falls, and}
@@ -51,7 +51,7 @@ full-run-full-page-requires t c κs = search needs
 full-run-returns : (t : ℕ) → full-run-lts.Need-returns (calls t) (full-run-at t) full-run.Post
 full-run-returns t c =     let a = c .before .before .before .args in
     let F = c .before .full-page .ensures in
-    (run-leaf (a .level) (now (a .index)) (a .page) (a .rank) (c .if1 .taken) F, omega (arith, tick-most 16 _ F))
+    (run-leaf (a .level) (now (a .index)) (a .page) (a .rank) (c .if1 .taken) (F .0), omega (arith, F .1))
 
 full-run-inner-at-requires : (t : ℕ) → full-run-lts.Need-inner-at-requires (calls t) (full-run-at t) full-run.Post
 full-run-inner-at-requires t c κs = search needs
@@ -70,12 +70,12 @@ full-run-full-run-requires t c κs = (omega (arith, pos-of-ne-zero (c .before .b
 
 full-run-run-on-requires : (t : ℕ) → full-run-lts.Need-run-on-requires (calls t) (full-run-at t) full-run.Post
 full-run-run-on-requires t c κs =     let F = c .before .before .before .before .before .full-page .ensures in
-    (omega (arith, pos-of-ne-zero (c .before .before .before .before .if1 .left), c .full-run .ensures .1), omega (arith, tick-most 16 _ F))
+    (omega (arith, pos-of-ne-zero (c .before .before .before .before .if1 .left), c .full-run .ensures .1), F .1)
 
 full-run-returns-2 : (t : ℕ) → full-run-lts.Need-returns-2 (calls t) (full-run-at t) full-run.Post
 full-run-returns-2 t c =     let a = c .before .before .before .before .before .before .before .before .args in
     let R = c .run-on .ensures in
-    (run-inner (a .level) (now (a .index)) (a .page) (a .rank) (c .before .before .before .before .before .if1 .left) (c .before .before .before .before .before .before .full-page .ensures) (ap entriesIn (c .before .before .before .before .inner-at .ensures))
+    (run-inner (a .level) (now (a .index)) (a .page) (a .rank) (c .before .before .before .before .before .if1 .left) (c .before .before .before .before .before .before .full-page .ensures .0) (ap entriesIn (c .before .before .before .before .inner-at .ensures))
     (c .before .before .before .choose-child .ensures .0) (c .before .before .child-at .ensures) (c .before .full-run .ensures .0) (R .0), R .1)
 
 pub +full-run-spec : {M : Type 1} → statement M

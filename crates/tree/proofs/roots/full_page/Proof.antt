@@ -17,10 +17,10 @@ count-at-requires : tie.Need-count-at-requires
 count-at-requires c κs = search needs
 
 returns : tie.Need-returns
-returns c = tick-one 16 _ (c .if1 .taken) ∙ ap (λ (n : ℕ). tick (leb 16 n)) (c .before .count-at .ensures)
+returns c = (tick-one 16 _ (c .if1 .taken) ∙ ap (λ (n : ℕ). tick (leb 16 n)) (c .before .count-at .ensures), omega arith)
 
 returns-2 : tie.Need-returns-2
-returns-2 c = tick-none 16 _ (c .if1 .left) ∙ ap (λ (n : ℕ). tick (leb 16 n)) (c .before .count-at .ensures)
+returns-2 c = (tick-none 16 _ (c .if1 .left) ∙ ap (λ (n : ℕ). tick (leb 16 n)) (c .before .count-at .ensures), omega arith)
 
 pub full-page-spec : {M : Type 1} → statement M
 full-page-spec = tie.close (tie.spec count-at-requires returns returns-2)
