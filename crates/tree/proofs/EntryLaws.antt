@@ -8,7 +8,7 @@ use native.Mathlib.Omega.{arith}
 use native.Mathlib.Numerals.{sub-one}
 use lib.Dec.{leb}
 use lib.ListN.{length, getD, take, drop, length-take, length-map, List·getD-map, List·getD-eq-default}
-use lib.Seq.{take-nil, take-all, getD-take, length-take-le}
+use lib.Seq.{slice, take-nil, take-take, take-all, getD-take, length-take-le}
 use borrow.Author.Tests.{leb-true, leb-false}
 use Rattle.lists.specs.Basics.{pick}
 use Rattle.lists.specs.Counts.{by-cases}
@@ -34,6 +34,14 @@ filled-is slots n c h e =
 
 pub length-filled : {A : Type 0} (slots : List A) (n c : ℕ) → length slots ≡ 16 → n ≡ min 16 c → length (take c slots) ≡ n
 length-filled slots n c h e = omega (arith, length-take c slots)
+
+-- of the items that it takes in, those from one place up to another
+pub taken-in : {A : Type 0} (slots : List A) (from to n c : ℕ) {m : ℕ} → length slots ≡ 16 → n ≡ min 16 c → m ≡ min to n → slice from m slots ≡ slice from to (take c slots)
+taken-in {A} slots from to n c {m} l e f =
+    by-cases (leb to n)
+    (λ t. let h = leb-true to n t in let g : m ≡ to = omega arith in rw g (ap (λ (x : List A). drop from x) (sym (take-take to c slots (omega arith)))))
+    (λ t. let h = leb-false to n t in let g : m ≡ n = omega arith in
+      rw g (ap (λ (x : List A). drop from x) (sym (take-all to (take c slots) (omega (arith, length-take c slots)) ∙ filled-is slots n c l e))))
 
 -- ---- the key of a record
 

@@ -64,3 +64,7 @@ module _ {A : Type 0} where
 
   pub held-most : {n : ℕ} {s xs : List A} → Held n s xs → n ≤ length s
   held-most {n} {s} h = omega (arith, h .count, ap length (h .items), length-take n s)
+
+  -- all that is held
+  pub held-whole : {n : ℕ} {s xs : List A} → Held n s xs → slice 0 n (take n s) ≡ xs
+  held-whole {n} {s} h = take-take n n s (omega arith) ∙ h .items

@@ -2,3 +2,4 @@ pub mod HeldLaws
 pub mod EntryLaws
 pub mod InsertionLaws
 pub mod RootLaws
+pub mod DeletionLaws

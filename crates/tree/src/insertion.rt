@@ -121,7 +121,7 @@ fn put_entries(index: &mut [u8], page: u32, level: u8, all: EntryList) -> Grown
     Grown::One(inner_entry(page, inner))
 }
 
-fn push_grown(all: EntryList, grown: Grown) -> EntryList
+pub fn push_grown(all: EntryList, grown: Grown) -> EntryList
     requires { ⌜ all .count ≤ 15 ⌝ }
     ensures { λ r. ⌜ Held (r .count) (r .items) (heldEntries all ++ grownList grown) ⌝ }
 {

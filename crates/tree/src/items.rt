@@ -3,9 +3,12 @@ ghost use mathlib.Core.Path.{_≡_};
 ghost use mathlib.Core.List.{[], _∷_, _++_};
 ghost use Prim.Native.Nat.{_+_, _<_, _≤_};
 ghost use lib.Seq.{slice};
+ghost use Rattle.pagestore.specs.Store.{recordsIn, entriesIn};
 ghost use Rattle.tree.specs.Held.{Held, heldRecords, heldEntries};
 use crate::EntryList;
 use crate::RecordList;
+use crate::keys::filled;
+use crate::keys::lesser;
 use pagestore::Entry;
 use pagestore::Inner;
 use pagestore::Leaf;
@@ -53,6 +56,16 @@ pub fn append_records(all: RecordList, leaf: Leaf, from: usize, to: usize) -> Re
         count: n,
         items: items,
     }
+}
+
+// The same, of the records that the leaf's count takes in.
+pub fn add_records(all: RecordList, leaf: Leaf, from: usize, to: usize) -> RecordList
+    requires { ⌜ (all .count ≤ 17) × (all .count + to ≤ 17 + from) ⌝ }
+    ensures { λ r. ⌜ Held (r .count) (r .items) (heldRecords all ++ slice from to (recordsIn leaf)) ⌝ }
+{
+    let n = filled(leaf.count);
+    let end = lesser(to, n);
+    append_records(all, leaf, from, end)
 }
 
 // A leaf of the records gathered, from one place up to another.
@@ -118,6 +131,16 @@ pub fn append_entries(all: EntryList, inner: Inner, from: usize, to: usize) -> E
         count: n,
         items: items,
     }
+}
+
+// The same, of the entries that the page's count takes in.
+pub fn add_entries(all: EntryList, inner: Inner, from: usize, to: usize) -> EntryList
+    requires { ⌜ (all .count ≤ 17) × (all .count + to ≤ 17 + from) ⌝ }
+    ensures { λ r. ⌜ Held (r .count) (r .items) (heldEntries all ++ slice from to (entriesIn inner)) ⌝ }
+{
+    let n = filled(inner.count);
+    let end = lesser(to, n);
+    append_entries(all, inner, from, end)
 }
 
 // An inner page of the entries gathered, from one place up to another.

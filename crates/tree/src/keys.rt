@@ -17,6 +17,12 @@ pub fn filled(count: usize) -> usize
     if count < 16 { count } else { 16 }
 }
 
+pub fn lesser(a: usize, b: usize) -> usize
+    ensures { λ r. ⌜ r ≡ min a b ⌝ }
+{
+    if a < b { a } else { b }
+}
+
 // The key of a record whose first d slots are its point.
 pub fn record_key(x: Record, d: u8) -> Key
     ensures { λ r. ⌜ r ≡ keyOf d x ⌝ }

@@ -2,7 +2,9 @@
 use pagestore::Entry;
 use pagestore::Record;
 
+mod deletion;
 mod entries;
+mod evening;
 mod insertion;
 mod items;
 mod keys;
@@ -23,4 +25,10 @@ pub struct EntryList {
 pub enum Grown {
     One(Entry),
     Two(Entry, Entry),
+}
+
+// What a deletion has left of a page: its entry, and how many items it has.
+pub struct Left {
+    pub entry: Entry,
+    pub count: usize,
 }
