@@ -1,13 +1,13 @@
 -- How often a number stands in a list; distinct numbers below n are at most n.
-use mathlib.Core.Path.{_≡_, refl, ap, _∙_}
-use mathlib.Core.Bool.{Bool, true, false}
+use mathlib.Core.Path.{_≡_, refl, sym, ap, _∙_}
+use mathlib.Core.Bool.{Bool, true, false, _&&_}
 use mathlib.Core.Logic.{_≢_}
 use mathlib.Core.List.{List, [], _∷_, _++_}
 use Prim.Native.Nat.{ℕ, zero, suc, _+_, _≤_, _<_}
 use native.Mathlib.Omega.{arith}
-use lib.Dec.{eqb}
+use lib.Dec.{ltb, eqb}
 use lib.ListN.{length}
-use borrow.Author.Tests.{eqb-true, eqb-false, eq-eqb, ne-eqb}
+use borrow.Author.Tests.{ltb-true, lt-ltb, eqb-true, eqb-false, eq-eqb, ne-eqb}
 use Rattle.lists.specs.Basics.{tick, All, none, also, upFrom}
 
 -- how often q stands in the list
@@ -116,3 +116,31 @@ sum-length n (also {x = x} {xs = xs} h t) =
 
 pub pigeons : (n : ℕ) {xs : List ℕ} → All (λ x. x < n) xs → ((q : ℕ) → mult q xs ≤ 1) → length xs ≤ n
 pigeons n {xs} a h = omega (arith, sum-length n a, sum-le (λ q. mult q xs) n h)
+
+sum-ext : (f g : ℕ → ℕ) (n : ℕ) → ((q : ℕ) → q < n → f q ≡ g q) → sum f n ≡ sum g n
+unfolding sum
+sum-ext f g zero h = refl
+sum-ext f g (suc n) h = omega (arith, h n (omega arith), sum-ext f g n (λ q l. h q (omega arith)))
+
+sum-above : (n : ℕ) → sum (λ q. tick (ltb 0 q)) (suc n) ≡ n
+unfolding sum
+sum-above zero = refl
+sum-above (suc n) = omega (arith, ap tick (lt-ltb 0 (suc n) (omega arith)), sum-above n)
+
+and-true : (t : Bool) → t && true ≡ t
+and-true true = refl
+and-true false = refl
+
+and-false : (t : Bool) → t && false ≡ false
+and-false true = refl
+and-false false = refl
+
+-- a list with each number from 1 up to n once, and no other
+pub length-once : (n : ℕ) (xs : List ℕ) → ((q : ℕ) → mult q xs ≡ tick (ltb 0 q && ltb q (suc n))) → length xs ≡ n
+length-once n xs h =
+    let few : All (λ x. x < suc n) xs =
+    all-of-mult xs (λ q g. by-cases (ltb q (suc n)) (λ e. ltb-true q (suc n) e)
+    (λ e. absurd (let z : mult q xs ≡ 0 = h q ∙ ap tick (ap (λ (t : Bool). ltb 0 q && t) e ∙ and-false (ltb 0 q)) in omega arith))) in
+    sym (sum-length (suc n) few)
+    ∙ sum-ext (λ q. mult q xs) (λ q. tick (ltb 0 q)) (suc n) (λ q l. h q ∙ ap tick (ap (λ (t : Bool). ltb 0 q && t) (lt-ltb q (suc n) l) ∙ and-true (ltb 0 q)))
+    ∙ sum-above n

@@ -11,3 +11,6 @@ pub mod Counts
 pub mod Runs
 pub mod Ascending
 pub mod Leading
+pub mod Choices
+pub mod Parts
+pub mod Rising

@@ -1,5 +1,4 @@
 -- Deletion (01, "The tree") on the bytes of an index. Nothing is assumed of them.
-use mathlib.Core.Bool.{Bool, true, false}
 use mathlib.Core.List.{List, [], _∷_, _++_}
 use Prim.Native.Nat.{ℕ, zero, suc, _+_, _-_}
 use lib.Dec.{leb, ltb, eqb}
@@ -7,7 +6,7 @@ use lib.ListN.{length, take, drop, set}
 use Rattle.lists.specs.Basics.{pick}
 use Rattle.pagestore.specs.declared.Record.{Record}
 use Rattle.pagestore.specs.declared.Entry.{Entry}
-use Rattle.pagestore.specs.Store.{Field, features, root, level, total, leafAt, innerAt, recordsIn, entriesIn, setLeaf, setInner, fieldAt, setField, freePage}
+use Rattle.pagestore.specs.Store.{features, root, level, total, leafAt, innerAt, recordsIn, entriesIn, setLeaf, setInner, fieldAt, setField, freePage}
 use Rattle.trees.specs.Trees.{rankOf}
 use Rattle.tree.specs.Entries.{choose, childAt, leafEntry, innerEntry}
 use Rattle.tree.specs.Insertion.{writeInner}

@@ -1,6 +1,6 @@
 -- Entries of inner pages: the one to follow, and the one that a page is given.
 use mathlib.Core.List.{List, [], _∷_, _++_, map}
-use Prim.Native.Nat.{ℕ, zero, suc}
+use Prim.Native.Nat.{ℕ, suc}
 use lib.Dec.{leb}
 use lib.ListN.{getD, take, drop}
 use Rattle.lists.specs.Basics.{pick}

@@ -1,6 +1,6 @@
 -- Insertion (01, "The tree") on the bytes of an index. Nothing is assumed of them.
-use mathlib.Core.Bool.{Bool, true, false}
-use mathlib.Core.List.{List, [], _∷_, _++_}
+use mathlib.Core.Bool.{Bool}
+use mathlib.Core.List.{List, [], _∷_}
 use Prim.Native.Nat.{ℕ, zero, suc, _+_, _%_, _^_}
 use lib.Dec.{leb, ltb, eqb}
 use lib.ListN.{length, take, drop}
@@ -8,7 +8,7 @@ use Rattle.lists.specs.Basics.{pick, tick}
 use Rattle.lists.specs.Sorting.{ins}
 use Rattle.pagestore.specs.declared.Record.{Record}
 use Rattle.pagestore.specs.declared.Entry.{Entry}
-use Rattle.pagestore.specs.Store.{Field, features, root, level, total, leafAt, innerAt, countAt, recordsIn, entriesIn, setLeaf, setInner, fieldAt, setField, pageTaken, takePage}
+use Rattle.pagestore.specs.Store.{features, root, level, total, leafAt, innerAt, countAt, recordsIn, entriesIn, setLeaf, setInner, fieldAt, setField, pageTaken, takePage}
 use Rattle.trees.specs.Trees.{rankOf}
 use Rattle.tree.specs.Entries.{choose, childAt, replaced, leafEntry, innerEntry}
 

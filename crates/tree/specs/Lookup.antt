@@ -1,14 +1,14 @@
 -- What an index holds, read from its bytes: its records, the one of an identifier, its leaves as the inner pages give them. Nothing is assumed of the bytes.
-use mathlib.Core.List.{List, [], _∷_, _++_}
-use Prim.Native.Nat.{ℕ, zero, suc, _+_}
+use mathlib.Core.List.{List, [], _∷_}
+use Prim.Native.Nat.{ℕ, zero, suc}
 use lib.Dec.{eqb}
-use lib.ListN.{length, replicate}
+use lib.ListN.{replicate}
 use Rattle.lists.specs.Basics.{flat}
 use Rattle.lists.specs.Ascending.{headOr}
 use Rattle.lists.specs.Sorting.{keep, sum}
 use Rattle.pagestore.specs.declared.Record.{Record}
 use Rattle.pagestore.specs.declared.Entry.{Entry}
-use Rattle.pagestore.specs.Store.{Field, root, level, leafAt, innerAt, recordsIn, entriesIn, fieldAt}
+use Rattle.pagestore.specs.Store.{root, level, leafAt, innerAt, recordsIn, entriesIn, fieldAt}
 
 -- the records below page p of level l, in order
 unfoldable pub recordsUnder : ℕ → List ℕ → ℕ → List Record

@@ -1,0 +1,81 @@
+-- The key of a record that fits can be stored, and ranks of different identifiers differ.
+use mathlib.Core.Path.{_≡_, refl, ap}
+use mathlib.Core.List.{List, [], _∷_}
+use Prim.Native.Nat.{ℕ, zero, suc, _+_, _-_, _^_, _≤_, _<_}
+use native.Mathlib.Omega.{arith}
+use lib.Dec.{ltb, eqb}
+use lib.IntN.{ℤ, pos, negsuc, natAbs}
+use lib.ListN.{length, getD, take, length-take}
+use borrow.Author.Tests.{ltb-true, ltb-false, lt-ltb, le-ltb}
+use Rattle.lists.specs.Basics.{pick, All, none, also}
+use Rattle.lists.specs.Choices.{bool-cases}
+use Rattle.lists.specs.Runs.{all-take}
+use Rattle.lists.specs.Tests.{cases}
+use Rattle.geometry.specs.Keys.{keyNumber}
+use Rattle.geometry.specs.Points.{isNeg, heightOf, axisAt, axisOf, pyramidOf}
+use Rattle.geometry.specs.Stored.{coordOf, pointOf}
+use Rattle.pagestore.specs.declared.Record.{Record}
+use Rattle.pagestore.specs.Fits.{RecordFits, KeyFits}
+use Rattle.trees.specs.Trees.{noRecord, keyOf, rankOf}
+use Rattle.tree.specs.Entries.{noKey}
+
+coord-low : (x : ℕ) → x < 1000 → coordOf x ≡ negsuc (999 - x)
+coord-low x l = rw (lt-ltb x 1000 l) (ap negsuc (let e : 1000 - suc x ≡ 999 - x = omega arith in e))
+
+pub coord-high : (x : ℕ) → 1000 ≤ x → coordOf x ≡ pos (x - 1000)
+coord-high x l = rw (le-ltb x 1000 l)
+
+coord-fits : (x : ℕ) → x < 2 ^ 16 → natAbs (coordOf x) < 2 ^ 16
+coord-fits x h =
+    cases (ltb x 1000)
+    (λ e. rw (coord-low x (ltb-true x 1000 e)) (omega arith))
+    (λ e. rw (coord-high x (ltb-false x 1000 e)) (omega arith))
+
+height-fits : {xs : List ℕ} → All (λ c. c < 2 ^ 16) xs → heightOf (pointOf xs) < 2 ^ 16
+unfolding heightOf pointOf
+height-fits none = omega arith
+height-fits (also {x = x} {xs = xs} h t) = omega (arith, coord-fits x h, height-fits t)
+
+length-point : (xs : List ℕ) → length (pointOf xs) ≡ length xs
+unfolding pointOf
+length-point [] = refl
+length-point (x ∷ xs) = ap suc (length-point xs)
+
+axis-le : (h : ℕ) (p : List ℤ) → axisAt h p ≤ length p
+unfolding axisAt
+axis-le h [] = omega arith
+axis-le h (c ∷ cs) =
+    let i : axisAt h cs ≤ length cs = axis-le h cs in
+    bool-cases (λ b. pick b 0 (suc (axisAt h cs)) ≤ suc (length cs)) (eqb (natAbs c) h) (λ e. omega arith) (λ e. omega arith)
+
+pyramid-le : (p : List ℤ) → pyramidOf p ≤ length p + length p
+unfolding pyramidOf axisOf
+pyramid-le p =
+    let i : axisAt (heightOf p) p ≤ length p = axis-le (heightOf p) p in
+    bool-cases (λ b. pick b (axisAt (heightOf p) p) (axisAt (heightOf p) p + length p) ≤ length p + length p) (isNeg (getD p (axisAt (heightOf p) p) (pos 0)))
+    (λ e. omega arith) (λ e. omega arith)
+
+pub key-fits : (d : ℕ) (r : Record) → RecordFits r → KeyFits (keyOf d r)
+unfolding keyOf
+key-fits d r f =
+    let p = pointOf (take d (r .coords)) in
+    let n : length p ≤ 16 = omega (arith, length-point (take d (r .coords)), length-take d (r .coords), f .slots) in
+    record {
+      pyramid = omega (arith, pyramid-le p);
+      height = height-fits (all-take d (f .coords));
+      id = f .id;
+    }
+
+-- the key where there is no record
+pub no-key : (d : ℕ) → keyOf d noRecord ≡ noKey
+unfolding keyOf noRecord pyramidOf axisOf axisAt heightOf pointOf
+no-key zero = refl
+no-key (suc d) = refl
+
+-- a rank has the identifier in it
+pub rank-ident : (d : ℕ) (a b : Record) → RecordFits a → RecordFits b → rankOf d a ≡ rankOf d b → a .id ≡ b .id
+unfolding rankOf keyOf keyNumber
+rank-ident d a b f g e =
+    let i : a .id < 2 ^ 32 = f .id in
+    let j : b .id < 2 ^ 32 = g .id in
+    omega (arith, e)

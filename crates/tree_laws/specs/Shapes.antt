@@ -1,0 +1,136 @@
+-- Trees with right fills, and the child that a descent chooses among theirs. Nothing here speaks of bytes.
+use mathlib.Core.Path.{_≡_, refl, ap}
+use mathlib.Core.List.{List, [], _∷_, _++_, map}
+use Prim.Native.Nat.{ℕ, zero, suc, _+_, _≤_, _<_}
+use native.Mathlib.Omega.{arith}
+use lib.Dec.{leb}
+use lib.ListN.{length, take, drop, getD, length-append, length-map}
+use borrow.Author.Tests.{leb-true, leb-false}
+use Rattle.lists.specs.Basics.{pick, All, none, also, flat, all-append, all-left, all-map}
+use Rattle.lists.specs.Ascending.{headOr}
+use Rattle.lists.specs.Choices.{bool-cases}
+use Rattle.lists.specs.Parts.{head-of}
+use Rattle.lists.specs.Rising.{Rising, step, rising-right, rising-cross}
+use Rattle.geometry.specs.Keys.{keyNumber}
+use Rattle.pagestore.specs.declared.Record.{Record}
+use Rattle.pagestore.specs.declared.Entry.{Entry}
+use Rattle.pagestore.specs.Fits.{RecordFits}
+use Rattle.trees.specs.Trees.{Item, records, pages, noRecord, firstKey, rankOf, entryOf}
+use Rattle.tree.specs.Entries.{notAbove, choose, childAt}
+
+-- a page other than the root, with all below it: 8 to 16 items each, and records that fit
+unfoldable pub Ok : (l : ℕ) → Item l → Type 0
+Ok zero r = RecordFits r
+Ok (suc l) t = (8 ≤ length (t .1)) × (length (t .1) ≤ 16) × All (Ok l) (t .1)
+
+-- an inner root has 2 children; a root leaf may have no record
+unfoldable pub Some : (l : ℕ) → Item (suc l) → Type 0
+Some zero t = Unit {0}
+Some (suc l) t = 2 ≤ length (t .1)
+
+pub record Root (l : ℕ) (t : Item (suc l)) : Type 0 where
+  pub some : Some l t
+  pub most : length (t .1) ≤ 16
+  pub subs : All (Ok l) (t .1)
+
+pub ok-root : (l : ℕ) (t : Item (suc l)) → Ok (suc l) t → Root l t
+unfolding Ok Some
+ok-root zero t o = record { some = tt; most = o .1; subs = o .2 }
+ok-root (suc l) t o = record { some = omega arith; most = o .1; subs = o .2 }
+
+pub records-some : (l : ℕ) (x : Item l) → Ok l x → 0 < length (records l x)
+unfolding records Ok flat
+records-some zero r o = omega arith
+records-some (suc l) t o = go (t .1) (omega arith) (o .2) (records-some l)
+  where
+    go : (ts : List (Item l)) → 2 ≤ length ts → All (Ok l) ts → ((x : Item l) → Ok l x → 0 < length (records l x)) → 0 < length (flat (records l) ts)
+    go [] h a f = absurd (omega arith)
+    go (u ∷ us) h (also p a) f = let g : 0 < length (records l u) = f u p in rw (length-append (records l u) (flat (records l) us)) (omega arith)
+
+-- a tree with its level
+abbrev pub Shape : Type 0
+Shape = (l : ℕ) × Item (suc l)
+
+-- in the place of a tree where there is none
+abbrev pub noTree : (l : ℕ) → Item (suc l)
+noTree l = (0, [])
+
+pub flat-records : (rs : List Record) → flat (records 0) rs ≡ rs
+unfolding flat records
+flat-records [] = refl
+flat-records (r ∷ rs) = ap (λ (z : List Record). r ∷ z) (flat-records rs)
+
+pub no-pages : (rs : List Record) → flat (pages 0) rs ≡ []
+unfolding flat pages
+no-pages [] = refl
+no-pages (r ∷ rs) = no-pages rs
+
+-- THE CHILD CHOSEN
+
+pub child-at : (d l i : ℕ) (ts : List (Item (suc l))) → childAt (map (entryOf d l) ts) i ≡ getD ts i (noTree l) .0
+unfolding childAt entryOf
+child-at d l i [] = refl
+child-at d l zero (t ∷ ts) = refl
+child-at d l (suc i) (t ∷ ts) = child-at d l i ts
+
+unfoldable pub chosen : ℕ → (l : ℕ) → ℕ → List (Item (suc l)) → ℕ
+chosen d l k ts = choose k (map (entryOf d l) ts)
+
+above-le : (k : ℕ) (es : List Entry) → notAbove k es ≤ length es
+unfolding notAbove
+above-le k [] = omega arith
+above-le k (e ∷ es) =
+    let h : notAbove k es ≤ length es = above-le k es in
+    bool-cases (λ c. pick c (suc (notAbove k es)) 0 ≤ suc (length es)) (leb (keyNumber (e .first)) k) (λ _. omega arith) (λ _. omega arith)
+
+pub chosen-lt : (d l k : ℕ) (ts : List (Item (suc l))) → 0 < length ts → chosen d l k ts < length ts
+unfolding chosen choose
+chosen-lt d l k [] h = absurd (omega arith)
+chosen-lt d l k (t ∷ ts) h = omega (arith, above-le k (map (entryOf d l) ts), length-map ts (entryOf d l))
+
+-- In rising records those before the child chosen are below k, and those behind it above.
+module _ (d l k : ℕ) where
+  first-rank : (t : Item (suc l)) → keyNumber (entryOf d l t .first) ≡ rankOf d (headOr noRecord (records (suc l) t))
+  unfolding entryOf firstKey rankOf
+  first-rank t = refl
+
+  from-first : (xs ys : List Record) → 0 < length xs → Rising (rankOf d) (xs ++ ys) → All (λ y. rankOf d (headOr noRecord xs) ≤ rankOf d y) (xs ++ ys)
+  unfolding headOr
+  from-first [] ys h r = absurd (omega arith)
+  from-first (x ∷ xs) ys h (step g r) = also {x = x} (omega arith) (all-map (λ y (w : rankOf d x < rankOf d y). omega arith) g)
+
+  low : (u : Item (suc l)) (us : List (Item (suc l))) → Rising (rankOf d) (records (suc l) u ++ flat (records (suc l)) us) → All (λ x. 0 < length (records (suc l) x)) us
+      → All (λ x. rankOf d x < k) (flat (records (suc l)) (take (notAbove k (map (entryOf d l) us)) (u ∷ us)))
+  unfolding notAbove flat
+  low u [] r n = none
+  low u (w ∷ ws) r (also p n) =
+      bool-cases (λ c. All (λ x. rankOf d x < k) (flat (records (suc l)) (take (pick c (suc (notAbove k (map (entryOf d l) ws))) 0) (u ∷ w ∷ ws)))) (leb (keyNumber (entryOf d l w .first)) k)
+      (λ e. let g : rankOf d (headOr noRecord (records (suc l) w)) ≤ k = rw (← first-rank w) (leb-true _ _ e) in
+      all-append
+      (all-map (λ x (b : rankOf d x < rankOf d (headOr noRecord (records (suc l) w))). omega arith)
+      (rising-cross (rankOf d) (records (suc l) u) _ r (headOr noRecord (records (suc l) w)) (λ P a. head-of noRecord p (all-left (records (suc l) w) _ a))))
+      (low w ws (rising-right (rankOf d) (records (suc l) u) _ r) n))
+      (λ e. none)
+
+  high : (u : Item (suc l)) (us : List (Item (suc l))) → Rising (rankOf d) (records (suc l) u ++ flat (records (suc l)) us) → All (λ x. 0 < length (records (suc l) x)) us
+      → All (λ x. k < rankOf d x) (flat (records (suc l)) (drop (notAbove k (map (entryOf d l) us)) us))
+  unfolding notAbove flat
+  high u [] r n = none
+  high u (w ∷ ws) r (also p n) =
+      bool-cases (λ c. All (λ x. k < rankOf d x) (flat (records (suc l)) (drop (pick c (suc (notAbove k (map (entryOf d l) ws))) 0) (w ∷ ws)))) (leb (keyNumber (entryOf d l w .first)) k)
+      (λ e. high w ws (rising-right (rankOf d) (records (suc l) u) _ r) n)
+      (λ e. let g : k < rankOf d (headOr noRecord (records (suc l) w)) = rw (← first-rank w) (leb-false _ _ e) in
+      all-map (λ x (b : rankOf d (headOr noRecord (records (suc l) w)) ≤ rankOf d x). omega arith)
+      (from-first (records (suc l) w) (flat (records (suc l)) ws) p (rising-right (rankOf d) (records (suc l) u) _ r)))
+
+  pub before-chosen : (ts : List (Item (suc l))) → 0 < length ts → All (Ok (suc l)) ts → Rising (rankOf d) (flat (records (suc l)) ts)
+      → All (λ x. rankOf d x < k) (flat (records (suc l)) (take (chosen d l k ts) ts))
+  unfolding chosen choose flat
+  before-chosen [] h o r = absurd (omega arith)
+  before-chosen (u ∷ us) h (also p o) r = low u us r (all-map (records-some (suc l)) o)
+
+  pub behind-chosen : (ts : List (Item (suc l))) → 0 < length ts → All (Ok (suc l)) ts → Rising (rankOf d) (flat (records (suc l)) ts)
+      → All (λ x. k < rankOf d x) (flat (records (suc l)) (drop (suc (chosen d l k ts)) ts))
+  unfolding chosen choose flat
+  behind-chosen [] h o r = absurd (omega arith)
+  behind-chosen (u ∷ us) h (also p o) r = high u us r (all-map (records-some (suc l)) o)

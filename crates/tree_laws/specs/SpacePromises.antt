@@ -1,0 +1,62 @@
+-- Space set free is used again: every page but the header and those in the tree is free, and the pages given up by a deletion are the first that an insertion takes.
+use mathlib.Core.Path.{_≡_, refl, sym, ap, _∙_}
+use mathlib.Core.Bool.{_&&_}
+use mathlib.Core.List.{List, _++_, map}
+use Prim.Native.Nat.{ℕ, zero, suc, _+_, _-_, _≤_, _<_}
+use native.Mathlib.Omega.{arith}
+use lib.Dec.{ltb}
+use lib.ListN.{length, take, drop, length-append, take-append-drop}
+use Rattle.lists.specs.Basics.{tick}
+use Rattle.lists.specs.Counts.{mult, mult-append, length-once}
+use Rattle.pagestore.specs.declared.Record.{Record}
+use Rattle.pagestore.specs.Store.{inRange, pagesIn, freeAt, viewOf}
+use Rattle.pagestore.specs.Store.RangeLaws.{range-same}
+use Rattle.trees.specs.Trees.{pages, identOf, treeOf, live}
+use Rattle.trees.specs.Sound.{SoundIndex}
+use Rattle.tree.specs.Insertion.{insertInto, pagesWanted}
+use Rattle.tree_laws.specs.Wholes.{sound-whole}
+use Rattle.tree_laws.specs.InsertPromises.{MayInsert, insert-sound, insert-pages, insert-length}
+use Rattle.tree_laws.specs.DeletePromises.{deleteIdent, pagesGiven, delete-sound, delete-pages, delete-length}
+
+by-count : (n : ℕ) (b xs : List ℕ) → 1 ≤ n → n ≡ pagesIn b → ((q : ℕ) → mult q xs ≡ tick (inRange b q)) → length xs + 1 ≡ n
+unfolding inRange
+by-count zero b xs h e f = absurd (omega arith)
+by-count (suc n) b xs h e f = omega (arith, length-once n xs (λ q. f q ∙ ap (λ (m : ℕ). tick (ltb 0 q && ltb q m)) (sym e)))
+
+-- the pages in the tree of an index
+abbrev pub treePages : List ℕ → List ℕ
+treePages b = pages (suc (viewOf b .level)) (treeOf (viewOf b))
+
+-- no page lies idle: an insertion is short of pages only if the freed and the never used together are too few for it
+pub no-page-idle : (b : List ℕ) → SoundIndex b → length (treePages b) + length (freeAt b) + 1 ≡ viewOf b .count
+unfolding viewOf
+no-page-idle b s =
+    let w = sound-whole b s in
+    let ps = treePages b in
+    let g = by-count (pagesIn b) b (ps ++ freeAt b) (omega (arith, w .well .low, w .well .high)) refl (λ q. mult-append q ps (freeAt b) ∙ w .own q) in
+    omega (arith, length-append ps (freeAt b))
+
+-- what a deletion gives up is taken by the next insertion, before all else
+pub space-reused : (b : List ℕ) (i : ℕ) (r : Record) → SoundIndex b → 0 < mult i (map identOf (live (viewOf b))) → MayInsert (deleteIdent b i) r
+    → freeAt (insertInto (deleteIdent b i) r) ≡ drop (pagesWanted (deleteIdent b i) r) (pagesGiven b i ++ freeAt b)
+space-reused b i r s h m = insert-pages (deleteIdent b i) r (delete-sound b i s h) m ∙ ap (drop (pagesWanted (deleteIdent b i) r)) (delete-pages b i s h)
+
+-- an insertion brings the pages that it takes into the tree, and no other
+pub pages-taken : (b : List ℕ) (r : Record) → SoundIndex b → MayInsert b r → (q : ℕ) → mult q (treePages (insertInto b r)) ≡ mult q (treePages b) + mult q (take (pagesWanted b r) (freeAt b))
+pages-taken b r s m q =
+    let n = pagesWanted b r in
+    let old = sound-whole b s .own q in
+    let new = sound-whole (insertInto b r) (insert-sound b r s m) .own q in
+    let same : tick (inRange (insertInto b r) q) ≡ tick (inRange b q) = ap tick (range-same b (insertInto b r) q (insert-length b r s m)) in
+    let left : mult q (freeAt (insertInto b r)) ≡ mult q (drop n (freeAt b)) = ap (mult q) (insert-pages b r s m) in
+    let both : mult q (freeAt b) ≡ mult q (take n (freeAt b)) + mult q (drop n (freeAt b)) = ap (mult q) (sym (take-append-drop n (freeAt b))) ∙ mult-append q (take n (freeAt b)) (drop n (freeAt b)) in
+    omega arith
+
+-- a deletion gives up pages of the tree, and leaves the others in it
+pub pages-given : (b : List ℕ) (i : ℕ) → SoundIndex b → 0 < mult i (map identOf (live (viewOf b))) → (q : ℕ) → mult q (treePages b) ≡ mult q (pagesGiven b i) + mult q (treePages (deleteIdent b i))
+pages-given b i s h q =
+    let old = sound-whole b s .own q in
+    let new = sound-whole (deleteIdent b i) (delete-sound b i s h) .own q in
+    let same : tick (inRange (deleteIdent b i) q) ≡ tick (inRange b q) = ap tick (range-same b (deleteIdent b i) q (delete-length b i s h)) in
+    let left : mult q (freeAt (deleteIdent b i)) ≡ mult q (pagesGiven b i) + mult q (freeAt b) = ap (mult q) (delete-pages b i s h) ∙ mult-append q (pagesGiven b i) (freeAt b) in
+    omega arith
