@@ -17,3 +17,4 @@ pub mod Rising
 pub mod Members
 pub mod Weights
 pub mod AscendingLaws
+pub mod Leading

@@ -1,0 +1,5 @@
+pub mod HeldLaws
+pub mod EntryLaws
+pub mod InsertionLaws
+pub mod RootLaws
+pub mod DeletionLaws
