@@ -2,21 +2,21 @@
 use mathlib.Core.Path.{_≡_, refl, sym, ap, _∙_}
 use mathlib.Core.Bool.{true}
 use mathlib.Core.Logic.{_≢_}
-use mathlib.Core.List.{List, [], _++_, append-assoc}
+use mathlib.Core.List.{List, [], _∷_, _++_, append-assoc}
 use Prim.Native.Nat.{ℕ, zero, suc, _+_, _-_, _*_, _≤_, _<_}
 use native.Mathlib.Omega.{arith}
 use lib.Dec.{leb}
 use lib.ListN.{length, getD, drop, take, replicate, length-append, length-replicate, length-take, length-drop, getD-replicate, List·getD-append}
 use lib.Seq.{getD-drop, drop-at, drop-drop}
 use borrow.Author.Tests.{leb-true}
-use Rattle.lists.specs.Basics.{none, upFrom}
-use Rattle.lists.specs.Counts.{by-cases}
+use Rattle.lists.specs.Basics.{none, upFrom, tick}
+use Rattle.lists.specs.Counts.{by-cases, mult, mult-self, mult-not, up-below, up-past, up-within}
 use Rattle.pagestore.specs.Bytes.{leAt, leBytes}
 use Rattle.pagestore.specs.ByteLaws.{length-le, put-drop}
 use Rattle.pagestore.specs.Layout.{leafBytes}
 use Rattle.pagestore.specs.LayoutLaws.{length-leaf}
 use Rattle.pagestore.specs.Store.{pagesIn, inRange, setStretch, leaf, pageAt, setPage, setLeaf, Field, offset, width, Apart, size, features, root, level, total, freed, fresh, fieldAt, setField, numberAt, setNumber, chain, chainEnd, freedAt, restAt, freshAt, freeAt, clearHeader, setFields, newIndex}
-use Rattle.pagestore.specs.Store.RangeLaws.{range-past, range-is, range-zero, range-same, range-whole, pages-same, pages-few}
+use Rattle.pagestore.specs.Store.RangeLaws.{range-high, range-past, range-is, range-zero, range-same, range-whole, pages-same, pages-few}
 use Rattle.pagestore.specs.Store.StretchLaws.{set-in, set-out, agree, field-room}
 use Rattle.pagestore.specs.Store.PageLaws.{SamePage, same-trans, same-page, page-same, page-other, page-field, field-page, field-same, field-other, length-set-page, length-set-field, leafFits}
 
@@ -97,6 +97,16 @@ chain-none zero b = (refl, refl)
 chain-none (suc n) b = (rw (range-zero b), rw (range-zero b))
 
 -- ---- THE NEW INDEX
+
+once-from : (b : List ℕ) → 2 ≤ pagesIn b → (q : ℕ) → mult q (1 ∷ upFrom 2 (pagesIn b - 2)) ≡ tick (inRange b q)
+once-from b h zero = rw (range-zero b) (mult-not 0 1 (upFrom 2 (pagesIn b - 2)) (λ (e : 0 ≡ 1). omega arith) ∙ up-below 0 2 (pagesIn b - 2) (omega arith))
+once-from b h (suc zero) =
+    rw (range-is b 1 (omega arith) h) (omega (arith, mult-self 1 (upFrom 2 (pagesIn b - 2)), up-below 1 2 (pagesIn b - 2) (omega arith)))
+once-from b h (suc (suc q)) =
+    mult-not (suc (suc q)) 1 (upFrom 2 (pagesIn b - 2)) (λ (e : suc (suc q) ≡ 1). omega arith)
+    ∙ by-cases (inRange b (suc (suc q)))
+    (λ t. rw t (up-within (suc (suc q)) 2 (pagesIn b - 2) (omega arith) (omega (arith, range-high b (suc (suc q)) t))))
+    (λ t. rw t (up-past (suc (suc q)) 2 (pagesIn b - 2) (omega (arith, range-past b (suc (suc q)) (omega arith) t))))
 
 -- c is a new index for d features in the bytes of b
 pub record New (b : List ℕ) (d : ℕ) (c : List ℕ) : Type 0 where
@@ -230,3 +240,7 @@ module _ (b : List ℕ) (d : ℕ) where
       other = λ q ne. same-trans (same-4 q) (rw new-is (page-other a4 1 (leaf 0 []) q ne));
       bytes = ap (drop 2048) new-is ∙ drop-new ∙ drop-4;
     }
+
+    -- each page but the header is just once the root or free
+    pub new-once : (q : ℕ) → mult q (1 ∷ freeAt (newIndex b d)) ≡ tick (inRange b q)
+    new-once q = rw free-new (once-from b h q)

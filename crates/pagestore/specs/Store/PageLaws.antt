@@ -7,7 +7,7 @@ use Prim.Native.Nat.{ℕ, zero, suc, _+_, _*_, _^_, _≤_, _<_}
 use native.Mathlib.Nat.{one-le-pow}
 use native.Mathlib.Omega.{arith}
 use lib.Dec.{leb}
-use lib.ListN.{length, take, drop, length-take}
+use lib.ListN.{length, take, drop, length-take, getD}
 use borrow.Author.Tests.{le-leb, eqb-false}
 use Rattle.lists.specs.Basics.{All}
 use Rattle.lists.specs.Counts.{by-cases}
@@ -22,7 +22,7 @@ use Rattle.pagestore.specs.declared.Leaf.{Leaf}
 use Rattle.pagestore.specs.declared.Entry.{Entry}
 use Rattle.pagestore.specs.declared.Inner.{Inner}
 use Rattle.pagestore.specs.Store.{inRange, stretch, setStretch, leafAt, innerAt, levelAt, countAt, linkAt, recordsIn, entriesIn, levelOf, fillOf, setLeaf, setInner, setLink, Page, leaf, inner, pageBy, pageAt, setPage, Field, offset, width, Apart, fieldAt, setField, numberAt, setNumber}
-use Rattle.pagestore.specs.Store.StretchLaws.{stretch-out, set-out, agree, length-stretch, stretch-same, stretch-other, field-stretch, field-room}
+use Rattle.pagestore.specs.Store.StretchLaws.{stretch-in, stretch-out, set-out, agree, length-stretch, stretch-same, stretch-other, field-stretch, field-room}
 
 -- ---- WRITES OF PAGES, AS ONE
 
@@ -117,6 +117,16 @@ same-trans f g =
       count = g .count ∙ f .count;
       link = g .link ∙ f .link;
     }
+
+-- indexes of one length whose bytes agree at page q, or at the header
+pub bytes-page : (b c : List ℕ) (q : ℕ) → length c ≡ length b → ((i : ℕ) → i < 1024 → getD c (q * 1024 + i) 0 ≡ getD b (q * 1024 + i) 0) → SamePage b c q
+bytes-page b c q e h = same-page b c q (agree b c q e (λ z i k. h i k))
+
+pub bytes-field : (f : Field) (b c : List ℕ) → length c ≡ length b → ((i : ℕ) → i < 1024 → getD c i 0 ≡ getD b i 0) → fieldAt f c ≡ fieldAt f b
+unfolding numberAt
+bytes-field f b c e h =
+    let r = field-room f in
+    rw (e, le-ext (width f) c b (offset f) (λ i g k. h i (omega (arith, r .1, r .2))))
 
 -- a write of a page changes that page alone
 pub page-other : (b : List ℕ) (p : ℕ) (x : Page) (q : ℕ) → q ≢ p → SamePage b (setPage b p x) q
@@ -221,6 +231,15 @@ inner-counts b p = refl
 pub inner-levels : (b : List ℕ) (p : ℕ) → innerAt b p .level ≡ levelAt b p
 unfolding innerAt levelAt innerOf
 inner-levels b p = refl
+
+-- the page that is handed over as a part of the index
+pub leaf-part : (b : List ℕ) (p n : ℕ) → n ≡ 1024 → inRange b p ≡ true → leafOf (take n (drop (p * 1024) b)) ≡ leafAt b p
+unfolding leafAt
+leaf-part b p n e h = rw (e, stretch-in b p h)
+
+pub inner-part : (b : List ℕ) (p n : ℕ) → n ≡ 1024 → inRange b p ≡ true → innerOf (take n (drop (p * 1024) b)) ≡ innerAt b p
+unfolding innerAt
+inner-part b p n e h = rw (e, stretch-in b p h)
 
 by-level : (v : ℕ) (m : Leaf) (k : Inner) → levelOf (pageBy v m k) ≡ v
 unfolding pageBy

@@ -19,7 +19,11 @@ same-length : tie.Need-same-length
 same-length c = search needs
 
 returns : tie.Need-returns
-returns c = free-step _ _ _ _ _ (held _ _ _ (c .before .before .before .before .before .before .before .before .before .before .before .in-range .ensures) (c .before .before .before .before .before .before .before .before .before .before .if1 .taken)) (c .before .before .before .before .before .before .before .before .freed-head .ensures) (c .before .before .before .before .before .before .set-link .ensures) (c .before .before .set-freed-head .ensures)
+returns c =
+    free-step _ _ _ _ _
+    (held _ _ _ (c .before .before .before .before .before .before .before .before .before .before .before .in-range .ensures) (c .before .before .before .before .before .before .before .before .before .before .if1 .taken))
+    (c .before .before .before .before .before .before .before .before .freed-head .ensures)
+    (c .before .before .before .before .before .before .set-link .ensures) (c .before .before .set-freed-head .ensures)
 
 same-length-2 : tie.Need-same-length-2
 same-length-2 c = search needs

@@ -31,7 +31,15 @@ same-length : tie.Need-same-length
 same-length c = search needs
 
 returns : tie.Need-returns
-returns c = make-step _ _ _ _ _ _ _ _ _ _ (c .before .before .before .before .before .before .before .before .before .before .before .before .before .before .before .before .before .before .before .before .before .before .before .before .before .page-count .ensures) (c .before .before .before .before .before .before .before .before .before .before .before .before .before .before .before .before .before .before .before .before .before .before .before .clear-header .ensures) (c .before .before .before .before .before .before .before .before .before .before .before .before .before .before .before .before .before .before .before .set-index-size .ensures) (c .before .before .before .before .before .before .before .before .before .before .before .before .before .before .before .set-features .ensures) (c .before .before .before .before .before .before .before .before .before .before .before .set-root-page .ensures) (c .before .before .before .before .before .before .before .set-fresh-page .ensures) (c .before .before .before .empty-leaf .ensures) (c .before .before .set-leaf .ensures)
+returns c =
+    make-step _ _ _ _ _ _ _ _ _ _
+    (c .before .before .before .before .before .before .before .before .before .before .before .before .before .before .before .before .before .before .before .before .before .before .before .before .before .page-count .ensures)
+    (c .before .before .before .before .before .before .before .before .before .before .before .before .before .before .before .before .before .before .before .before .before .before .before .clear-header .ensures)
+    (c .before .before .before .before .before .before .before .before .before .before .before .before .before .before .before .before .before .before .before .set-index-size .ensures)
+    (c .before .before .before .before .before .before .before .before .before .before .before .before .before .before .before .set-features .ensures)
+    (c .before .before .before .before .before .before .before .before .before .before .before .set-root-page .ensures)
+    (c .before .before .before .before .before .before .before .set-fresh-page .ensures)
+    (c .before .before .before .empty-leaf .ensures) (c .before .before .set-leaf .ensures)
 
 pub make-spec : {M : Type 1} → statement M
 make-spec =

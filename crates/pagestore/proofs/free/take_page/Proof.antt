@@ -21,7 +21,10 @@ same-length : tie.Need-same-length
 same-length c = search needs
 
 returns : tie.Need-returns
-returns c = take-freed _ _ _ _ (c .before .before .before .before .before .before .before .before .before .freed-head .ensures) (held _ _ _ (c .before .before .before .before .before .before .before .in-range .ensures) (c .before .before .before .before .before .before .if1 .taken)) (c .before .before .before .before .link-at .ensures) (c .before .before .set-freed-head .ensures)
+returns c =
+    take-freed _ _ _ _ (c .before .before .before .before .before .before .before .before .before .freed-head .ensures)
+    (held _ _ _ (c .before .before .before .before .before .before .before .in-range .ensures) (c .before .before .before .before .before .before .if1 .taken))
+    (c .before .before .before .before .link-at .ensures) (c .before .before .set-freed-head .ensures)
 
 fresh-page-requires : tie.Need-fresh-page-requires
 fresh-page-requires c κs = search needs
@@ -39,13 +42,22 @@ same-length-2 : tie.Need-same-length-2
 same-length-2 c = search needs
 
 returns-2 : tie.Need-returns-2
-returns-2 c = take-fresh _ _ _ _ (c .before .before .before .before .before .before .before .before .before .before .before .before .freed-head .ensures) (held _ _ _ (c .before .before .before .before .before .before .before .before .before .before .in-range .ensures) (c .before .before .before .before .before .before .before .before .before .if1 .left)) (c .before .before .before .before .before .before .before .fresh-page .ensures) (held _ _ _ (c .before .before .before .before .before .in-range2 .ensures) (c .before .before .before .before .if2 .taken)) (c .before .before .set-fresh-page .ensures)
+returns-2 c =
+    take-fresh _ _ _ _
+    (c .before .before .before .before .before .before .before .before .before .before .before .before .freed-head .ensures)
+    (held _ _ _ (c .before .before .before .before .before .before .before .before .before .before .in-range .ensures) (c .before .before .before .before .before .before .before .before .before .if1 .left))
+    (c .before .before .before .before .before .before .before .fresh-page .ensures)
+    (held _ _ _ (c .before .before .before .before .before .in-range2 .ensures) (c .before .before .before .before .if2 .taken))
+    (c .before .before .set-fresh-page .ensures)
 
 same-length-3 : tie.Need-same-length-3
 same-length-3 c = search needs
 
 returns-3 : tie.Need-returns-3
-returns-3 c = take-none _ _ _ (c .before .before .before .before .before .before .before .before .freed-head .ensures) (held _ _ _ (c .before .before .before .before .before .before .in-range .ensures) (c .before .before .before .before .before .if1 .left)) (c .before .before .before .fresh-page .ensures) (held _ _ _ (c .before .in-range2 .ensures) (c .if2 .left))
+returns-3 c =
+    take-none _ _ _ (c .before .before .before .before .before .before .before .before .freed-head .ensures)
+    (held _ _ _ (c .before .before .before .before .before .before .in-range .ensures) (c .before .before .before .before .before .if1 .left))
+    (c .before .before .before .fresh-page .ensures) (held _ _ _ (c .before .in-range2 .ensures) (c .if2 .left))
 
 pub take-page-spec : {M : Type 1} → statement M
 take-page-spec =

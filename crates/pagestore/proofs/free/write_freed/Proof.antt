@@ -25,7 +25,12 @@ same-length : tie.Need-same-length
 same-length c = search needs
 
 returns : tie.Need-returns
-returns c = freed-put (c .before .before .before .before .before .before .before .before .before .before .before .before .before .args .page .now) _ _ _ _ (c .before .before .before .before .before .before .before .before .before .before .before .before .before .pre) (c .before .before .before .before .before .before .before .before .before .before .put-u32 .ensures) (c .before .before .before .before .before .before .put-u322 .ensures) (c .before .before .clear .ensures)
+returns c =
+    freed-put
+    (c .before .before .before .before .before .before .before .before .before .before .before .before .before .args .page .now)
+    _ _ _ _ (c .before .before .before .before .before .before .before .before .before .before .before .before .before .pre)
+    (c .before .before .before .before .before .before .before .before .before .before .put-u32 .ensures)
+    (c .before .before .before .before .before .before .put-u322 .ensures) (c .before .before .clear .ensures)
 
 pub write-freed-spec : {M : Type 1} → statement M
 write-freed-spec =

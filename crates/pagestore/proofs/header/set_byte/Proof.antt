@@ -12,7 +12,9 @@ same-length : tie.Need-same-length
 same-length c = search needs
 
 returns : tie.Need-returns
-returns c = c .before .before .put-u8 .ensures ∙ sym (set-number-long 1 _ _ _ (c .before .before .before .before .if1 .taken) ∙ put-one _ _ _ (search needs))
+returns c =
+    c .before .before .put-u8 .ensures ∙ sym
+    (set-number-long 1 _ _ _ (c .before .before .before .before .if1 .taken) ∙ put-one _ _ _ (search needs))
 
 returns-2 : tie.Need-returns-2
 returns-2 c = sym (set-number-short 1 _ _ _ (c .if1 .left))

@@ -22,7 +22,11 @@ same-length : tie.Need-same-length
 same-length c = search needs
 
 returns : tie.Need-returns
-returns c = entry-put _ _ _ _ _ (c .before .before .before .before .before .before .before .before .before .before .before .before .before .args .e) (c .before .before .before .before .before .before .before .before .before .before .put-u32 .ensures) (c .before .before .before .before .before .before .put-key .ensures) (c .before .before .put-key2 .ensures)
+returns c =
+    entry-put _ _ _ _ _
+    (c .before .before .before .before .before .before .before .before .before .before .before .before .before .args .e)
+    (c .before .before .before .before .before .before .before .before .before .before .put-u32 .ensures)
+    (c .before .before .before .before .before .before .put-key .ensures) (c .before .before .put-key2 .ensures)
 
 pub put-entry-spec : {M : Type 1} → statement M
 put-entry-spec =

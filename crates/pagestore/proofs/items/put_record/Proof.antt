@@ -28,7 +28,12 @@ same-length : tie.Need-same-length
 same-length c = search needs
 
 returns : tie.Need-returns
-returns c = record-put _ _ _ _ _ _ (c .before .before .before .before .before .before .before .before .before .before .before .before .before .before .before .before .before .before .args .r) (c .before .before .before .before .before .before .before .before .before .before .before .before .before .before .before .put-u32 .ensures) (c .before .before .before .before .before .before .before .before .before .before .put-coords .ensures) (c .before .before .before .before .before .before .put-u322 .ensures) (c .before .before .put-u323 .ensures)
+returns c =
+    record-put _ _ _ _ _ _
+    (c .before .before .before .before .before .before .before .before .before .before .before .before .before .before .before .before .before .before .args .r)
+    (c .before .before .before .before .before .before .before .before .before .before .before .before .before .before .before .put-u32 .ensures)
+    (c .before .before .before .before .before .before .before .before .before .before .put-coords .ensures)
+    (c .before .before .before .before .before .before .put-u322 .ensures) (c .before .before .put-u323 .ensures)
 
 pub put-record-spec : {M : Type 1} → statement M
 put-record-spec =

@@ -31,10 +31,14 @@ get-u8-requires : tie.Need-get-u8-requires
 get-u8-requires c κs = search needs
 
 returns : tie.Need-returns
-returns c = c .get-u8 .ensures ∙ ap (λ (s : List ℕ). byteAt s (c .before .before .before .before .before .args .i)) (part-is _ _ (held _ _ _ (c .before .before .before .in-range .ensures) (c .before .before .if1 .taken)))
+returns c =
+    c .get-u8 .ensures ∙ ap (λ (s : List ℕ). byteAt s (c .before .before .before .before .before .args .i))
+    (part-is _ _ (held _ _ _ (c .before .before .before .in-range .ensures) (c .before .before .if1 .taken)))
 
 returns-2 : tie.Need-returns-2
-returns-2 c = sym (ap (λ (s : List ℕ). byteAt s (c .before .before .before .args .i)) (stretch-out _ _ (held _ _ _ (c .before .in-range .ensures) (c .if1 .left))))
+returns-2 c =
+    sym
+    (ap (λ (s : List ℕ). byteAt s (c .before .before .before .args .i)) (stretch-out _ _ (held _ _ _ (c .before .in-range .ensures) (c .if1 .left))))
 
 pub byte-of-spec : {M : Type 1} → statement M
 byte-of-spec =

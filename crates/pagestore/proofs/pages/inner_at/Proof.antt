@@ -32,10 +32,15 @@ empty-inner-requires : tie.Need-empty-inner-requires
 empty-inner-requires c κs = search needs
 
 returns : tie.Need-returns
-returns c = c .read-inner .ensures ∙ ap innerOf (part-is _ _ (held _ _ _ (c .before .before .before .in-range .ensures) (c .before .before .if1 .taken))) ∙ sym (inner-opens _ _)
+returns c =
+    c .read-inner .ensures ∙ ap innerOf
+    (part-is _ _ (held _ _ _ (c .before .before .before .in-range .ensures) (c .before .before .if1 .taken))) ∙ sym
+    (inner-opens _ _)
 
 returns-2 : tie.Need-returns-2
-returns-2 c = c .empty-inner .ensures ∙ sym (inner-opens _ _ ∙ ap innerOf (stretch-out _ _ (held _ _ _ (c .before .before .in-range .ensures) (c .before .if1 .left))))
+returns-2 c =
+    c .empty-inner .ensures ∙ sym
+    (inner-opens _ _ ∙ ap innerOf (stretch-out _ _ (held _ _ _ (c .before .before .in-range .ensures) (c .before .if1 .left))))
 
 pub inner-at-spec : {M : Type 1} → statement M
 inner-at-spec =

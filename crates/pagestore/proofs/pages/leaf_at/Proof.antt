@@ -32,10 +32,15 @@ empty-leaf-requires : tie.Need-empty-leaf-requires
 empty-leaf-requires c κs = search needs
 
 returns : tie.Need-returns
-returns c = c .read-leaf .ensures ∙ ap leafOf (part-is _ _ (held _ _ _ (c .before .before .before .in-range .ensures) (c .before .before .if1 .taken))) ∙ sym (leaf-opens _ _)
+returns c =
+    c .read-leaf .ensures ∙ ap leafOf
+    (part-is _ _ (held _ _ _ (c .before .before .before .in-range .ensures) (c .before .before .if1 .taken))) ∙ sym
+    (leaf-opens _ _)
 
 returns-2 : tie.Need-returns-2
-returns-2 c = c .empty-leaf .ensures ∙ sym (leaf-opens _ _ ∙ ap leafOf (stretch-out _ _ (held _ _ _ (c .before .before .in-range .ensures) (c .before .if1 .left))))
+returns-2 c =
+    c .empty-leaf .ensures ∙ sym
+    (leaf-opens _ _ ∙ ap leafOf (stretch-out _ _ (held _ _ _ (c .before .before .in-range .ensures) (c .before .if1 .left))))
 
 pub leaf-at-spec : {M : Type 1} → statement M
 leaf-at-spec =

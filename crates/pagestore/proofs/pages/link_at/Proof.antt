@@ -31,7 +31,10 @@ get-u32-requires c κs = search needs
 
 returns : tie.Need-returns
 unfolding linkOf
-returns c = c .get-u32 .ensures ∙ ap linkOf (part-is _ _ (held _ _ _ (c .before .before .before .in-range .ensures) (c .before .before .if1 .taken))) ∙ sym (link-opens _ _)
+returns c =
+    c .get-u32 .ensures ∙ ap linkOf
+    (part-is _ _ (held _ _ _ (c .before .before .before .in-range .ensures) (c .before .before .if1 .taken))) ∙ sym
+    (link-opens _ _)
 
 returns-2 : tie.Need-returns-2
 unfolding linkOf leAt

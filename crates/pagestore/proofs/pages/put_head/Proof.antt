@@ -19,7 +19,9 @@ same-length : tie.Need-same-length
 same-length c = search needs
 
 returns : tie.Need-returns
-returns c = head-put _ _ _ _ _ _ (c .before .before .before .before .before .before .before .before .before .before .put-u8 .ensures) (c .before .before .before .before .before .before .put-u82 .ensures) (c .before .before .put-u16 .ensures)
+returns c =
+    head-put _ _ _ _ _ _ (c .before .before .before .before .before .before .before .before .before .before .put-u8 .ensures)
+    (c .before .before .before .before .before .before .put-u82 .ensures) (c .before .before .put-u16 .ensures)
 
 pub put-head-spec : {M : Type 1} → statement M
 put-head-spec =

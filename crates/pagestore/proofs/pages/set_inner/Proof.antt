@@ -31,7 +31,10 @@ same-length : tie.Need-same-length
 same-length c = search needs
 
 returns : tie.Need-returns
-returns c = part-set _ (c .before .before .before .before .before .before .before .before .args .page) _ _ (held _ _ _ (c .before .before .before .before .before .in-range .ensures) (c .before .before .before .before .if1 .taken)) (c .before .before .write-inner .ensures) ∙ sym (set-inner-opens _ _ _ _)
+returns c =
+    part-set _ (c .before .before .before .before .before .before .before .before .args .page) _ _
+    (held _ _ _ (c .before .before .before .before .before .in-range .ensures) (c .before .before .before .before .if1 .taken))
+    (c .before .before .write-inner .ensures) ∙ sym (set-inner-opens _ _ _ _)
 
 same-length-2 : tie.Need-same-length-2
 same-length-2 c = search needs
