@@ -2,10 +2,10 @@
 ghost use mathlib.Core.Path.{_≡_};
 ghost use lib.ListN.{length};
 ghost use Rattle.pagestore.specs.Store.{freedAt, freshAt, freeAt};
-use crate::pages::link_at;
 use crate::header::freed_head;
 use crate::header::fresh_page;
 use crate::pages::in_range;
+use crate::pages::link_at;
 use crate::pages::page_count;
 
 // The freed pages: their chain is followed for at most as many links as there are pages.
