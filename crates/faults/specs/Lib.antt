@@ -6,3 +6,4 @@ pub mod Assembled
 pub mod Refuted
 pub mod Repeated
 pub mod Decided
+pub mod Decidable
