@@ -72,18 +72,22 @@ module _ {A : Type 0} where
   even-ways xs ys =
       by-cases (ltb (length xs) 8)
       (λ e. by-cases (ltb 8 (length ys))
-        (λ f. let a = ltb-true (length xs) 8 e in let b = ltb-true 8 (length ys) f in
-          simp (e, f) (inr (λ (z : length xs + 1 ≡ length xs + length ys). omega arith,
-            rw (take-append-add xs ys 1, drop-append-add xs ys 1) refl)))
-        (λ f. simp (e, f) (inl (refl, refl))))
+      (λ f. let a = ltb-true (length xs) 8 e in let b = ltb-true 8 (length ys) f in
+      simp (e, f) (inr (
+        λ (z : length xs + 1 ≡ length xs + length ys). omega arith,
+        rw (take-append-add xs ys 1, drop-append-add xs ys 1) refl,
+      )))
+      (λ f. simp (e, f) (inl (refl, refl))))
       (λ e. by-cases (ltb (length ys) 8)
-        (λ f. by-cases (ltb 8 (length xs))
-          (λ g. let a = ltb-true 8 (length xs) g in let b = ltb-true (length ys) 8 f in
-            simp (e, f, g) (inr (λ (z : length xs - 1 ≡ length xs + length ys). omega arith,
-              rw (take-append-le (length xs - 1) xs ys (omega arith), drop-append-le (length xs - 1) xs ys (omega arith)) refl)))
-          (λ g. simp (e, f, g) (inl (refl, refl))))
-        (λ f. let b = ltb-false (length ys) 8 f in
-          simp (e, f) (inr (λ (z : length xs ≡ length xs + length ys). omega arith, rw (take-append-seam xs ys, drop-append-seam xs ys) refl))))
+      (λ f. by-cases (ltb 8 (length xs))
+      (λ g. let a = ltb-true 8 (length xs) g in let b = ltb-true (length ys) 8 f in
+      simp (e, f, g) (inr (
+        λ (z : length xs - 1 ≡ length xs + length ys). omega arith,
+        rw (take-append-le (length xs - 1) xs ys (omega arith), drop-append-le (length xs - 1) xs ys (omega arith)) refl,
+      )))
+      (λ g. simp (e, f, g) (inl (refl, refl))))
+      (λ f. let b = ltb-false (length ys) 8 f in
+      simp (e, f) (inr (λ (z : length xs ≡ length xs + length ys). omega arith, rw (take-append-seam xs ys, drop-append-seam xs ys) refl))))
 
   -- (n and m are the numbers of their items)
   module _ (xs ys : List A) (n m k : ℕ) (x : n ≡ length xs) (y : m ≡ length ys) (e : k ≡ evenCut n m) where

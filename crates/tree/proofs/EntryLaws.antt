@@ -41,7 +41,7 @@ taken-in {A} slots from to n c {m} l e f =
     by-cases (leb to n)
     (λ t. let h = leb-true to n t in let g : m ≡ to = omega arith in rw g (ap (λ (x : List A). drop from x) (sym (take-take to c slots (omega arith)))))
     (λ t. let h = leb-false to n t in let g : m ≡ n = omega arith in
-      rw g (ap (λ (x : List A). drop from x) (sym (take-all to (take c slots) (omega (arith, length-take c slots)) ∙ filled-is slots n c l e))))
+    rw g (ap (λ (x : List A). drop from x) (sym (take-all to (take c slots) (omega (arith, length-take c slots)) ∙ filled-is slots n c l e))))
 
 -- ---- the key of a record
 

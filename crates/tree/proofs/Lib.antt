@@ -3,3 +3,4 @@ pub mod EntryLaws
 pub mod InsertionLaws
 pub mod RootLaws
 pub mod DeletionLaws
+pub mod LookupLaws

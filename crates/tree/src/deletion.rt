@@ -3,12 +3,11 @@ ghost use mathlib.Core.Path.{_≡_};
 ghost use mathlib.Core.List.{List, [], _∷_, _++_};
 ghost use Prim.Native.Nat.{_+_, _-_, _<_, _≤_};
 ghost use lib.ListN.{take, drop, set};
-ghost use Rattle.lists.specs.Leading.{leading};
 ghost use Rattle.pagestore.specs.Store.{recordsIn, entriesIn};
 ghost use Rattle.trees.specs.Trees.{rankOf};
 ghost use Rattle.tree.specs.Held.{Held};
 ghost use Rattle.tree.specs.Deletion.{deleteRecord, leftOf, leave, mend, deleteAt, lowerRoot, takeFromTotal, deleteFrom};
-ghost use Rattle.tree.specs.CodeTerms.{otherIdent, grownList, LeftDone, deletedOf, evenedOut};
+ghost use Rattle.tree.specs.CodeTerms.{grownList, LeftDone, deletedOf, evenedOut};
 use crate::Grown;
 use crate::Left;
 use crate::entries::child_at;
@@ -25,6 +24,7 @@ use crate::items::no_entries;
 use crate::items::no_records;
 use crate::keys::filled;
 use crate::keys::record_rank;
+use crate::lookup::place_of_ident;
 use pagestore::Entry;
 use pagestore::Inner;
 use pagestore::Leaf;
@@ -41,22 +41,6 @@ use pagestore::set_root_level;
 use pagestore::set_root_page;
 use pagestore::set_total_records;
 use pagestore::total_records;
-
-// How many records of a leaf stand before the one of an identifier.
-fn place_of_ident(leaf: Leaf, id: u32) -> usize
-    ensures { λ r. ⌜ (r ≡ leading (otherIdent id) (recordsIn leaf)) × (r ≤ 16) × (r ≤ leaf .count) ⌝ }
-{
-    let n = filled(leaf.count);
-    let mut i = 0;
-    while i < n {
-        let x = leaf.records[i];
-        if x.id == id {
-            return i;
-        }
-        i += 1;
-    }
-    i
-}
 
 // The leaf without the record of an identifier.
 fn without_record(leaf: Leaf, id: u32) -> Leaf
@@ -146,7 +130,15 @@ fn even_out(index: &mut [u8], page: u32, inner: Inner, i: usize, below: u8, d: u
 }
 
 // The page after a deletion below its child at place i.
-fn mend_page(index: &mut [u8], page: u32, level: u8, inner: Inner, i: usize, left: Left, d: u8) -> Left
+fn mend_page(
+    index: &mut [u8],
+    page: u32,
+    level: u8,
+    inner: Inner,
+    i: usize,
+    left: Left,
+    d: u8,
+) -> Left
     requires { ⌜ (i ≤ 15) × (0 < level) ⌝ }
     ensures { λ r. ⌜ LeftDone (mend d (level - 1) page (entriesIn inner) i (deletedOf (now (index .entry)) left)) (now (index .exit)) r ⌝ }
 {

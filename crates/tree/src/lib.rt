@@ -8,7 +8,14 @@ mod evening;
 mod insertion;
 mod items;
 mod keys;
+mod lookup;
 mod roots;
+
+pub use deletion::delete;
+pub use lookup::find;
+pub use lookup::leaf_count;
+pub use roots::insert;
+pub use roots::pages_wanted;
 
 // Items gathered one after the other: up to 17, one more than a page holds.
 pub struct RecordList {

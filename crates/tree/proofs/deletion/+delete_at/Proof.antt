@@ -31,19 +31,19 @@ delete-at-below t =
 
 abbrev calls : ℕ → delete-at-lts.Claims
 calls t = (
-    delete-leaf-reads.Asked,
-    delete-leaf-reads.Learnt,
-    inner-at-reads.Asked,
-    inner-at-reads.Learnt,
-    choose-child-reads.Asked,
-    choose-child-reads.Learnt,
-    child-at-reads.Asked,
-    child-at-reads.Learnt,
-    delete-at-below t,
-    delete-at.Post,
-    mend-page-reads.Asked,
-    mend-page-reads.Learnt,
-  )
+  delete-leaf-reads.Asked,
+  delete-leaf-reads.Learnt,
+  inner-at-reads.Asked,
+  inner-at-reads.Learnt,
+  choose-child-reads.Asked,
+  choose-child-reads.Learnt,
+  child-at-reads.Asked,
+  child-at-reads.Learnt,
+  delete-at-below t,
+  delete-at.Post,
+  mend-page-reads.Asked,
+  mend-page-reads.Learnt,
+)
 
 delete-at-delete-leaf-requires : (t : ℕ) → delete-at-lts.Need-delete-leaf-requires (calls t) (delete-at-at t) delete-at.Post
 delete-at-delete-leaf-requires t c κs = search needs
@@ -52,7 +52,7 @@ delete-at-same-length : (t : ℕ) → delete-at-lts.Need-same-length (calls t) (
 delete-at-same-length t c = c .before .before .delete-leaf .kept .0
 
 delete-at-returns : (t : ℕ) → delete-at-lts.Need-returns (calls t) (delete-at-at t) delete-at.Post
-delete-at-returns t c =     let a = c .before .before .before .before .before .before .args in
+delete-at-returns t c = let a = c .before .before .before .before .before .before .args in
     delete-zero (a .d) (a .level) (now (a .index)) (a .page) (a .x) (c .before .before .before .before .if1 .taken) (c .before .before .delete-leaf .ensures)
 
 delete-at-inner-at-requires : (t : ℕ) → delete-at-lts.Need-inner-at-requires (calls t) (delete-at-at t) delete-at.Post
@@ -77,7 +77,7 @@ delete-at-same-length-2 : (t : ℕ) → delete-at-lts.Need-same-length-2 (calls 
 delete-at-same-length-2 t c = c .before .before .mend-page .kept .0 ∙ c .before .before .before .before .before .before .delete-at .kept .0
 
 delete-at-returns-2 : (t : ℕ) → delete-at-lts.Need-returns-2 (calls t) (delete-at-at t) delete-at.Post
-delete-at-returns-2 t c =     let a = c .before .before .before .before .before .before .before .before .before .before .before .before .before .before .args in
+delete-at-returns-2 t c = let a = c .before .before .before .before .before .before .before .before .before .before .before .before .before .before .args in
     delete-inner (a .d) (a .level) (now (a .index)) (a .page) (a .x) (c .before .before .before .before .before .before .before .before .before .before .before .before .if1 .left) (c .before .before .before .before .before .before .before .before .before .before .before .before .before .before .pre .1) (ap entriesIn (c .before .before .before .before .before .before .before .before .before .before .inner-at .ensures))
     (c .before .before .before .before .before .before .before .before .before .choose-child .ensures .0) (c .before .before .before .before .before .before .before .before .child-at .ensures) (c .before .before .before .before .before .before .delete-at .ensures) (c .before .before .mend-page .ensures)
 

@@ -38,7 +38,7 @@ same-length : tie.Need-same-length
 same-length c = search needs
 
 returns : tie.Need-returns
-returns c =     let a = c .before .before .before .before .before .before .before .before .before .before .before .before .before .before .before .before .before .before .before .before .args in
+returns c = let a = c .before .before .before .before .before .before .before .before .before .before .before .before .before .before .before .before .before .before .before .before .args in
     delete-steps (now (a .index)) (a .x) (c .before .before .before .before .before .before .before .before .before .before .before .before .before .before .before .before .before .features-of .ensures) (c .before .before .before .before .before .before .before .before .before .before .before .before .before .before .before .root-level .ensures) (c .before .before .before .before .before .before .before .before .before .before .before .before .before .root-page .ensures)
     (c .before .before .before .before .before .before .before .before .before .before .delete-at .ensures) (c .before .before .before .before .before .before .lower-root .ensures) (c .before .before .take-from-total .ensures)
 

@@ -38,7 +38,7 @@ same-length : tie.Need-same-length
 same-length c = search needs
 
 returns : tie.Need-returns
-returns c =     let a = c .before .before .before .before .before .before .before .before .before .args in
+returns c = let a = c .before .before .before .before .before .before .before .before .before .args in
     let W = c .before .before .before .before .before .without-record .ensures in
     delete-leaf (a .d) (now (a .index)) (a .page) (a .x)
     (W .items ∙ ap (λ (l : Leaf). deleteRecord (a .x .id) (recordsIn l)) (c .before .before .before .before .before .before .leaf-at .ensures))

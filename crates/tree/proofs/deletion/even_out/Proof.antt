@@ -49,7 +49,7 @@ same-length : tie.Need-same-length
 same-length c = search needs
 
 returns : tie.Need-returns
-returns c =     let a = c .before .before .before .before .before .before .before .before .before .before .before .before .before .before .args in
+returns c = let a = c .before .before .before .before .before .before .before .before .before .before .before .before .before .before .args in
     let G = c .before .before .before .before .before .before .before .before .before .before .before .before .before .before .good in
     let slots : length (a .inner .entries) ≡ 16 = search (unmapped, needs) in
     let F = c .before .before .before .before .before .before .before .before .before .before .before .before .filled in

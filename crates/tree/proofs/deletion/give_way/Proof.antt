@@ -42,7 +42,7 @@ same-length : tie.Need-same-length
 same-length c = search needs
 
 returns : tie.Need-returns
-returns c =     let a = c .before .before .before .before .before .before .before .before .before .before .before .before .before .before .before .before .args in
+returns c = let a = c .before .before .before .before .before .before .before .before .before .before .before .before .before .before .before .before .args in
     root-gives (a .level) (now (a .index)) (a .page) (c .before .before .before .before .before .before .before .before .before .before .before .before .before .before .before .before .pre) (ap entriesIn (c .before .before .before .before .before .before .before .before .before .before .before .before .before .inner-at .ensures)) (c .before .before .before .before .before .before .before .before .before .before .before .before .child-at .ensures)
     (c .before .before .before .before .before .before .before .before .before .before .set-root-page .ensures) (c .before .before .before .before .before .before .set-root-level .ensures) (c .before .before .free-page .ensures)
 

@@ -31,7 +31,7 @@ same-length : tie.Need-same-length
 same-length c = search needs
 
 returns : tie.Need-returns
-returns c =     let a = c .before .before .before .before .before .before .before .args in
+returns c = let a = c .before .before .before .before .before .before .before .args in
     let G = c .before .before .before .before .before .before .before .good in
     let slots : length (a .inner .entries) ≡ 16 = search (unmapped, needs) in
     leave-is (a .inner .level) (now (a .index)) (a .page) (take (a .inner .count) (a .inner .entries)) (c .before .before .before .before .set-inner .ensures) (c .before .inner-entry .ensures)

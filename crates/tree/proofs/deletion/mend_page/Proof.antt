@@ -27,7 +27,7 @@ same-length : tie.Need-same-length
 same-length c = search needs
 
 returns : tie.Need-returns
-returns c =     let a = c .before .before .before .before .before .before .before .before .before .args in
+returns c = let a = c .before .before .before .before .before .before .before .before .before .args in
     let W = c .before .before .before .before .before .before .with-entry .ensures in
     mend-whole (a .d) (a .level) (now (a .index)) (a .page) (take (a .inner .count) (a .inner .entries)) (a .i) (a .left) (c .before .before .before .before .before .before .before .before .before .pre .1) (W .0) (W .1) (c .before .before .before .before .if1 .taken) (c .before .before .leave-page .ensures)
 
@@ -41,7 +41,7 @@ same-length-2 : tie.Need-same-length-2
 same-length-2 c = search needs
 
 returns-2 : tie.Need-returns-2
-returns-2 c =     let a = c .before .before .before .before .before .before .before .before .before .args in
+returns-2 c = let a = c .before .before .before .before .before .before .before .before .before .args in
     let W = c .before .before .before .before .before .before .with-entry .ensures in
     mend-evened (a .d) (a .level) (now (a .index)) (a .page) (take (a .inner .count) (a .inner .entries)) (a .i) (a .left) (c .before .before .before .before .before .before .before .before .before .pre .1) (W .0) (W .1) (c .before .before .before .before .if1 .left) (c .before .before .even-out .ensures)
 

@@ -29,7 +29,7 @@ add-entries-requires : tie.Need-add-entries-requires
 add-entries-requires c κs = search needs
 
 push-grown-requires : tie.Need-push-grown-requires
-push-grown-requires c κs =     let a = c .before .before .before .args in
+push-grown-requires c κs = let a = c .before .before .before .args in
     let G = c .before .before .before .good in
     let slots : length (a .t1 .entries) ≡ 16 = search (unmapped, needs) in
     let es = take (a .t1 .count) (a .t1 .entries) in
@@ -45,7 +45,7 @@ add-add-entries : tie.Need-add-add-entries
 add-add-entries c = search needs
 
 add-entries-requires-2 : tie.Need-add-entries-requires-2
-add-entries-requires-2 c κs =     let a = c .before .before .before .before .args in
+add-entries-requires-2 c κs = let a = c .before .before .before .before .args in
     let G = c .before .before .before .before .good in
     let slots : length (a .t1 .entries) ≡ 16 = search (unmapped, needs) in
     let es = take (a .t1 .count) (a .t1 .entries) in
@@ -60,7 +60,7 @@ add-entries-requires-2 c κs =     let a = c .before .before .before .before .ar
     (omega arith, omega arith)
 
 inner-of-requires : tie.Need-inner-of-requires
-inner-of-requires c κs =     let a = c .before .before .before .before .before .args in
+inner-of-requires c κs = let a = c .before .before .before .before .before .args in
     let G = c .before .before .before .before .before .good in
     let slots : length (a .t1 .entries) ≡ 16 = search (unmapped, needs) in
     let es = take (a .t1 .count) (a .t1 .entries) in
@@ -80,7 +80,7 @@ inner-of-requires c κs =     let a = c .before .before .before .before .before 
     (omega arith, omega arith, omega arith, omega arith)
 
 returns : tie.Need-returns
-returns c =     let a = c .before .before .before .before .before .before .args in
+returns c = let a = c .before .before .before .before .before .before .args in
     let G = c .before .before .before .before .before .before .good in
     let slots : length (a .t1 .entries) ≡ 16 = search (unmapped, needs) in
     let es = take (a .t1 .count) (a .t1 .entries) in
@@ -93,9 +93,11 @@ returns c =     let a = c .before .before .before .before .before .before .args 
     let g = held-then (grownList (a .grown)) h (c .before .before .push-grown .ensures) in
     let f = g .count ∙ length-append (take (a .j) es) (grownList (a .grown)) in
     let k = held-then _ g (c .before .add-entries2 .ensures) in
-    let w : take 16 es ≡ es = take-all 16 es (omega arith) in
-    (c .inner-of .ensures .0, held-is (c .inner-of .ensures .1) (held-whole k ∙ append-assoc (take (a .j) es) (grownList (a .grown)) (slice (a .j + 2) 16 es)
-    ∙ rw w))
+    let w : take 16 es ≡ es = take-all 16 es (omega arith) in (
+      c .inner-of .ensures .0,
+      held-is (c .inner-of .ensures .1) (held-whole k ∙ append-assoc (take (a .j) es) (grownList (a .grown)) (slice (a .j + 2) 16 es)
+          ∙ rw w),
+    )
 
 pub replace-pair-spec : {M : Type 1} → statement M
 replace-pair-spec =

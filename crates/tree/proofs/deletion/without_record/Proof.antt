@@ -13,7 +13,7 @@ use Rattle.tree.proofs.deletion.without_record.Statement.{statement}
 use Rattle.tree.proofs.deletion.without_record.Tie as tie
 use Rattle.tree.proofs.deletion.without_record.Reads as reads
 use Rattle.tree.proofs.deletion.without_record.Lts as lts
-use Rattle.tree.proofs.deletion.place_of_ident.Reads as place-of-ident-reads
+use Rattle.tree.proofs.lookup.place_of_ident.Reads as place-of-ident-reads
 use Rattle.tree.proofs.items.add_records.Reads as add-records-reads
 use Rattle.tree.proofs.items.leaf_of.Reads as leaf-of-reads
 use Rattle.tree.proofs.items.no_records.Reads as no-records-reads
@@ -34,7 +34,7 @@ add-add-records : tie.Need-add-add-records
 add-add-records c = search needs
 
 add-records-requires-2 : tie.Need-add-records-requires-2
-add-records-requires-2 c κs =     let a = c .before .before .before .before .args in
+add-records-requires-2 c κs = let a = c .before .before .before .before .args in
     let G = c .before .before .before .before .good in
     let slots : length (a .t1 .records) ≡ 16 = search (unmapped, needs) in
     let P = c .before .before .before .place-of-ident in
@@ -46,7 +46,7 @@ add-records-requires-2 c κs =     let a = c .before .before .before .before .ar
     (omega (arith, P .ensures .1), omega (arith, P .ensures .1))
 
 leaf-of-requires : tie.Need-leaf-of-requires
-leaf-of-requires c κs =     let a = c .before .before .before .before .before .args in
+leaf-of-requires c κs = let a = c .before .before .before .before .before .args in
     let G = c .before .before .before .before .before .good in
     let slots : length (a .t1 .records) ≡ 16 = search (unmapped, needs) in
     let P = c .before .before .before .before .place-of-ident in
@@ -62,7 +62,7 @@ leaf-of-requires c κs =     let a = c .before .before .before .before .before .
     (omega arith, omega arith, omega arith, omega arith)
 
 returns : tie.Need-returns
-returns c =     let a = c .before .before .before .before .before .before .args in
+returns c = let a = c .before .before .before .before .before .before .args in
     let G = c .before .before .before .before .before .before .good in
     let slots : length (a .t1 .records) ≡ 16 = search (unmapped, needs) in
     let P = c .before .before .before .before .before .place-of-ident in

@@ -22,7 +22,7 @@ returns : tie.Need-returns
 returns c = let S = (c .before .before .before) in let F = c .before .before .filled in child-in (S .args .t1 .entries) (F .result) (S .args .t1 .count) (S .args .i) (F .ensures) (c .before .if1 .taken)
 
 returns-2 : tie.Need-returns-2
-returns-2 c =     let S = (c .before .before) in
+returns-2 c = let S = (c .before .before) in
     let F = c .before .filled in
     let slots : length (S .args .t1 .entries) ≡ 16 = search (unmapped, needs) in
     child-out (S .args .t1 .entries) (F .result) (S .args .t1 .count) (S .args .i) slots (F .ensures) (c .if1 .left)

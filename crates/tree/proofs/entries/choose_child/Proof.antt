@@ -26,7 +26,7 @@ filled-requires : tie.Need-filled-requires Inv-loop μ-loop
 filled-requires c κs = search needs
 
 loop-holds : tie.Need-loop-holds Inv-loop μ-loop
-loop-holds c =     let S = (c .before) in
+loop-holds c = let S = (c .before) in
     let slots : length (S .args .t1 .entries) ≡ 16 = search (unmapped, needs) in
     (c .filled .ensures, slots, refl, search needs, search needs, choose-start (S .args .rank) (take (S .args .t1 .count) (S .args .t1 .entries)))
 
@@ -40,11 +40,14 @@ key-number-requires : tie.Need-key-number-requires Inv-loop μ-loop
 key-number-requires c κs = search needs
 
 returns : tie.Need-returns Inv-loop μ-loop
-returns c =     let S = (c .before .before .before .before .before .before) in
+returns c = let S = (c .before .before .before .before .before .before) in
     let L = c .before .before .before .before .loop in
-    let K = c .before .key-number in
-    (leading-stop (lowFirst (S .args .rank)) noEntry (S .args .t1 .entries) (S .args .t1 .count) _ (L .at) (L .i) (L .inv .5) (omega arith) (omega arith)
-    (lt-leb _ (S .args .rank) (omega (arith, K .ensures, c .if1 .taken))), L .inv .3, omega arith)
+    let K = c .before .key-number in (
+      leading-stop (lowFirst (S .args .rank)) noEntry (S .args .t1 .entries) (S .args .t1 .count) _ (L .at) (L .i) (L .inv .5) (omega arith) (omega arith)
+          (lt-leb _ (S .args .rank) (omega (arith, K .ensures, c .if1 .taken))),
+      L .inv .3,
+      omega arith,
+    )
 
 add-i : tie.Need-add-i Inv-loop μ-loop
 add-i c = search needs
@@ -53,18 +56,27 @@ loop-less : tie.Need-loop-less Inv-loop μ-loop
 loop-less c = search needs
 
 loop-again : tie.Need-loop-again Inv-loop μ-loop
-loop-again c =     let S = (c .before .before .before .before .before .before) in
+loop-again c = let S = (c .before .before .before .before .before .before) in
     let L = c .before .before .before .before .loop in
     let K = c .before .key-number in
-    let N = c .before .before .before .loop-test in
-    (L .inv .0, L .inv .1, refl, omega arith, omega arith, rw (L .inv .2) at (leading-step (lowFirst (S .args .rank)) noEntry (S .args .t1 .entries) (S .args .t1 .count) _ (L .at) (L .i) (L .inv .5) (omega arith) (omega arith)
-    (le-leb _ (S .args .rank) (omega (arith, K .ensures, c .if1 .left)))))
+    let N = c .before .before .before .loop-test in (
+      L .inv .0,
+      L .inv .1,
+      refl,
+      omega arith,
+      omega arith,
+      rw (L .inv .2) at (leading-step (lowFirst (S .args .rank)) noEntry (S .args .t1 .entries) (S .args .t1 .count) _ (L .at) (L .i) (L .inv .5) (omega arith) (omega arith)
+          (le-leb _ (S .args .rank) (omega (arith, K .ensures, c .if1 .left)))),
+    )
 
 returns-2 : tie.Need-returns-2 Inv-loop μ-loop
-returns-2 c =     let S = (c .before .before .before) in
-    let L = c .before .loop in
-    (leading-end (lowFirst (S .args .rank)) noEntry (S .args .t1 .entries) (S .args .t1 .count) _ (L .at) (L .i) (L .inv .5)
-    (omega (arith, length-filled (S .args .t1 .entries) _ (S .args .t1 .count) (L .inv .1) (L .inv .0))), L .inv .3, omega arith)
+returns-2 c = let S = (c .before .before .before) in
+    let L = c .before .loop in (
+      leading-end (lowFirst (S .args .rank)) noEntry (S .args .t1 .entries) (S .args .t1 .count) _ (L .at) (L .i) (L .inv .5)
+          (omega (arith, length-filled (S .args .t1 .entries) _ (S .args .t1 .count) (L .inv .1) (L .inv .0))),
+      L .inv .3,
+      omega arith,
+    )
 
 pub choose-child-spec : {M : Type 1} → statement M
 choose-child-spec =

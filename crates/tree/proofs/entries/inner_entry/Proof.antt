@@ -18,7 +18,7 @@ bare-entry-requires : tie.Need-bare-entry-requires
 bare-entry-requires c κs = search needs
 
 returns : tie.Need-returns
-returns c =     let S = (c .before .before .before) in
+returns c = let S = (c .before .before .before) in
     let F = c .before .before .filled in
     let slots : length (S .args .t2 .entries) ≡ 16 = search (unmapped, needs) in
     c .bare-entry .ensures ∙ inner-bare (S .args .page) (F .result) (S .args .t2 .count) (S .args .t2 .entries) slots (F .ensures) (c .before .if1 .taken)
@@ -36,7 +36,7 @@ element-copy-out-z : tie.Need-element-copy-out-z
 element-copy-out-z c = search needs
 
 returns-2 : tie.Need-returns-2
-returns-2 c =     let S = (c .before .before .before .before .before .before) in
+returns-2 c = let S = (c .before .before .before .before .before .before) in
     let F = c .before .before .before .before .before .filled in
     let slots : length (S .args .t2 .entries) ≡ 16 = search (unmapped, needs) in
     let z = c .before .before .before .before .if1 .left in

@@ -27,14 +27,14 @@ add-entries-requires : tie.Need-add-entries-requires
 add-entries-requires c κs = search needs
 
 sub-add-entries : tie.Need-sub-add-entries
-sub-add-entries c =     let a = c .before .before .before .before .args in
+sub-add-entries c = let a = c .before .before .before .before .args in
     let xs = take (a .t1 .count) (a .t1 .entries) in
     let ys = take (a .b .count) (a .b .entries) in
     let h = held-then _ (c .before .before .no-entries .ensures) (c .before .add-entries .ensures) in
     omega (arith, h .count, length-take (a .k) xs)
 
 add-entries-requires-2 : tie.Need-add-entries-requires-2
-add-entries-requires-2 c κs =     let a = c .before .before .before .before .args in
+add-entries-requires-2 c κs = let a = c .before .before .before .before .args in
     let xs = take (a .t1 .count) (a .t1 .entries) in
     let ys = take (a .b .count) (a .b .entries) in
     let h = held-then _ (c .before .before .no-entries .ensures) (c .before .add-entries .ensures) in
@@ -44,7 +44,7 @@ add-entries-requires-2 c κs =     let a = c .before .before .before .before .ar
     (omega arith, omega arith)
 
 inner-of-requires : tie.Need-inner-of-requires
-inner-of-requires c κs =     let a = c .before .before .before .before .before .args in
+inner-of-requires c κs = let a = c .before .before .before .before .before .args in
     let xs = take (a .t1 .count) (a .t1 .entries) in
     let ys = take (a .b .count) (a .b .entries) in
     let h = held-then _ (c .before .before .before .no-entries .ensures) (c .before .before .add-entries .ensures) in
@@ -57,7 +57,7 @@ inner-of-requires c κs =     let a = c .before .before .before .before .before 
     (omega arith, omega arith, omega arith, omega arith)
 
 returns : tie.Need-returns
-returns c =     let a = c .before .before .before .before .before .before .args in
+returns c = let a = c .before .before .before .before .before .before .args in
     let xs = take (a .t1 .count) (a .t1 .entries) in
     let ys = take (a .b .count) (a .b .entries) in
     let h = held-then _ (c .before .before .before .before .no-entries .ensures) (c .before .before .before .add-entries .ensures) in

@@ -27,14 +27,14 @@ add-records-requires : tie.Need-add-records-requires
 add-records-requires c κs = search needs
 
 sub-add-records : tie.Need-sub-add-records
-sub-add-records c =     let a = c .before .before .before .before .args in
+sub-add-records c = let a = c .before .before .before .before .args in
     let xs = take (a .t1 .count) (a .t1 .records) in
     let ys = take (a .b .count) (a .b .records) in
     let h = held-then _ (c .before .before .no-records .ensures) (c .before .add-records .ensures) in
     omega (arith, h .count, length-take (a .k) xs)
 
 add-records-requires-2 : tie.Need-add-records-requires-2
-add-records-requires-2 c κs =     let a = c .before .before .before .before .args in
+add-records-requires-2 c κs = let a = c .before .before .before .before .args in
     let xs = take (a .t1 .count) (a .t1 .records) in
     let ys = take (a .b .count) (a .b .records) in
     let h = held-then _ (c .before .before .no-records .ensures) (c .before .add-records .ensures) in
@@ -44,7 +44,7 @@ add-records-requires-2 c κs =     let a = c .before .before .before .before .ar
     (omega arith, omega arith)
 
 leaf-of-requires : tie.Need-leaf-of-requires
-leaf-of-requires c κs =     let a = c .before .before .before .before .before .args in
+leaf-of-requires c κs = let a = c .before .before .before .before .before .args in
     let xs = take (a .t1 .count) (a .t1 .records) in
     let ys = take (a .b .count) (a .b .records) in
     let h = held-then _ (c .before .before .before .no-records .ensures) (c .before .before .add-records .ensures) in
@@ -57,7 +57,7 @@ leaf-of-requires c κs =     let a = c .before .before .before .before .before .
     (omega arith, omega arith, omega arith, omega arith)
 
 returns : tie.Need-returns
-returns c =     let a = c .before .before .before .before .before .before .args in
+returns c = let a = c .before .before .before .before .before .before .args in
     let xs = take (a .t1 .count) (a .t1 .records) in
     let ys = take (a .b .count) (a .b .records) in
     let h = held-then _ (c .before .before .before .before .no-records .ensures) (c .before .before .before .add-records .ensures) in

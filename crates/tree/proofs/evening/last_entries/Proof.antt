@@ -36,7 +36,7 @@ beyond-requires : tie.Need-beyond-requires
 beyond-requires c κs = search needs
 
 add-entries-requires-2 : tie.Need-add-entries-requires-2
-add-entries-requires-2 c κs =     let a = c .before .before .before .before .before .args in
+add-entries-requires-2 c κs = let a = c .before .before .before .before .before .args in
     let G = c .before .before .before .before .before .good in
     let s1 : length (a .t1 .entries) ≡ 16 = search (unmapped, needs) in
     let s2 : length (a .b .entries) ≡ 16 = search (unmapped, needs) in
@@ -53,7 +53,7 @@ add-entries-requires-2 c κs =     let a = c .before .before .before .before .be
     (omega (arith, p .0), omega (arith, p .0))
 
 inner-of-requires : tie.Need-inner-of-requires
-inner-of-requires c κs =     let a = c .before .before .before .before .before .before .args in
+inner-of-requires c κs = let a = c .before .before .before .before .before .before .args in
     let G = c .before .before .before .before .before .before .good in
     let s1 : length (a .t1 .entries) ≡ 16 = search (unmapped, needs) in
     let s2 : length (a .b .entries) ≡ 16 = search (unmapped, needs) in
@@ -75,7 +75,7 @@ inner-of-requires c κs =     let a = c .before .before .before .before .before 
     (omega arith, omega arith, omega (arith, q, r), omega (arith, q, r))
 
 returns : tie.Need-returns
-returns c =     let a = c .before .before .before .before .before .before .before .args in
+returns c = let a = c .before .before .before .before .before .before .before .args in
     let G = c .before .before .before .before .before .before .before .good in
     let s1 : length (a .t1 .entries) ≡ 16 = search (unmapped, needs) in
     let s2 : length (a .b .entries) ≡ 16 = search (unmapped, needs) in

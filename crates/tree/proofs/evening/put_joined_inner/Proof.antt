@@ -33,7 +33,7 @@ same-length : tie.Need-same-length
 same-length c = search needs
 
 returns : tie.Need-returns
-returns c =     let a = c .before .before .before .before .before .before .before .before .before .before .args in
+returns c = let a = c .before .before .before .before .before .before .before .before .before .before .args in
     put-joined (writeInner (a .items .level)) innerEntry (now (a .index)) (a .p) (a .q) (c .before .before .before .before .before .before .before .set-inner .ensures) (c .before .before .before .free-page .ensures) (c .inner-entry .ensures)
 
 pub put-joined-inner-spec : {M : Type 1} → statement M

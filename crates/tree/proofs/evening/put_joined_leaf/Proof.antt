@@ -33,7 +33,7 @@ same-length : tie.Need-same-length
 same-length c = search needs
 
 returns : tie.Need-returns
-returns c =     let a = c .before .before .before .before .before .before .before .before .before .before .args in
+returns c = let a = c .before .before .before .before .before .before .before .before .before .before .args in
     put-joined setLeaf (leafEntry (a .d)) (now (a .index)) (a .p) (a .q) (c .before .before .before .before .before .before .before .set-leaf .ensures) (c .before .before .before .free-page .ensures) (c .leaf-entry .ensures)
 
 pub put-joined-leaf-spec : {M : Type 1} → statement M

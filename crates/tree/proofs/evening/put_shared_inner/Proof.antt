@@ -36,7 +36,7 @@ same-length : tie.Need-same-length
 same-length c = search needs
 
 returns : tie.Need-returns
-returns c =     let a = c .before .before .before .before .before .before .before .before .before .before .before .args in
+returns c = let a = c .before .before .before .before .before .before .before .before .before .before .before .args in
     put-shared (writeInner (a .low .level)) innerEntry (now (a .index)) (a .p) (a .q) (c .before .before .before .before .before .before .before .before .set-inner .ensures) (level-is _ _ _ (a .low .level) _ (c .before .before .before .before .before .before .before .before .before .before .before .pre) (c .before .before .before .before .set-inner2 .ensures)) (c .before .inner-entry .ensures) (c .inner-entry2 .ensures)
 
 pub put-shared-inner-spec : {M : Type 1} → statement M

@@ -36,7 +36,7 @@ same-length : tie.Need-same-length
 same-length c = search needs
 
 returns : tie.Need-returns
-returns c =     let a = c .before .before .before .before .before .before .before .before .before .before .before .args in
+returns c = let a = c .before .before .before .before .before .before .before .before .before .before .before .args in
     put-shared setLeaf (leafEntry (a .d)) (now (a .index)) (a .p) (a .q) (c .before .before .before .before .before .before .before .before .set-leaf .ensures) (c .before .before .before .before .set-leaf2 .ensures) (c .before .leaf-entry .ensures) (c .leaf-entry2 .ensures)
 
 pub put-shared-leaf-spec : {M : Type 1} → statement M

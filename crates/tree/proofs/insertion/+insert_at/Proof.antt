@@ -31,19 +31,19 @@ insert-at-below t =
 
 abbrev calls : ℕ → insert-at-lts.Claims
 calls t = (
-    insert-leaf-reads.Asked,
-    insert-leaf-reads.Learnt,
-    inner-at-reads.Asked,
-    inner-at-reads.Learnt,
-    choose-child-reads.Asked,
-    choose-child-reads.Learnt,
-    child-at-reads.Asked,
-    child-at-reads.Learnt,
-    insert-at-below t,
-    insert-at.Post,
-    put-inner-reads.Asked,
-    put-inner-reads.Learnt,
-  )
+  insert-leaf-reads.Asked,
+  insert-leaf-reads.Learnt,
+  inner-at-reads.Asked,
+  inner-at-reads.Learnt,
+  choose-child-reads.Asked,
+  choose-child-reads.Learnt,
+  child-at-reads.Asked,
+  child-at-reads.Learnt,
+  insert-at-below t,
+  insert-at.Post,
+  put-inner-reads.Asked,
+  put-inner-reads.Learnt,
+)
 
 insert-at-insert-leaf-requires : (t : ℕ) → insert-at-lts.Need-insert-leaf-requires (calls t) (insert-at-at t) insert-at.Post
 insert-at-insert-leaf-requires t c κs = c .before .before .before .pre .1
@@ -52,7 +52,7 @@ insert-at-same-length : (t : ℕ) → insert-at-lts.Need-same-length (calls t) (
 insert-at-same-length t c = c .before .before .insert-leaf .kept .0
 
 insert-at-returns : (t : ℕ) → insert-at-lts.Need-returns (calls t) (insert-at-at t) insert-at.Post
-insert-at-returns t c =     let a = c .before .before .before .before .before .before .args in
+insert-at-returns t c = let a = c .before .before .before .before .before .before .args in
     level-zero (a .d) (a .level) (now (a .index)) (a .page) (a .x) (c .before .before .before .before .if1 .taken) (c .before .before .insert-leaf .ensures)
 
 insert-at-inner-at-requires : (t : ℕ) → insert-at-lts.Need-inner-at-requires (calls t) (insert-at-at t) insert-at.Post
@@ -77,7 +77,7 @@ insert-at-same-length-2 : (t : ℕ) → insert-at-lts.Need-same-length-2 (calls 
 insert-at-same-length-2 t c = c .before .before .put-inner .kept .0 ∙ c .before .before .before .before .before .before .insert-at .kept .0
 
 insert-at-returns-2 : (t : ℕ) → insert-at-lts.Need-returns-2 (calls t) (insert-at-at t) insert-at.Post
-insert-at-returns-2 t c =     let a = c .before .before .before .before .before .before .before .before .before .before .before .before .before .before .args in
+insert-at-returns-2 t c = let a = c .before .before .before .before .before .before .before .before .before .before .before .before .before .before .args in
     inner-step (a .d) (a .level) (now (a .index)) (a .page) (a .x) (c .before .before .before .before .before .before .before .before .before .before .before .before .if1 .left) (c .before .before .before .before .before .before .before .before .before .before .before .before .before .before .pre .1) (ap entriesIn (c .before .before .before .before .before .before .before .before .before .before .inner-at .ensures))
     (c .before .before .before .before .before .before .before .before .before .choose-child .ensures .0) (c .before .before .before .before .before .before .before .before .child-at .ensures) (c .before .before .before .before .before .before .insert-at .ensures) (c .before .before .put-inner .ensures)
 

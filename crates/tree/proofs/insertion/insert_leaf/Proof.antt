@@ -24,7 +24,7 @@ insert-record-requires : tie.Need-insert-record-requires
 insert-record-requires c κs = search needs
 
 put-records-requires : tie.Need-put-records-requires
-put-records-requires c κs =     let I = c .before .insert-record in
+put-records-requires c κs = let I = c .before .insert-record in
     let g = I .ok in
     let slots : length (I .result .items) ≡ 17 = search (unmapped, needs) in
     omega (arith, held-most (I .ensures))
@@ -33,7 +33,7 @@ same-length : tie.Need-same-length
 same-length c = search needs
 
 returns : tie.Need-returns
-returns c =     let a = c .before .before .before .before .before .before .before .before .args in
+returns c = let a = c .before .before .before .before .before .before .before .before .args in
     leaf-step (a .d) (now (a .index)) (a .page) (a .x)
     (c .before .before .before .before .insert-record .ensures .items ∙ ap (λ (l : Leaf). insertRecord (a .d) (a .x) (recordsIn l)) (c .before .before .before .before .before .leaf-at .ensures))
     (c .before .before .put-records .ensures)

@@ -31,7 +31,7 @@ append-records-requires : tie.Need-append-records-requires
 append-records-requires c κs = search needs
 
 push-record-requires : tie.Need-push-record-requires
-push-record-requires c κs =     let a = c .before .before .before .before .args in
+push-record-requires c κs = let a = c .before .before .before .before .args in
     let N = c .before .no-records in
     let A = c .append-records in
     let P = c .before .before .place-of in
@@ -39,7 +39,7 @@ push-record-requires c κs =     let a = c .before .before .before .before .args
     omega (arith, h .count, length-take (P .result) (a .leaf .records), P .ensures .1)
 
 append-records-requires-2 : tie.Need-append-records-requires-2
-append-records-requires-2 c κs =     let a = c .before .before .before .before .before .args in
+append-records-requires-2 c κs = let a = c .before .before .before .before .before .args in
     let N = c .before .before .no-records in
     let A = c .before .append-records in
     let P = c .before .before .before .place-of in
@@ -50,7 +50,7 @@ append-records-requires-2 c κs =     let a = c .before .before .before .before 
     (omega (arith, length-take (P .result) (a .leaf .records), P .ensures .1), omega arith, omega (arith, length-take (P .result) (a .leaf .records), P .ensures .1))
 
 returns : tie.Need-returns
-returns c =     let a = c .before .before .before .before .before .before .args in
+returns c = let a = c .before .before .before .before .before .before .args in
     let G = c .before .before .before .before .before .before .good in
     let slots : length (a .leaf .records) ≡ 16 = search (unmapped, needs) in
     let N = c .before .before .before .no-records in

@@ -28,7 +28,7 @@ filled-requires : tie.Need-filled-requires Inv-loop μ-loop
 filled-requires c κs = search needs
 
 loop-holds : tie.Need-loop-holds Inv-loop μ-loop
-loop-holds c =     let S = (c .before) in
+loop-holds c = let S = (c .before) in
     let slots : length (S .args .t1 .records) ≡ 16 = search (unmapped, needs) in
     (c .filled .ensures, slots, search needs, omega arith)
 
@@ -42,11 +42,14 @@ record-rank-requires : tie.Need-record-rank-requires Inv-loop μ-loop
 record-rank-requires c κs = search needs
 
 returns : tie.Need-returns Inv-loop μ-loop
-returns c =     let S = (c .before .before .before .before .before .before) in
+returns c = let S = (c .before .before .before .before .before .before) in
     let L = c .before .before .before .before .loop in
-    let K = c .before .record-rank in
-    (leading-stop (rankBelow (S .args .d) (S .args .rank)) (record { id = 0; coords = [] }) (S .args .t1 .records) (S .args .t1 .count) _ (L .i) (L .i) (L .inv .3) (omega arith) (omega arith)
-    (le-ltb _ (S .args .rank) (omega (arith, K .ensures, c .if1 .taken))), omega arith, omega arith)
+    let K = c .before .record-rank in (
+      leading-stop (rankBelow (S .args .d) (S .args .rank)) (record { id = 0; coords = [] }) (S .args .t1 .records) (S .args .t1 .count) _ (L .i) (L .i) (L .inv .3) (omega arith) (omega arith)
+          (le-ltb _ (S .args .rank) (omega (arith, K .ensures, c .if1 .taken))),
+      omega arith,
+      omega arith,
+    )
 
 add-i : tie.Need-add-i Inv-loop μ-loop
 add-i c = search needs
@@ -55,18 +58,24 @@ loop-less : tie.Need-loop-less Inv-loop μ-loop
 loop-less c = search needs
 
 loop-again : tie.Need-loop-again Inv-loop μ-loop
-loop-again c =     let S = (c .before .before .before .before .before .before) in
+loop-again c = let S = (c .before .before .before .before .before .before) in
     let L = c .before .before .before .before .loop in
-    let K = c .before .record-rank in
-    (L .inv .0, L .inv .1, omega arith,
-    leading-step (rankBelow (S .args .d) (S .args .rank)) (record { id = 0; coords = [] }) (S .args .t1 .records) (S .args .t1 .count) _ (L .i) (L .i) (L .inv .3) (omega arith) (omega arith)
-    (lt-ltb _ (S .args .rank) (omega (arith, K .ensures, c .if1 .left))))
+    let K = c .before .record-rank in (
+      L .inv .0,
+      L .inv .1,
+      omega arith,
+      leading-step (rankBelow (S .args .d) (S .args .rank)) (record { id = 0; coords = [] }) (S .args .t1 .records) (S .args .t1 .count) _ (L .i) (L .i) (L .inv .3) (omega arith) (omega arith)
+          (lt-ltb _ (S .args .rank) (omega (arith, K .ensures, c .if1 .left))),
+    )
 
 returns-2 : tie.Need-returns-2 Inv-loop μ-loop
-returns-2 c =     let S = (c .before .before .before) in
-    let L = c .before .loop in
-    (leading-end (rankBelow (S .args .d) (S .args .rank)) noRecord (S .args .t1 .records) (S .args .t1 .count) _ (L .i) (L .i) (L .inv .3)
-    (omega (arith, length-filled (S .args .t1 .records) _ (S .args .t1 .count) (L .inv .1) (L .inv .0))), omega arith, omega arith)
+returns-2 c = let S = (c .before .before .before) in
+    let L = c .before .loop in (
+      leading-end (rankBelow (S .args .d) (S .args .rank)) noRecord (S .args .t1 .records) (S .args .t1 .count) _ (L .i) (L .i) (L .inv .3)
+          (omega (arith, length-filled (S .args .t1 .records) _ (S .args .t1 .count) (L .inv .1) (L .inv .0))),
+      omega arith,
+      omega arith,
+    )
 
 pub place-of-spec : {M : Type 1} → statement M
 place-of-spec =

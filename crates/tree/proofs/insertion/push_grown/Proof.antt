@@ -24,7 +24,7 @@ push-entry-requires-2 : tie.Need-push-entry-requires-2
 push-entry-requires-2 c κs = search needs
 
 push-entry-requires-3 : tie.Need-push-entry-requires-3
-push-entry-requires-3 c κs =     let P = c .push-entry2 in
+push-entry-requires-3 c κs = let P = c .push-entry2 in
     let a = c .before .before .before .before .args in
     omega (arith, simp length-append at (P .ensures .count), length-take (a .all .count) (a .all .items))
 
@@ -32,7 +32,7 @@ returns : tie.Need-returns
 returns c = rw (c .before .before .grown .given .1) (c .push-entry .ensures)
 
 returns-2 : tie.Need-returns-2
-returns-2 c =     let a = c .before .before .before .before .before .args in
+returns-2 c = let a = c .before .before .before .before .before .args in
     rw (c .before .before .before .grown2 .given .1) (held-is (held-then _ (c .before .push-entry2 .ensures) (c .push-entry3 .ensures)) (append-assoc (heldEntries (a .all)) _ _))
 
 pub push-grown-spec : {M : Type 1} → statement M

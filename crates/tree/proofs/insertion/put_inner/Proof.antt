@@ -16,7 +16,7 @@ replace-grown-requires : tie.Need-replace-grown-requires
 replace-grown-requires c κs = search needs
 
 put-entries-requires : tie.Need-put-entries-requires
-put-entries-requires c κs =     let I = c .before .replace-grown in
+put-entries-requires c κs = let I = c .before .replace-grown in
     let g = I .ok in
     let slots : length (I .result .items) ≡ 17 = search (unmapped, needs) in
     omega (arith, held-most (I .ensures))

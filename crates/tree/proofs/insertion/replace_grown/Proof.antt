@@ -31,7 +31,7 @@ append-entries-requires : tie.Need-append-entries-requires
 append-entries-requires c κs = search needs
 
 push-grown-requires : tie.Need-push-grown-requires
-push-grown-requires c κs =     let a = c .before .before .before .before .args in
+push-grown-requires c κs = let a = c .before .before .before .before .args in
     let A = c .append-entries in
     let h : Held (A .result .count) (A .result .items) ([] ++ slice 0 (a .i) (a .t1 .entries)) = held-then _ (c .before .no-entries .ensures) (A .ensures) in
     omega (arith, h .count, length-take (a .i) (a .t1 .entries), c .before .before .before .before .pre .0)
@@ -40,7 +40,7 @@ add-append-entries : tie.Need-add-append-entries
 add-append-entries c = search needs
 
 append-entries-requires-2 : tie.Need-append-entries-requires-2
-append-entries-requires-2 c κs =     let a = c .before .before .before .before .before .args in
+append-entries-requires-2 c κs = let a = c .before .before .before .before .before .args in
     let A = c .before .append-entries in
     let h : Held (A .result .count) (A .result .items) ([] ++ slice 0 (a .i) (a .t1 .entries)) = held-then _ (c .before .before .no-entries .ensures) (A .ensures) in
     let g = held-then (grownList (a .grown)) h (c .push-grown .ensures) in
@@ -52,7 +52,7 @@ append-entries-requires-2 c κs =     let a = c .before .before .before .before 
     (omega arith, omega arith, omega arith)
 
 returns : tie.Need-returns
-returns c =     let a = c .before .before .before .before .before .before .args in
+returns c = let a = c .before .before .before .before .before .before .args in
     let G = c .before .before .before .before .before .before .good in
     let slots : length (a .t1 .entries) ≡ 16 = search (unmapped, needs) in
     let A = c .before .before .append-entries in

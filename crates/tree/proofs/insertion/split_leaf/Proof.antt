@@ -43,7 +43,7 @@ same-length : tie.Need-same-length
 same-length c = c .before .before .before .before .set-leaf2 .kept .0 ∙ c .before .before .before .before .before .before .before .before .set-leaf .kept .0 ∙ c .before .before .before .before .before .before .before .before .before .before .before .before .take-page .kept .0
 
 returns : tie.Need-returns
-returns c =     let a = c .before .before .before .before .before .before .before .before .before .before .before .before .before .before .before .before .before .args in
+returns c = let a = c .before .before .before .before .before .before .before .before .before .before .before .before .before .before .before .before .before .args in
     let g = c .before .before .before .before .before .before .before .before .before .before .before .before .before .before .before .before .before .good in
     let slots : length (a .all .items) ≡ 17 = search (unmapped, needs) in
     let T = c .before .before .before .before .before .before .before .before .before .before .before .before .take-page in

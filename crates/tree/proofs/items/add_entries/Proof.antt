@@ -29,7 +29,7 @@ append-entries-requires : tie.Need-append-entries-requires
 append-entries-requires c κs = search needs
 
 returns : tie.Need-returns
-returns c =     let a = c .before .before .before .args in
+returns c = let a = c .before .before .before .args in
     let G = c .before .before .before .good in
     let slots : length (a .inner .entries) ≡ 16 = search (unmapped, needs) in
     let e = taken-in (a .inner .entries) (a .from) (a .to) (c .before .before .filled .result) (a .inner .count) slots (c .before .before .filled .ensures) (c .before .lesser .ensures) in

@@ -29,7 +29,7 @@ append-records-requires : tie.Need-append-records-requires
 append-records-requires c κs = search needs
 
 returns : tie.Need-returns
-returns c =     let a = c .before .before .before .args in
+returns c = let a = c .before .before .before .args in
     let G = c .before .before .before .good in
     let slots : length (a .leaf .records) ≡ 16 = search (unmapped, needs) in
     let e = taken-in (a .leaf .records) (a .from) (a .to) (c .before .before .filled .result) (a .leaf .count) slots (c .before .before .filled .ensures) (c .before .lesser .ensures) in

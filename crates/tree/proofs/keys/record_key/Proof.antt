@@ -26,7 +26,7 @@ slice-aggregate-pair-of : tie.Need-slice-aggregate-pair-of
 slice-aggregate-pair-of c = let slots : length (c .before .before .before .before .args .x .coords) ≡ 16 = search (unmapped, needs) in sym (length-take-le (c .before .before .before .filled .result) (c .before .before .before .before .args .x .coords) (omega (arith, c .before .before .before .filled .ensures)))
 
 pair-of-requires : tie.Need-pair-of-requires
-pair-of-requires c κs =     let S = (c .before .before .before .before) in
+pair-of-requires c κs = let S = (c .before .before .before .before) in
     let F = c .before .before .before .filled in
     let slots : length (S .args .x .coords) ≡ 16 = search (unmapped, needs) in
     let n = length-take (F .result) (S .args .x .coords) in
@@ -38,7 +38,7 @@ key-of-requires : tie.Need-key-of-requires
 key-of-requires c κs = search needs
 
 returns-2 : tie.Need-returns-2
-returns-2 c =     let S = (c .before .before .before .before .before .before) in
+returns-2 c = let S = (c .before .before .before .before .before .before) in
     let F = c .before .before .before .before .before .filled in
     let P = c .before .pair-of in
     let slots : length (S .args .x .coords) ≡ 16 = search (unmapped, needs) in

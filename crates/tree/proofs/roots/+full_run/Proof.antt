@@ -31,25 +31,25 @@ full-run-below t =
 
 abbrev calls : ℕ → full-run-lts.Claims
 calls t = (
-    full-page-reads.Asked,
-    full-page-reads.Learnt,
-    inner-at-reads.Asked,
-    inner-at-reads.Learnt,
-    choose-child-reads.Asked,
-    choose-child-reads.Learnt,
-    child-at-reads.Asked,
-    child-at-reads.Learnt,
-    full-run-below t,
-    full-run.Post,
-    run-on-reads.Asked,
-    run-on-reads.Learnt,
-  )
+  full-page-reads.Asked,
+  full-page-reads.Learnt,
+  inner-at-reads.Asked,
+  inner-at-reads.Learnt,
+  choose-child-reads.Asked,
+  choose-child-reads.Learnt,
+  child-at-reads.Asked,
+  child-at-reads.Learnt,
+  full-run-below t,
+  full-run.Post,
+  run-on-reads.Asked,
+  run-on-reads.Learnt,
+)
 
 full-run-full-page-requires : (t : ℕ) → full-run-lts.Need-full-page-requires (calls t) (full-run-at t) full-run.Post
 full-run-full-page-requires t c κs = search needs
 
 full-run-returns : (t : ℕ) → full-run-lts.Need-returns (calls t) (full-run-at t) full-run.Post
-full-run-returns t c =     let a = c .before .before .before .args in
+full-run-returns t c = let a = c .before .before .before .args in
     let F = c .before .full-page .ensures in
     (run-leaf (a .level) (now (a .index)) (a .page) (a .rank) (c .if1 .taken) (F .0), omega (arith, F .1))
 
@@ -69,14 +69,16 @@ full-run-full-run-requires : (t : ℕ) → full-run-lts.Need-full-run-requires (
 full-run-full-run-requires t c κs = (omega (arith, pos-of-ne-zero (c .before .before .before .if1 .left), c .before .before .before .before .before .before .pre .0), tt)
 
 full-run-run-on-requires : (t : ℕ) → full-run-lts.Need-run-on-requires (calls t) (full-run-at t) full-run.Post
-full-run-run-on-requires t c κs =     let F = c .before .before .before .before .before .full-page .ensures in
+full-run-run-on-requires t c κs = let F = c .before .before .before .before .before .full-page .ensures in
     (omega (arith, pos-of-ne-zero (c .before .before .before .before .if1 .left), c .full-run .ensures .1), F .1)
 
 full-run-returns-2 : (t : ℕ) → full-run-lts.Need-returns-2 (calls t) (full-run-at t) full-run.Post
-full-run-returns-2 t c =     let a = c .before .before .before .before .before .before .before .before .args in
-    let R = c .run-on .ensures in
-    (run-inner (a .level) (now (a .index)) (a .page) (a .rank) (c .before .before .before .before .before .if1 .left) (c .before .before .before .before .before .before .full-page .ensures .0) (ap entriesIn (c .before .before .before .before .inner-at .ensures))
-    (c .before .before .before .choose-child .ensures .0) (c .before .before .child-at .ensures) (c .before .full-run .ensures .0) (R .0), R .1)
+full-run-returns-2 t c = let a = c .before .before .before .before .before .before .before .before .args in
+    let R = c .run-on .ensures in (
+      run-inner (a .level) (now (a .index)) (a .page) (a .rank) (c .before .before .before .before .before .if1 .left) (c .before .before .before .before .before .before .full-page .ensures .0) (ap entriesIn (c .before .before .before .before .inner-at .ensures))
+          (c .before .before .before .choose-child .ensures .0) (c .before .before .child-at .ensures) (c .before .full-run .ensures .0) (R .0),
+      R .1,
+    )
 
 pub +full-run-spec : {M : Type 1} → statement M
 +full-run-spec = close μ-full-run λ t. full-run-lts.spec (calls t)

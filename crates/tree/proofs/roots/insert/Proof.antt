@@ -44,7 +44,7 @@ same-length : tie.Need-same-length
 same-length c = search needs
 
 returns : tie.Need-returns
-returns c =     let a = c .before .before .before .before .before .before .before .before .before .before .before .before .before .before .before .before .before .before .before .before .args in
+returns c = let a = c .before .before .before .before .before .before .before .before .before .before .before .before .before .before .before .before .before .before .before .before .args in
     insert-steps (now (a .index)) (a .x) (c .before .before .before .before .before .before .before .before .before .before .before .before .before .before .before .before .before .features-of .ensures) (c .before .before .before .before .before .before .before .before .before .before .before .before .before .before .before .root-level .ensures) (c .before .before .before .before .before .before .before .before .before .before .before .before .before .root-page .ensures)
     (c .before .before .before .before .before .before .before .before .before .before .insert-at .ensures) (c .before .before .before .before .before .before .grow-root .ensures) (c .before .before .add-to-total .ensures)
 

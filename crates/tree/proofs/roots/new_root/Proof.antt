@@ -40,7 +40,7 @@ same-length : tie.Need-same-length
 same-length c = search needs
 
 returns : tie.Need-returns
-returns c =     let a = c .before .before .before .before .before .before .before .before .before .before .before .before .before .before .before .before .before .before .before .args in
+returns c = let a = c .before .before .before .before .before .before .before .before .before .before .before .before .before .before .before .before .before .before .before .args in
     let T = c .before .before .before .before .before .before .before .before .before .before .before .before .before .before .take-page .ensures in
     let O = c .before .before .before .before .before .before .before .before .before .before .before .before .before .before .before .before .over-two .ensures in
     grow-two (a .level) (now (a .index)) (a .e) (a .f) (c .before .before .before .before .before .before .before .before .before .before .before .before .before .before .before .before .before .next-level .ensures) (T .0) (T .1) (O .0) (O .1 .items)

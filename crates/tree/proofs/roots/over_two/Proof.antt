@@ -25,16 +25,16 @@ push-entry-requires : tie.Need-push-entry-requires
 push-entry-requires c κs = search needs
 
 push-entry-requires-2 : tie.Need-push-entry-requires-2
-push-entry-requires-2 c κs =     let h = held-then _ (c .before .no-entries .ensures) (c .push-entry .ensures) in
+push-entry-requires-2 c κs = let h = held-then _ (c .before .no-entries .ensures) (c .push-entry .ensures) in
     omega (arith, h .count)
 
 inner-of-requires : tie.Need-inner-of-requires
-inner-of-requires c κs =     let h = held-then _ (c .before .before .no-entries .ensures) (c .before .push-entry .ensures) in
+inner-of-requires c κs = let h = held-then _ (c .before .before .no-entries .ensures) (c .before .push-entry .ensures) in
     let g = held-then _ h (c .push-entry2 .ensures) in
     (omega arith, omega (arith, g .count), omega (arith, g .count), omega arith)
 
 returns : tie.Need-returns
-returns c =     let h = held-then _ (c .before .before .before .no-entries .ensures) (c .before .before .push-entry .ensures) in
+returns c = let h = held-then _ (c .before .before .before .no-entries .ensures) (c .before .before .push-entry .ensures) in
     let g = held-then _ h (c .before .push-entry2 .ensures) in
     (c .inner-of .ensures .0, held-is (c .inner-of .ensures .1) (ap (λ (l : List Entry). slice 0 2 l) (g .items)))
 

@@ -36,12 +36,12 @@ add-result : tie.Need-add-result
 add-result c = search needs
 
 returns : tie.Need-returns
-returns c =     let a = c .before .before .before .before .before .before .before .args in
+returns c = let a = c .before .before .before .before .before .before .before .args in
     wanted-is (now (a .index)) (a .x) (c .before .before .before .before .before .features-of .ensures) (c .before .before .before .before .root-level .ensures) (c .before .before .before .root-page .ensures)
     (c .before .before .record-rank .ensures) (c .before .full-run .ensures .0) (one-more (c .before .full-run .result) (c .before .before .before .before .root-level .result) (c .if1 .taken))
 
 returns-2 : tie.Need-returns-2
-returns-2 c =     let a = c .before .before .before .before .before .before .before .args in
+returns-2 c = let a = c .before .before .before .before .before .before .before .args in
     wanted-is (now (a .index)) (a .x) (c .before .before .before .before .before .features-of .ensures) (c .before .before .before .before .root-level .ensures) (c .before .before .before .root-page .ensures)
     (c .before .before .record-rank .ensures) (c .before .full-run .ensures .0) (no-more (c .before .full-run .result) (c .before .before .before .before .root-level .result) (c .if1 .left))
 

@@ -9,10 +9,10 @@ use Rattle.tree.proofs.HeldLaws.{unmapped}
 use Rattle.tree.proofs.EntryLaws.{length-filled}
 use Rattle.tree.proofs.DeletionLaws.{other-no, other-yes}
 use borrow.Author.Needs.{needs}
-use Rattle.tree.proofs.deletion.place_of_ident.Statement.{statement}
-use Rattle.tree.proofs.deletion.place_of_ident.Tie as tie
-use Rattle.tree.proofs.deletion.place_of_ident.Reads as reads
-use Rattle.tree.proofs.deletion.place_of_ident.Lts as lts
+use Rattle.tree.proofs.lookup.place_of_ident.Statement.{statement}
+use Rattle.tree.proofs.lookup.place_of_ident.Tie as tie
+use Rattle.tree.proofs.lookup.place_of_ident.Reads as reads
+use Rattle.tree.proofs.lookup.place_of_ident.Lts as lts
 use Rattle.tree.proofs.keys.filled.Reads as filled-reads
 
 abbrev Inv-loop : tie.InvT-loop
@@ -26,7 +26,7 @@ filled-requires : tie.Need-filled-requires Inv-loop μ-loop
 filled-requires c κs = search needs
 
 loop-holds : tie.Need-loop-holds Inv-loop μ-loop
-loop-holds c =     let S = (c .before) in
+loop-holds c = let S = (c .before) in
     let slots : length (S .args .t1 .records) ≡ 16 = search (unmapped, needs) in
     (c .filled .ensures, slots, search needs, omega arith)
 
@@ -37,10 +37,13 @@ element-copy-out-x : tie.Need-element-copy-out-x Inv-loop μ-loop
 element-copy-out-x c = search needs
 
 returns : tie.Need-returns Inv-loop μ-loop
-returns c =     let S = (c .before .before .before .before .before .before) in
-    let L = c .before .before .before .before .loop in
-    (leading-stop (otherIdent (S .args .id)) (record { id = 0; coords = [] }) (S .args .t1 .records) (S .args .t1 .count) _ (L .i) (L .i) (L .inv .3) (omega arith) (omega arith)
-    (other-no _ (S .args .id) (c .if1 .taken)), omega arith, omega arith)
+returns c = let S = (c .before .before .before .before .before .before) in
+    let L = c .before .before .before .before .loop in (
+      leading-stop (otherIdent (S .args .id)) (record { id = 0; coords = [] }) (S .args .t1 .records) (S .args .t1 .count) _ (L .i) (L .i) (L .inv .3) (omega arith) (omega arith)
+          (other-no _ (S .args .id) (c .if1 .taken)),
+      omega arith,
+      omega arith,
+    )
 
 add-i : tie.Need-add-i Inv-loop μ-loop
 add-i c = search needs
@@ -49,17 +52,23 @@ loop-less : tie.Need-loop-less Inv-loop μ-loop
 loop-less c = search needs
 
 loop-again : tie.Need-loop-again Inv-loop μ-loop
-loop-again c =     let S = (c .before .before .before .before .before .before) in
-    let L = c .before .before .before .before .loop in
-    (L .inv .0, L .inv .1, omega arith,
-    leading-step (otherIdent (S .args .id)) (record { id = 0; coords = [] }) (S .args .t1 .records) (S .args .t1 .count) _ (L .i) (L .i) (L .inv .3) (omega arith) (omega arith)
-    (other-yes _ (S .args .id) (c .if1 .left)))
+loop-again c = let S = (c .before .before .before .before .before .before) in
+    let L = c .before .before .before .before .loop in (
+      L .inv .0,
+      L .inv .1,
+      omega arith,
+      leading-step (otherIdent (S .args .id)) (record { id = 0; coords = [] }) (S .args .t1 .records) (S .args .t1 .count) _ (L .i) (L .i) (L .inv .3) (omega arith) (omega arith)
+          (other-yes _ (S .args .id) (c .if1 .left)),
+    )
 
 returns-2 : tie.Need-returns-2 Inv-loop μ-loop
-returns-2 c =     let S = (c .before .before .before) in
-    let L = c .before .loop in
-    (leading-end (otherIdent (S .args .id)) (record { id = 0; coords = [] }) (S .args .t1 .records) (S .args .t1 .count) _ (L .i) (L .i) (L .inv .3)
-    (omega (arith, length-filled (S .args .t1 .records) _ (S .args .t1 .count) (L .inv .1) (L .inv .0))), omega arith, omega arith)
+returns-2 c = let S = (c .before .before .before) in
+    let L = c .before .loop in (
+      leading-end (otherIdent (S .args .id)) (record { id = 0; coords = [] }) (S .args .t1 .records) (S .args .t1 .count) _ (L .i) (L .i) (L .inv .3)
+          (omega (arith, length-filled (S .args .t1 .records) _ (S .args .t1 .count) (L .inv .1) (L .inv .0))),
+      omega arith,
+      omega arith,
+    )
 
 pub place-of-ident-spec : {M : Type 1} → statement M
 place-of-ident-spec =

@@ -1,0 +1,149 @@
+use mathlib.Core.Path.{_≡_, refl, sym, ap, _∙_}
+use Prim.Native.Nat.{ℕ, _+_, _-_, _%_, _^_, _≤_, _<_, min}
+use native.Mathlib.Nat.{pos-of-ne-zero}
+use native.Mathlib.Omega.{arith}
+use lib.ListN.{length, take, length-take}
+use denote.Ref.{now}
+use Rattle.tree.proofs.HeldLaws.{unmapped}
+use Rattle.tree.proofs.EntryLaws.{length-filled}
+use Rattle.tree.proofs.LookupLaws.{Seeks, seeks-start, seeks-found, seeks-next, seeks-end, find-leaf}
+use borrow.Author.Needs.{needs}
+use borrow.Fn.Kinds.{In}
+use borrow.Fn.PlainCycle.{Measures, is, falls, and}
+use Rattle.tree.proofs.lookup.find_under.Reads as find-under
+use Rattle.tree.proofs.lookup.find_under.Kinds as find-under-kinds
+use Rattle.tree.proofs.lookup.+find_under.Lts-find_under as find-under-lts
+use Rattle.pagestore.proofs.inner_at.Reads as inner-at-reads
+use Rattle.pagestore.proofs.leaf_at.Reads as leaf-at-reads
+use Rattle.tree.proofs.keys.filled.Reads as filled-reads
+use Rattle.tree.proofs.lookup.blank_record.Reads as blank-record-reads
+use Rattle.tree.proofs.lookup.find_in_leaf.Reads as find-in-leaf-reads
+use Rattle.tree.proofs.lookup.+find_under.{statement}
+use Rattle.tree.proofs.lookup.+find_under.Tie.{close}
+
+abbrev μ-find-under : Measures 1 find-under-kinds.ps ℕ
+μ-find-under κs a = a .1 .1 .0
+
+abbrev find-under-at : ℕ → In 1 find-under-kinds.ps
+find-under-at t =
+    and 1 find-under-kinds.ps (is 1 find-under-kinds.ps μ-find-under t) find-under.Pre
+
+abbrev find-under-below : ℕ → In 1 find-under-kinds.ps
+find-under-below t =
+    and 1 find-under-kinds.ps (falls 1 find-under-kinds.ps _<_ μ-find-under t) find-under.Pre
+
+abbrev find-under-Inv-loop : find-under-lts.InvT-loop
+find-under-Inv-loop index page level id inner n i₀ i = (n ≡ min 16 (inner .count)) × (length (inner .entries) ≡ 16) × (i ≤ n) × Seeks level index page id (take (inner .count) (inner .entries)) i
+
+abbrev find-under-μ-loop : find-under-lts.MeasureT-loop
+find-under-μ-loop index page level id inner n i₀ i = n - i
+
+abbrev calls : ℕ → find-under-lts.Claims
+calls t = (
+  leaf-at-reads.Asked,
+  leaf-at-reads.Learnt,
+  find-in-leaf-reads.Asked,
+  find-in-leaf-reads.Learnt,
+  inner-at-reads.Asked,
+  inner-at-reads.Learnt,
+  filled-reads.Asked,
+  filled-reads.Learnt,
+  find-under-below t,
+  find-under.Post,
+  blank-record-reads.Asked,
+  blank-record-reads.Learnt,
+)
+
+find-under-leaf-at-requires : (t : ℕ) → find-under-lts.Need-leaf-at-requires (calls t) (find-under-at t) find-under.Post find-under-Inv-loop find-under-μ-loop
+find-under-leaf-at-requires t c κs = tt
+
+find-under-find-in-leaf-requires : (t : ℕ) → find-under-lts.Need-find-in-leaf-requires (calls t) (find-under-at t) find-under.Post find-under-Inv-loop find-under-μ-loop
+find-under-find-in-leaf-requires t c κs = tt
+
+find-under-returns : (t : ℕ) → find-under-lts.Need-returns (calls t) (find-under-at t) find-under.Post find-under-Inv-loop find-under-μ-loop
+find-under-returns t c = let a = c .before .before .before .before .args in
+    find-leaf (a .level) (now (a .index)) (a .page) (a .id) (c .before .leaf-at .result) (c .before .before .if1 .taken) (c .before .leaf-at .ensures) (c .find-in-leaf .ensures)
+
+find-under-inner-at-requires : (t : ℕ) → find-under-lts.Need-inner-at-requires (calls t) (find-under-at t) find-under.Post find-under-Inv-loop find-under-μ-loop
+find-under-inner-at-requires t c κs = search needs
+
+find-under-filled-requires : (t : ℕ) → find-under-lts.Need-filled-requires (calls t) (find-under-at t) find-under.Post find-under-Inv-loop find-under-μ-loop
+find-under-filled-requires t c κs = search needs
+
+find-under-loop-holds : (t : ℕ) → find-under-lts.Need-loop-holds (calls t) (find-under-at t) find-under.Post find-under-Inv-loop find-under-μ-loop
+find-under-loop-holds t c = let a = c .before .before .before .before .args in
+    let I = c .before .inner-at in
+    let G = I .ok in
+    let slots : length (I .result .entries) ≡ 16 = search (unmapped, needs) in
+    (c .filled .ensures, slots, omega arith, seeks-start (a .level) (now (a .index)) (a .page) (a .id) (I .result) (c .before .before .if1 .left) (I .ensures))
+
+find-under-mul-e : (t : ℕ) → find-under-lts.Need-mul-e (calls t) (find-under-at t) find-under.Post find-under-Inv-loop find-under-μ-loop
+find-under-mul-e t c = search needs
+
+find-under-element-copy-out-e : (t : ℕ) → find-under-lts.Need-element-copy-out-e (calls t) (find-under-at t) find-under.Post find-under-Inv-loop find-under-μ-loop
+find-under-element-copy-out-e t c = search needs
+
+find-under-sub-find-under : (t : ℕ) → find-under-lts.Need-sub-find-under (calls t) (find-under-at t) find-under.Post find-under-Inv-loop find-under-μ-loop
+find-under-sub-find-under t c = omega (arith, pos-of-ne-zero (c .before .before .before .before .before .if1 .left))
+
+find-under-find-under-requires : (t : ℕ) → find-under-lts.Need-find-under-requires (calls t) (find-under-at t) find-under.Post find-under-Inv-loop find-under-μ-loop
+find-under-find-under-requires t c κs = (omega (arith, pos-of-ne-zero (c .before .before .before .before .before .if1 .left), c .before .before .before .before .before .before .before .pre .0), c .before .before .before .before .before .before .before .pre .1)
+
+find-under-returns-2 : (t : ℕ) → find-under-lts.Need-returns-2 (calls t) (find-under-at t) find-under.Post find-under-Inv-loop find-under-μ-loop
+find-under-returns-2 t c = let a = c .before .before .before .before .before .before .before .before .before .before .args in
+    let I = c .before .before .before .before .before .before .before .inner-at .result in
+    let L = c .before .before .before .before .before .loop in
+    let T = c .before .before .before .before .loop-test .taken in
+    seeks-found (a .level) (now (a .index)) (a .page) (a .id) (I .entries) (I .count) (L .i) (c .before .before .find-under .result) (L .inv .3) (c .before .before .before .before .before .before .before .before .before .before .pre .1) (omega arith) (omega arith)
+    (c .before .before .find-under .ensures) (c .if2 .taken)
+
+find-under-add-i : (t : ℕ) → find-under-lts.Need-add-i (calls t) (find-under-at t) find-under.Post find-under-Inv-loop find-under-μ-loop
+find-under-add-i t c = search needs
+
+find-under-loop-less : (t : ℕ) → find-under-lts.Need-loop-less (calls t) (find-under-at t) find-under.Post find-under-Inv-loop find-under-μ-loop
+find-under-loop-less t c = search needs
+
+find-under-loop-again : (t : ℕ) → find-under-lts.Need-loop-again (calls t) (find-under-at t) find-under.Post find-under-Inv-loop find-under-μ-loop
+find-under-loop-again t c = let a = c .before .before .before .before .before .before .before .before .before .before .args in
+    let I = c .before .before .before .before .before .before .before .inner-at .result in
+    let L = c .before .before .before .before .before .loop in
+    let T = c .before .before .before .before .loop-test .taken in (
+      L .inv .0,
+      L .inv .1,
+      omega arith,
+      seeks-next (a .level) (now (a .index)) (a .page) (a .id) (I .entries) (I .count) (L .i) (c .before .before .find-under .result) (L .inv .3) (c .before .before .before .before .before .before .before .before .before .before .pre .1) (omega arith) (omega arith)
+          (c .before .before .find-under .ensures) (c .if2 .left),
+    )
+
+find-under-blank-record-requires : (t : ℕ) → find-under-lts.Need-blank-record-requires (calls t) (find-under-at t) find-under.Post find-under-Inv-loop find-under-μ-loop
+find-under-blank-record-requires t c κs = tt
+
+find-under-returns-3 : (t : ℕ) → find-under-lts.Need-returns-3 (calls t) (find-under-at t) find-under.Post find-under-Inv-loop find-under-μ-loop
+find-under-returns-3 t c = let a = c .before .before .before .before .before .before .before .args in
+    let I = c .before .before .before .before .inner-at .result in
+    let L = c .before .before .loop in
+    c .blank-record .ensures ∙ seeks-end (a .level) (now (a .index)) (a .page) (a .id) (take (I .count) (I .entries)) (L .i) (L .inv .3)
+    (omega (arith, length-filled (I .entries) _ (I .count) (L .inv .1) (L .inv .0), c .before .loop-test .left))
+
+pub +find-under-spec : {M : Type 1} → statement M
++find-under-spec = close μ-find-under λ t. find-under-lts.spec (calls t)
+    (find-under-at t)
+    find-under.Post
+    find-under-Inv-loop
+    find-under-μ-loop
+    (find-under-leaf-at-requires t)
+    (find-under-find-in-leaf-requires t)
+    (find-under-returns t)
+    (find-under-inner-at-requires t)
+    (find-under-filled-requires t)
+    (find-under-loop-holds t)
+    (find-under-mul-e t)
+    (find-under-element-copy-out-e t)
+    (find-under-sub-find-under t)
+    (find-under-find-under-requires t)
+    (find-under-returns-2 t)
+    (find-under-add-i t)
+    (find-under-loop-less t)
+    (find-under-loop-again t)
+    (find-under-blank-record-requires t)
+    (find-under-returns-3 t)
