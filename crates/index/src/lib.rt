@@ -2,7 +2,10 @@
 mod checking;
 mod making;
 mod refusing;
+mod upkeep;
 
 pub use checking::check;
 pub use making::make;
 pub use making::permitted;
+pub use upkeep::delete;
+pub use upkeep::insert;
