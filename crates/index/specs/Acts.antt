@@ -6,7 +6,7 @@ use lib.IntN.{ℤ}
 use Rattle.pagestore.specs.declared.Record.{Record}
 use Rattle.tree.specs.Insertion.{insertRecord}
 use Rattle.tree.specs.Deletion.{deleteRecord}
-use Rattle.search.specs.Visit.{Found}
+use Rattle.search.specs.Visit.{Answer as Found}
 use Rattle.index.specs.Refusals.{First, insertRules, deleteRules, questionRules, checkRules, recordOf}
 use Rattle.index.specs.Outcomes.{unlessRefused, insertedWith, deletedWith, foundWith}
 

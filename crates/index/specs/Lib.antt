@@ -3,6 +3,7 @@ pub mod RefusalLaws
 pub mod Outcomes
 pub mod OutcomeLaws
 pub mod Facts
+pub mod CheckAnswers
 pub mod Questions
 pub mod QuestionLaws
 pub mod Acts

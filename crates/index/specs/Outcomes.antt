@@ -8,7 +8,7 @@ use Rattle.pagestore.specs.Store.{newIndex}
 use Rattle.tree.specs.Insertion.{insertInto}
 use Rattle.tree.specs.Deletion.{deleteFrom}
 use Rattle.tree.specs.Lookup.{findIn}
-use Rattle.search.specs.Visit.{Found, found}
+use Rattle.search.specs.Visit.{Answer as Found, found}
 use Rattle.index.specs.Refusals.{recordOf}
 
 -- a test of P

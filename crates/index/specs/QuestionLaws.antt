@@ -14,7 +14,7 @@ use Rattle.pagestore.specs.Store.{View, viewOf}
 use Rattle.bestfirst.specs.Nearest.{candidates, nearest}
 use Rattle.candidates.specs.declared.Row.{Row}
 use Rattle.candidates.specs.Held.{rowsIn}
-use Rattle.search.specs.Visit.{Found, found, ranking}
+use Rattle.search.specs.Visit.{Answer as Found, found, ranking}
 use Rattle.search.specs.Questions.{rowsOf}
 use Rattle.search.proofs.Promises.{found-exact}
 use Rattle.lending.specs.declared.Answer.{Answer}

@@ -1,6 +1,8 @@
 // The acts on an index: each has a stated outcome for every input, and refuses with the first number that applies in its order.
+mod checking;
 mod making;
 mod refusing;
 
+pub use checking::check;
 pub use making::make;
 pub use making::permitted;

@@ -19,7 +19,7 @@ use Rattle.trees.specs.Sound.{SoundIndex}
 use Rattle.bestfirst.specs.Nearest.{nearest}
 use Rattle.candidates.specs.declared.Row.{Row}
 use Rattle.search.specs.Branches.{rowOf}
-use Rattle.search.specs.Visit.{Found, found, ranking}
+use Rattle.search.specs.Visit.{Answer as Found, found, ranking}
 use Rattle.search.specs.Questions.{rowsFrom, rowsOf, toRead, Exchanged}
 use Rattle.search.proofs.FrameLaws.{leaf-records}
 use Rattle.search.proofs.Promises.{found-exact, exchange}

@@ -17,7 +17,7 @@ use Rattle.trees.specs.Trees.{identOf, live}
 use Rattle.trees.specs.Sound.{Permitted, SoundIndex}
 use Rattle.tree.specs.Deletion.{deleteRecord}
 use Rattle.tree_laws.specs.Idents.{ident-ins}
-use Rattle.search.specs.Visit.{Found}
+use Rattle.search.specs.Visit.{Answer as Found}
 use Rattle.index.specs.Refusals.{First, insertRules, deleteRules, recordOf, liveTimes}
 use Rattle.index.specs.RefusalLaws.{all-hold}
 use Rattle.index.specs.Outcomes.{unlessRefused}

@@ -18,7 +18,7 @@ use Rattle.tree.specs.Lookup.{findIn}
 use Rattle.tree_laws.specs.InsertPromises.{MayInsert, insert-sound, insert-live, insert-features}
 use Rattle.tree_laws.specs.DeletePromises.{delete-sound, delete-live, delete-features}
 use Rattle.tree_laws.specs.NewPromises.{new-sound, new-live, new-features}
-use Rattle.search.specs.Visit.{Found}
+use Rattle.search.specs.Visit.{Answer as Found}
 use Rattle.index.specs.Refusals.{First, insertRules, deleteRules, recordOf}
 use Rattle.index.specs.RefusalLaws.{all-hold}
 use Rattle.index.specs.Outcomes.{unlessRefused}
