@@ -4,6 +4,7 @@ pub mod Outcomes
 pub mod OutcomeLaws
 pub mod Facts
 pub mod CheckAnswers
+pub mod PointLaws
 pub mod Questions
 pub mod QuestionLaws
 pub mod Acts
