@@ -1,2 +1,3 @@
+pub mod AskLaws
 pub mod CodeLaws
 pub mod UpkeepLaws

@@ -7,3 +7,4 @@ pub mod CheckAnswers
 pub mod Questions
 pub mod QuestionLaws
 pub mod Acts
+pub mod PointLaws

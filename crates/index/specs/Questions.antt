@@ -1,12 +1,13 @@
 -- The question (01): its number, its rows and count, the rows lent and the tally afterwards.
 use mathlib.Core.Path.{_≡_}
-use mathlib.Core.List.{List, _++_}
-use Prim.Native.Nat.{ℕ}
+use mathlib.Core.List.{List, _++_, map}
+use Prim.Native.Nat.{ℕ, _≤_}
 use lib.IntN.{ℤ}
 use lib.ListN.{length, drop}
+use Rattle.geometry.specs.Stored.{stored}
 use Rattle.candidates.specs.declared.Row.{Row}
 use Rattle.candidates.specs.Held.{rowsIn}
-use Rattle.search.specs.Visit.{Answer as Found}
+use Rattle.search.specs.Visit.{Answer as Found, found}
 use Rattle.lending.specs.declared.Answer.{Answer}
 use Rattle.lending.specs.declared.Outcome.{Outcome}
 use Rattle.lending.specs.declared.Tally.{Tally}
@@ -33,5 +34,23 @@ pub record Asked (b : List ℕ) (p : List ℤ) (k n : ℕ) (o : Outcome) : Type 
   pub count : o .answer .count ≡ length (foundWith (o .answer .code) b p k .rows)
   pub leaves : o .answer .leaves ≡ foundWith (o .answer .code) b p k .leaves
   pub rows : rowsIn (o .list .distances) (o .list .tags) (o .list .count) ≡ foundWith (o .answer .code) b p k .rows
+  pub distances : length (o .list .distances) ≡ 64
+  pub tags : length (o .list .tags) ≡ 64
+
+-- refused with the number n: 0 rows, 0 leaves
+pub record Refused (n : ℕ) (o : Outcome) : Type 0 where
+  pub code : o .answer .code ≡ n
+  pub listed : o .list .count ≡ 0
+  pub count : o .answer .count ≡ 0
+  pub leaves : o .answer .leaves ≡ 0
+  pub distances : length (o .list .distances) ≡ 64
+  pub tags : length (o .list .tags) ≡ 64
+
+-- carried out: the rows and the count are the search's
+pub record Answered (b : List ℕ) (p : List ℤ) (k : ℕ) (o : Outcome) : Type 0 where
+  pub code : o .answer .code ≡ 0
+  pub listed : o .list .count ≡ o .answer .count
+  pub few : o .list .count ≤ 64
+  pub same : record { rows = rowsIn (o .list .distances) (o .list .tags) (o .list .count); leaves = o .answer .leaves } ≡ found b (map stored p) k
   pub distances : length (o .list .distances) ≡ 64
   pub tags : length (o .list .tags) ≡ 64
