@@ -61,8 +61,8 @@ fn answered(index: &[u8], point: &[i16], what: Query) -> Outcome
     }
 }
 
-// A question by value, with some rows lent.
-fn question_outcome(index: &[u8], point: &[i16], what: Query, lent: usize) -> Outcome
+// A question by value, with some rows lent: for callers that hold no rows and no tally of their own.
+pub fn question_outcome(index: &[u8], point: &[i16], what: Query, lent: usize) -> Outcome
     ensures { λ o. ⌜ Asked (now (index .entry)) (now (point .entry)) (what .k) lent o ⌝ }
 {
     let checked = check(index);

@@ -6,6 +6,7 @@ mod refusing;
 mod upkeep;
 
 pub use asking::question;
+pub use asking::question_outcome;
 pub use checking::check;
 pub use making::make;
 pub use making::permitted;
