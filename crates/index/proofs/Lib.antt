@@ -1,3 +1,2 @@
 pub mod AskLaws
-pub mod CodeLaws
-pub mod UpkeepLaws
+pub mod RuleLaws

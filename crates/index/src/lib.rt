@@ -1,8 +1,10 @@
 // The acts on an index: each has a stated outcome for every input, and refuses with the first number that applies in its order.
+// An act is the check and then the act without it (`trusted`), which a caller that holds its index alone may use by itself.
 mod asking;
 mod checking;
 mod making;
 mod refusing;
+pub mod trusted;
 mod upkeep;
 
 pub use asking::question;

@@ -45,8 +45,9 @@ use Rattle.lending.specs.declared.Answer.{Answer}
 use Rattle.lending.specs.declared.Outcome.{Outcome}
 use Rattle.lending.specs.Delivered.{Delivered}
 use Rattle.search.specs.declared.Query.{Query}
+use Rattle.index.specs.Refusals.{questionRules}
 use Rattle.index.specs.Questions.{Asked, Questioned}
-use Rattle.index.specs.QuestionLaws.{handed-over}
+use Rattle.index.specs.QuestionLaws.{asked-room, handed-over}
 use Rattle.candidates.proofs.Row as Row′
 use Rattle.lending.proofs.Tally as Tally′
 use Rattle.lending.proofs.Answer as N
@@ -263,7 +264,7 @@ module _ {M : Type 1} (𝓤 : URA M) (H : Heap 𝓤) (A : Atoms 𝓤) (W : Given
             -- [the answer; Lent; the tally's value; the rows' list; the shared slices; Shared; _10; …]
             land ! (from ! (stop !)) (init ! 26 refl (LL.lawful N.the-type N′.the-laws 𝓤 H A W .typed r _ ans .0)) $
             forget ! 6 refl $ forget ! 8 refl $ forget ! 10 refl $
-            by ! (leaves u is r w (zs .0) (zs .1 .0) len (handed-over (xi .now) (xp .now) (k .k) xs h u asked r (zs .0) (zs .1 .0) e))))))))
+            by ! (leaves u is r w (zs .0) (zs .1 .0) len (handed-over (questionRules (xi .now) (xp .now) (k .k) (length xs)) (xi .now) (xp .now) (k .k) xs h u asked (asked-room (xi .now) (xp .now) (k .k) (length xs) _ (asked .first)) r (zs .0) (zs .1 .0) e))))))))
 
         -- the outcome is asked for
         asks : ent 𝓤 (⋆ 𝓤 H A (Passed (‵ (froom N′.mir l₀ 0)) (‵ (froom O′.mir l₆ 0)) (‵ (froom (tyInt w64) l₇ 0)) (raw Entered ∷ []))) (Wp 𝓤 H C Λ En pieces.t-1 (atReturn 𝓤 H En Post))

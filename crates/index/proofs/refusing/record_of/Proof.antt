@@ -4,8 +4,8 @@ use mathlib.Core.Path.{ap}
 use mathlib.Core.List.{List}
 use Prim.Native.Nat.{ℕ}
 use Rattle.pagestore.specs.declared.Record.{Record}
-use Rattle.index.proofs.upkeep.record_of.Statement.{statement}
-use Rattle.index.proofs.upkeep.record_of.Tie as tie
+use Rattle.index.proofs.refusing.record_of.Statement.{statement}
+use Rattle.index.proofs.refusing.record_of.Tie as tie
 
 slots-of-requires : tie.Need-slots-of-requires
 slots-of-requires c κs = search needs

@@ -1,4 +1,4 @@
--- `index::asking::answered` meets its contract: the search on the point's own slots. Assumes nothing.
+-- `index::trusted::answered` meets its contract: the search on the point's own slots. Assumes nothing.
 use mathlib.Core.Path.{_≡_, sym}
 use Prim.Native.Nat.{_-_}
 use native.Mathlib.Omega.{arith}
@@ -11,9 +11,9 @@ use Rattle.pagestore.proofs.CodeLaws.{unmapped}
 use Rattle.search.specs.declared.Found.{Found}
 use Rattle.index.specs.PointLaws.{slots-asked}
 use Rattle.index.proofs.AskLaws.{answered-by}
-use Rattle.index.proofs.asking.answered.Statement.{statement}
-use Rattle.index.proofs.asking.answered.Tie as tie
-use Rattle.index.proofs.asking.answered.Lts as lts
+use Rattle.index.proofs.trusted.answered.Statement.{statement}
+use Rattle.index.proofs.trusted.answered.Tie as tie
+use Rattle.index.proofs.trusted.answered.Lts as lts
 
 slots-of-requires : tie.Need-slots-of-requires
 slots-of-requires c κs = search needs
@@ -40,7 +40,7 @@ returns : tie.Need-returns
 returns c =
     let R = c .before .before in let O = R .before .before in let S = O .before .before in
     let long = arrays (R .search .lifetimes) (R .search .result) (R .search .ok) in
-    answered-by (now (S .args .index)) (now (S .args .point)) (S .args .what .k) (O .slots-of .result) (R .search .result) (O .slots-of .ensures) (S .pre .4) (R .search .ensures) (long .0) (long .1)
+    answered-by (now (S .args .index)) (now (S .args .point)) (S .args .what .k) (O .slots-of .result) (R .search .result) (O .slots-of .ensures) (R .search .ensures) (long .0) (long .1)
 
 pub answered-spec : {M : Type 1} → statement M
 answered-spec =
