@@ -1,18 +1,23 @@
 -- trusted-same: on a sound index a trusted act, which leaves out the check, is the act. So an application that holds its index alone checks
 -- it once: from a sound index on, any series of trusted acts is the series of the acts.
 use mathlib.Core.Path.{_≡_, refl, sym, ap, _∙_, subst}
-use mathlib.Core.List.{List, [], _∷_}
-use Prim.Native.Nat.{ℕ, _^_, _<_}
+use mathlib.Core.List.{List, [], _∷_, map}
+use Prim.Native.Nat.{ℕ, _^_, _≤_, _<_}
+use native.Mathlib.Omega.{arith}
 use lib.IntN.{ℤ}
+use lib.ListN.{length, length-map}
+use Rattle.geometry.specs.Stored.{stored}
 use Rattle.pagestore.specs.declared.Record.{Record}
-use Rattle.pagestore.specs.Store.{View, viewOf}
+use Rattle.pagestore.specs.Store.{View, viewOf, features}
 use Rattle.trees.specs.Trees.{live}
-use Rattle.trees.specs.Sound.{SoundIndex}
+use Rattle.trees.specs.Sound.{Permitted, SoundIndex}
 use Rattle.search.specs.Visit.{Answer as Found}
+use Rattle.search.specs.Questions.{unreadPages, AgreeBut}
+use Rattle.search.proofs.Promises.{agree-field, unread-header, unread-bytes}
 use Rattle.index.specs.Refusals.{First, insertRules, deleteRules, questionRules, checkRules}
-use Rattle.index.specs.RefusalLaws.{first-one}
+use Rattle.index.specs.RefusalLaws.{first-one, all-hold, none-fails}
 use Rattle.index.specs.Outcomes.{insertedWith, deletedWith, foundWith}
-use Rattle.index.specs.Trusted.{trustedInsert, trustedDelete, trustedQuestion}
+use Rattle.index.specs.Trusted.{Suits, trustedInsert, trustedDelete, trustedQuestion}
 use Rattle.index.specs.TrustedLaws.{insert-same, delete-same, question-same}
 use Rattle.index.specs.Acts.{Act, insert, delete, question, check, Done, does, Series, end, next}
 use Rattle.promises.specs.Series.{Stands, act-stands}
@@ -70,3 +75,22 @@ trusted-series {b = b} s (step {m = m} {o = o} h t) =
     let g = trusted-same b s (o .act) (o .code) (o .answer) m h in
     let r = trusted-series (sound-after b s (o .act) (o .code) (o .answer) m g) t in
     (next g (r .0), r .1)
+
+-- Demand 3's last sentence for the trusted question: whatever bytes the pages of the unread leaves hold, it is carried out on them with the
+-- rows and the count of the question on the sound index.
+module _ (b : List ℕ) (p : List ℤ) (k n : ℕ) (h : First (questionRules b p k n) 0) (c : List ℕ) (agree : AgreeBut (unreadPages (viewOf b) (map stored p) k) b c) where
+  header-same : SoundIndex b → length (map stored p) ≡ viewOf b .d → 1 ≤ k → viewOf c .d ≡ viewOf b .d
+  unfolding viewOf
+  header-same s same one = agree-field (unreadPages (viewOf b) (map stored p) k) b c agree (unread-header b s (map stored p) same k one) features
+
+  pub trusted-unread : First (trustedQuestion c p k n) 0 × (foundWith 0 c p k ≡ foundWith 0 b p k)
+  trusted-unread =
+      let w = all-hold (questionRules b p k n) refl h in
+      let s = w .1 .0 in
+      let one : 1 ≤ k = w .1 .1 .1 .1 .0 .0 in
+      let as-many : length p ≡ viewOf b .d = w .1 .1 .0 in
+      let same : length (map stored p) ≡ viewOf b .d = length-map p stored ∙ as-many in
+      let low : 1 ≤ viewOf b .d = s .d .0 in
+      let high : viewOf b .d ≤ 16 = s .d .1 in
+      let suits : Suits c p = (omega arith, omega arith, as-many ∙ sym (header-same s same one)) in
+      (none-fails (trustedQuestion c p k n) (subst Permitted (sym (agree .lent)) (w .0), (suits, (w .1 .1 .1 .0, (w .1 .1 .1 .1 .0, (w .1 .1 .1 .1 .1 .0, tt))))), unread-bytes b s (map stored p) same k one c agree)
