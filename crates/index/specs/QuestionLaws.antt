@@ -24,7 +24,7 @@ use Rattle.lending.specs.Delivered.{Delivered, rowsAfter, tallyAfter}
 use Rattle.index.specs.Refusals.{Rule, First, questionRules}
 use Rattle.index.specs.RefusalLaws.{all-hold}
 use Rattle.index.specs.Outcomes.{unlessRefused, foundWith, nothingFound}
-use Rattle.index.specs.Questions.{written, QuestionedBy, AskedBy}
+use Rattle.index.specs.Questions.{written, QuestionedBy, AskedBy, Questioned, Asked}
 
 module _ (lent : List Row) (l : Candidates) (f : Found) where
   -- a refused question leaves the rows, one carried out writes those found
@@ -56,7 +56,11 @@ module _ (rules : List Rule) (b : List ℕ) (p : List ℤ) (k : ℕ) (lent : Lis
           tallying = h .count ∙ tally-by (o .answer .code) (counted tally (o .answer .leaves)) tally;
         })
 
--- the rules of a question that is carried out leave room
-pub asked-room : (b : List ℕ) (p : List ℤ) (k n m : ℕ) → First (questionRules b p k n) m → m ≡ 0 → (k ≤ 64) × (k ≤ n)
-asked-room b p k n m f z =
-    let w = all-hold (questionRules b p k n) refl (subst (First (questionRules b p k n)) z f) in (w .1 .1 .1 .1 .0 .1, w .1 .1 .1 .1 .1 .0)
+-- the act's: where it is carried out, its rules leave room
+module _ (b : List ℕ) (p : List ℤ) (k : ℕ) (lent : List Row) (tally : Tally) (o : Outcome) where
+  room : First (questionRules b p k (length lent)) (o .answer .code) → o .answer .code ≡ 0 → (k ≤ 64) × (k ≤ length lent)
+  room f z =
+      let w = all-hold (questionRules b p k (length lent)) refl (subst (First (questionRules b p k (length lent))) z f) in (w .1 .1 .1 .1 .0 .1, w .1 .1 .1 .1 .1 .0)
+
+  pub question-hands : Asked b p k (length lent) o → (r : Answer) (lent' : List Row) (tally' : Tally) → Delivered o lent tally r lent' tally' → Questioned b p k lent tally r lent' tally'
+  question-hands a = handed-over (questionRules b p k (length lent)) b p k lent tally o a (room (a .first))

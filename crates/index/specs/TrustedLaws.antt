@@ -1,5 +1,5 @@
 -- On a sound index an act without the check gives the act's number.
-use mathlib.Core.Path.{_≡_, refl, sym, ap, _∙_}
+use mathlib.Core.Path.{_≡_, refl, sym, ap, _∙_, subst}
 use mathlib.Core.Bool.{Bool, true, not}
 use mathlib.Core.Logic.{_≢_, inl, inr}
 use mathlib.Core.List.{List, [], _∷_}
@@ -16,13 +16,17 @@ use Rattle.trees.specs.Trees.{live}
 use Rattle.trees.specs.Sound.{SoundIndex}
 use Rattle.tree.specs.Lookup.{findIn}
 use Rattle.tree_laws.specs.LookupPromises.{find-ident, find-none}
+use Rattle.candidates.specs.declared.Row.{Row}
 use Rattle.lending.specs.declared.Answer.{Answer}
 use Rattle.lending.specs.declared.Candidates.{Candidates}
 use Rattle.lending.specs.declared.Outcome.{Outcome}
+use Rattle.lending.specs.declared.Tally.{Tally}
+use Rattle.lending.specs.Delivered.{Delivered}
 use Rattle.index.specs.Refusals.{Rule, First, liveTimes, insertRules, deleteRules, questionRules}
-use Rattle.index.specs.RefusalLaws.{later}
-use Rattle.index.specs.Questions.{Asked}
-use Rattle.index.specs.Trusted.{Suits, trustedInsert, trustedDelete, trustedQuestion, numbers, withoutCheck, TrustedAsked}
+use Rattle.index.specs.RefusalLaws.{all-hold, later}
+use Rattle.index.specs.Questions.{Asked, Questioned}
+use Rattle.index.specs.QuestionLaws.{handed-over}
+use Rattle.index.specs.Trusted.{Suits, trustedInsert, trustedDelete, trustedQuestion, numbers, withoutCheck, TrustedAsked, TrustedQuestioned}
 
 -- ---- THE NUMBERS: THE ACT'S, IN ITS ORDER, WITHOUT 2
 
@@ -118,3 +122,19 @@ module _ (b : List ℕ) (s : SoundIndex b) where
   pub asked-same : (p : List ℤ) (k m : ℕ) (o : Outcome) → TrustedAsked b p k m o → Asked b p k m o
   asked-same p k m o a =
       record { first = question-same p k m (o .answer .code) (a .first); listed = a .listed; few = a .few; count = a .count; leaves = a .leaves; rows = a .rows; distances = a .distances; tags = a .tags }
+
+-- ---- AN OUTCOME HANDED OVER
+
+module _ (b : List ℕ) (p : List ℤ) (k : ℕ) (lent : List Row) (tally : Tally) (o : Outcome) where
+  room : First (trustedQuestion b p k (length lent)) (o .answer .code) → o .answer .code ≡ 0 → (k ≤ 64) × (k ≤ length lent)
+  room f z =
+      let w = all-hold (trustedQuestion b p k (length lent)) refl (subst (First (trustedQuestion b p k (length lent))) z f) in (w .1 .1 .1 .0 .1, w .1 .1 .1 .1 .0)
+
+  pub trusted-hands : TrustedAsked b p k (length lent) o → (r : Answer) (lent' : List Row) (tally' : Tally) → Delivered o lent tally r lent' tally' → TrustedQuestioned b p k lent tally r lent' tally'
+  trusted-hands a = handed-over (trustedQuestion b p k (length lent)) b p k lent tally o a (room (a .first))
+
+-- on a sound index the trusted question is the question
+pub questioned-same : (b : List ℕ) → SoundIndex b → (p : List ℤ) (k : ℕ) (lent : List Row) (tally : Tally) (r : Answer) (lent' : List Row) (tally' : Tally)
+    → TrustedQuestioned b p k lent tally r lent' tally' → Questioned b p k lent tally r lent' tally'
+questioned-same b s p k lent tally r lent' tally' q =
+    record { first = question-same b s p k (length lent) (r .code) (q .first); count = q .count; leaves = q .leaves; rows = q .rows; tallying = q .tallying }

@@ -8,15 +8,18 @@ ghost use Rattle.geometry.specs.Stored.{inRange};
 ghost use Rattle.index.specs.Refusals.{First};
 ghost use Rattle.index.specs.Outcomes.{insertedWith, deletedWith};
 ghost use Rattle.index.specs.Questions.{Refused, Answered};
-ghost use Rattle.index.specs.Trusted.{trustedInsert, trustedDelete, TrustedAsked};
+ghost use Rattle.index.specs.Trusted.{trustedInsert, trustedDelete, TrustedAsked, TrustedQuestioned};
 use crate::making::permitted;
 use crate::refusing::record_of;
 use crate::refusing::refuse_insert;
 use crate::refusing::refuse_question;
+use candidates::Row;
 use geometry::points::slots_of;
 use lending::Answer;
 use lending::Candidates;
 use lending::Outcome;
+use lending::Tally;
+use lending::deliver;
 use search::Query;
 use search::search;
 use tree::find;
@@ -93,7 +96,7 @@ fn answered(index: &[u8], point: &[i16], what: Query) -> Outcome
     }
 }
 
-// A question by value, with some rows lent: its outcome may be handed over (`lending::deliver`).
+// A question by value, with some rows lent: for callers that hold no rows and no tally of their own.
 pub fn question_outcome(index: &[u8], point: &[i16], what: Query, lent: usize) -> Outcome
     ensures { λ o. ⌜ TrustedAsked (now (index .entry)) (now (point .entry)) (what .k) lent o ⌝ }
 {
@@ -102,4 +105,18 @@ pub fn question_outcome(index: &[u8], point: &[i16], what: Query, lent: usize) -
         return refused(code);
     }
     answered(index, point, what)
+}
+
+// A question whose rows go to those lent, and which the caller's tally counts.
+pub fn question(
+    index: &[u8],
+    point: &[i16],
+    what: Query,
+    rows: &mut [Row],
+    tally: &mut Tally,
+) -> Answer
+    ensures { λ r. ⌜ TrustedQuestioned (now (index .entry)) (now (point .entry)) (what .k) (now (rows .entry)) (now (tally .entry)) r (now (rows .exit)) (now (tally .exit)) ⌝ }
+{
+    let o = question_outcome(index, point, what, rows.len());
+    deliver(rows, tally, o)
 }
