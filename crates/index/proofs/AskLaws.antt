@@ -17,7 +17,7 @@ use Rattle.lending.specs.declared.Outcome.{Outcome}
 use Rattle.index.specs.Refusals.{Rule, First}
 use Rattle.index.specs.Outcomes.{foundWith, nothingFound}
 use Rattle.index.specs.PointLaws.{slots-own}
-use Rattle.index.specs.Questions.{AskedBy, Refused, Answered}
+use Rattle.index.specs.Questions.{OutcomeBy, Refused, Answered}
 
 -- ---- THE ROWS
 
@@ -31,7 +31,7 @@ module _ (rules : List Rule) (b : List ℕ) (p : List ℤ) (k : ℕ) where
   nothing-with zero w = absurd (w refl)
   nothing-with (suc m) w = refl
 
-  pub asked-refused : (m : ℕ) (o : Outcome) → First rules m → m ≢ 0 → Refused m o → AskedBy rules b p k o
+  pub asked-refused : (m : ℕ) (o : Outcome) → First rules m → m ≢ 0 → Refused m o → OutcomeBy rules b p k o
   asked-refused m o f w h =
       let e : foundWith (o .answer .code) b p k ≡ nothingFound = ap (λ (x : ℕ). foundWith x b p k) (h .code) ∙ nothing-with m w in
       record {
@@ -45,7 +45,7 @@ module _ (rules : List Rule) (b : List ℕ) (p : List ℤ) (k : ℕ) where
         tags = h .tags;
       }
 
-  pub asked-answered : (m : ℕ) (o : Outcome) → First rules m → m ≡ 0 → k ≤ 64 → Answered b p k o → AskedBy rules b p k o
+  pub asked-answered : (m : ℕ) (o : Outcome) → First rules m → m ≡ 0 → k ≤ 64 → Answered b p k o → OutcomeBy rules b p k o
   asked-answered m o f z top h =
       let e : found b (map stored p) k ≡ foundWith (o .answer .code) b p k = sym (ap (λ (x : ℕ). foundWith x b p k) (h .code)) in
       let rows : rowsIn (o .list .distances) (o .list .tags) (o .list .count) ≡ foundWith (o .answer .code) b p k .rows = ap (λ (x : Found). x .rows) (h .same ∙ e) in

@@ -1,3 +1,4 @@
 pub mod AskLaws
+pub mod LocalLoans
 pub mod QuestionWalk
 pub mod RuleLaws

@@ -24,7 +24,7 @@ use Rattle.lending.specs.Delivered.{Delivered, rowsAfter, tallyAfter}
 use Rattle.index.specs.Refusals.{Rule, First, questionRules}
 use Rattle.index.specs.RefusalLaws.{all-hold}
 use Rattle.index.specs.Outcomes.{unlessRefused, foundWith, nothingFound}
-use Rattle.index.specs.Questions.{written, QuestionedBy, AskedBy, Questioned, Asked}
+use Rattle.index.specs.Questions.{written, QuestionedBy, OutcomeBy, Questioned, QuestionOutcome}
 
 module _ (lent : List Row) (l : Candidates) (f : Found) where
   -- a refused question leaves the rows, one carried out writes those found
@@ -38,7 +38,7 @@ tally-by : (n : ℕ) (t u : Tally) → pick (eqb n 0) t u ≡ unlessRefused n t 
 tally-by zero t u = refl
 tally-by (suc n) t u = rw (ne-eqb (suc n) 0 (λ (e : suc n ≡ 0). omega arith))
 
-module _ (rules : List Rule) (b : List ℕ) (p : List ℤ) (k : ℕ) (lent : List Row) (tally : Tally) (o : Outcome) (a : AskedBy rules b p k o) where
+module _ (rules : List Rule) (b : List ℕ) (p : List ℤ) (k : ℕ) (lent : List Row) (tally : Tally) (o : Outcome) (a : OutcomeBy rules b p k o) where
   -- where it is carried out, there is room for the k rows asked for
   module _ (room : o .answer .code ≡ 0 → (k ≤ 64) × (k ≤ length lent)) where
     pub handed-over : (r : Answer) (lent' : List Row) (tally' : Tally) → Delivered o lent tally r lent' tally' → QuestionedBy rules b p k lent tally r lent' tally'
@@ -62,5 +62,5 @@ module _ (b : List ℕ) (p : List ℤ) (k : ℕ) (lent : List Row) (tally : Tall
   room f z =
       let w = all-hold (questionRules b p k (length lent)) refl (subst (First (questionRules b p k (length lent))) z f) in (w .1 .1 .1 .1 .0 .1, w .1 .1 .1 .1 .1 .0)
 
-  pub question-hands : Asked b p k (length lent) o → (r : Answer) (lent' : List Row) (tally' : Tally) → Delivered o lent tally r lent' tally' → Questioned b p k lent tally r lent' tally'
+  pub question-hands : QuestionOutcome b p k (length lent) o → (r : Answer) (lent' : List Row) (tally' : Tally) → Delivered o lent tally r lent' tally' → Questioned b p k lent tally r lent' tally'
   question-hands a = handed-over (questionRules b p k (length lent)) b p k lent tally o a (room (a .first))

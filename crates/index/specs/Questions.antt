@@ -28,7 +28,7 @@ pub record QuestionedBy (rules : List Rule) (b : List ℕ) (p : List ℤ) (k : �
   pub tallying : tally' ≡ unlessRefused (r .code) (counted tally (r .leaves)) tally
 
 -- the same by value, before it is handed over: an outcome o
-pub record AskedBy (rules : List Rule) (b : List ℕ) (p : List ℤ) (k : ℕ) (o : Outcome) : Type 0 where
+pub record OutcomeBy (rules : List Rule) (b : List ℕ) (p : List ℤ) (k : ℕ) (o : Outcome) : Type 0 where
   pub first : First rules (o .answer .code)
   pub listed : o .list .count ≡ o .answer .count
   pub few : o .list .count ≤ k
@@ -43,8 +43,8 @@ abbrev pub Questioned : List ℕ → List ℤ → ℕ → List Row → Tally →
 Questioned b p k lent tally r lent' tally' = QuestionedBy (questionRules b p k (length lent)) b p k lent tally r lent' tally'
 
 -- and by value, with n rows lent
-abbrev pub Asked : List ℕ → List ℤ → ℕ → ℕ → Outcome → Type 0
-Asked b p k n o = AskedBy (questionRules b p k n) b p k o
+abbrev pub QuestionOutcome : List ℕ → List ℤ → ℕ → ℕ → Outcome → Type 0
+QuestionOutcome b p k n o = OutcomeBy (questionRules b p k n) b p k o
 
 -- refused with the number n: 0 rows, 0 leaves
 pub record Refused (n : ℕ) (o : Outcome) : Type 0 where

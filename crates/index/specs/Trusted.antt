@@ -21,7 +21,7 @@ use Rattle.lending.specs.declared.Outcome.{Outcome}
 use Rattle.lending.specs.declared.Tally.{Tally}
 use Rattle.candidates.specs.declared.Row.{Row}
 use Rattle.index.specs.Refusals.{Rule, First, recordOf, pagesToEven}
-use Rattle.index.specs.Questions.{AskedBy, QuestionedBy}
+use Rattle.index.specs.Questions.{OutcomeBy, QuestionedBy}
 
 -- the point p has as many coordinates as the index b has features: 1 to 16
 abbrev pub Suits : List ℕ → List ℤ → Type 0
@@ -72,8 +72,8 @@ abbrev pub withoutCheck : List ℕ → List ℕ
 withoutCheck ns = keep (λ n. not (eqb n 2)) ns
 
 -- a question without the check, by value and as it is handed over
-abbrev pub TrustedAsked : List ℕ → List ℤ → ℕ → ℕ → Outcome → Type 0
-TrustedAsked b p k n o = AskedBy (trustedQuestion b p k n) b p k o
+abbrev pub TrustedOutcome : List ℕ → List ℤ → ℕ → ℕ → Outcome → Type 0
+TrustedOutcome b p k n o = OutcomeBy (trustedQuestion b p k n) b p k o
 
 abbrev pub TrustedQuestioned : List ℕ → List ℤ → ℕ → List Row → Tally → Answer → List Row → Tally → Type 0
 TrustedQuestioned b p k lent tally r lent' tally' = QuestionedBy (trustedQuestion b p k (length lent)) b p k lent tally r lent' tally'

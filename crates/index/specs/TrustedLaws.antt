@@ -24,9 +24,9 @@ use Rattle.lending.specs.declared.Tally.{Tally}
 use Rattle.lending.specs.Delivered.{Delivered}
 use Rattle.index.specs.Refusals.{Rule, First, liveTimes, insertRules, deleteRules, questionRules}
 use Rattle.index.specs.RefusalLaws.{all-hold, later}
-use Rattle.index.specs.Questions.{Asked, Questioned}
+use Rattle.index.specs.Questions.{QuestionOutcome, Questioned}
 use Rattle.index.specs.QuestionLaws.{handed-over}
-use Rattle.index.specs.Trusted.{Suits, trustedInsert, trustedDelete, trustedQuestion, numbers, withoutCheck, TrustedAsked, TrustedQuestioned}
+use Rattle.index.specs.Trusted.{Suits, trustedInsert, trustedDelete, trustedQuestion, numbers, withoutCheck, TrustedOutcome, TrustedQuestioned}
 
 -- ---- THE NUMBERS: THE ACT'S, IN ITS ORDER, WITHOUT 2
 
@@ -119,7 +119,7 @@ module _ (b : List ℕ) (s : SoundIndex b) where
       )
 
   -- and its outcome by value
-  pub asked-same : (p : List ℤ) (k m : ℕ) (o : Outcome) → TrustedAsked b p k m o → Asked b p k m o
+  pub asked-same : (p : List ℤ) (k m : ℕ) (o : Outcome) → TrustedOutcome b p k m o → QuestionOutcome b p k m o
   asked-same p k m o a =
       record { first = question-same p k m (o .answer .code) (a .first); listed = a .listed; few = a .few; count = a .count; leaves = a .leaves; rows = a .rows; distances = a .distances; tags = a .tags }
 
@@ -130,7 +130,7 @@ module _ (b : List ℕ) (p : List ℤ) (k : ℕ) (lent : List Row) (tally : Tall
   room f z =
       let w = all-hold (trustedQuestion b p k (length lent)) refl (subst (First (trustedQuestion b p k (length lent))) z f) in (w .1 .1 .1 .0 .1, w .1 .1 .1 .1 .0)
 
-  pub trusted-hands : TrustedAsked b p k (length lent) o → (r : Answer) (lent' : List Row) (tally' : Tally) → Delivered o lent tally r lent' tally' → TrustedQuestioned b p k lent tally r lent' tally'
+  pub trusted-hands : TrustedOutcome b p k (length lent) o → (r : Answer) (lent' : List Row) (tally' : Tally) → Delivered o lent tally r lent' tally' → TrustedQuestioned b p k lent tally r lent' tally'
   trusted-hands a = handed-over (trustedQuestion b p k (length lent)) b p k lent tally o a (room (a .first))
 
 -- on a sound index the trusted question is the question

@@ -1,5 +1,6 @@
 // The question: the k nearest of a point, in lent rows, with the caller's tally.
-ghost use Rattle.index.specs.Questions.{Asked, Questioned};
+ghost use Rattle.index.specs.Questions.{QuestionOutcome, Questioned};
+use crate::Asked;
 use crate::checking::refuse_index;
 use crate::trusted;
 use candidates::Row;
@@ -11,7 +12,7 @@ use search::Query;
 
 // A question by value, with some rows lent: for callers that hold no rows and no tally of their own.
 pub fn question_outcome(index: &[u8], point: &[i16], what: Query, lent: usize) -> Outcome
-    ensures { λ o. ⌜ Asked (now (index .entry)) (now (point .entry)) (what .k) lent o ⌝ }
+    ensures { λ o. ⌜ QuestionOutcome (now (index .entry)) (now (point .entry)) (what .k) lent o ⌝ }
 {
     let code = refuse_index(index);
     if code != 0 {
@@ -32,4 +33,18 @@ pub fn question(
 {
     let o = question_outcome(index, point, what, rows.len());
     deliver(rows, tally, o)
+}
+
+// The question for callers that hold 64 rows and a tally by value.
+pub fn ask(index: &[u8], point: &[i16], what: Query, rows: [Row; 64], tally: Tally) -> Asked
+    ensures { λ r. ⌜ Questioned (now (index .entry)) (now (point .entry)) (what .k) rows tally (r .answer) (r .rows) (r .tally) ⌝ }
+{
+    let mut kept = rows;
+    let mut count = tally;
+    let answer = question(index, point, what, &mut kept, &mut count);
+    Asked {
+        answer: answer,
+        rows: kept,
+        tally: count,
+    }
 }

@@ -8,7 +8,7 @@ ghost use Rattle.geometry.specs.Stored.{inRange};
 ghost use Rattle.index.specs.Refusals.{First};
 ghost use Rattle.index.specs.Outcomes.{insertedWith, deletedWith};
 ghost use Rattle.index.specs.Questions.{Refused, Answered};
-ghost use Rattle.index.specs.Trusted.{trustedInsert, trustedDelete, TrustedAsked, TrustedQuestioned};
+ghost use Rattle.index.specs.Trusted.{trustedInsert, trustedDelete, TrustedOutcome, TrustedQuestioned};
 use crate::making::permitted;
 use crate::refusing::record_of;
 use crate::refusing::refuse_insert;
@@ -98,7 +98,7 @@ fn answered(index: &[u8], point: &[i16], what: Query) -> Outcome
 
 // A question by value, with some rows lent: for callers that hold no rows and no tally of their own.
 pub fn question_outcome(index: &[u8], point: &[i16], what: Query, lent: usize) -> Outcome
-    ensures { λ o. ⌜ TrustedAsked (now (index .entry)) (now (point .entry)) (what .k) lent o ⌝ }
+    ensures { λ o. ⌜ TrustedOutcome (now (index .entry)) (now (point .entry)) (what .k) lent o ⌝ }
 {
     let code = refuse_question(index, point, what.k, lent);
     if code != 0 {
