@@ -2,6 +2,7 @@
 ghost use Rattle.index.specs.Questions.{QuestionOutcome, Questioned};
 use crate::Asked;
 use crate::checking::refuse_index;
+use crate::refusing::refused;
 use crate::trusted;
 use candidates::Row;
 use lending::Answer;
@@ -16,7 +17,7 @@ pub fn question_outcome(index: &[u8], point: &[i16], what: Query, lent: usize) -
 {
     let code = refuse_index(index);
     if code != 0 {
-        return trusted::refused(code);
+        return refused(code);
     }
     trusted::question_outcome(index, point, what, lent)
 }

@@ -6,10 +6,14 @@ ghost use lib.ListN.{length};
 ghost use Rattle.geometry.specs.Stored.{inRange};
 ghost use Rattle.index.specs.Refusals.{First, recordOf};
 ghost use Rattle.index.specs.Outcomes.{Decides};
+ghost use Rattle.index.specs.Questions.{Refused};
 ghost use Rattle.index.specs.Trusted.{trustedPoint, trustedInsert, trustedQuestion};
 use crate::making::permitted;
 use geometry::points::in_range;
 use geometry::points::slots_of;
+use lending::Answer;
+use lending::Candidates;
+use lending::Outcome;
 use pagestore::Record;
 use pagestore::features_of;
 use pagestore::free_count;
@@ -64,6 +68,24 @@ pub fn refuse_question(index: &[u8], point: &[i16], k: usize, lent: usize) -> u3
         return 11;
     }
     0
+}
+
+// What a question that is refused returns: its number, 0 rows, 0 leaves.
+pub fn refused(code: u32) -> Outcome
+    ensures { λ o. ⌜ Refused code o ⌝ }
+{
+    Outcome {
+        answer: Answer {
+            code: code,
+            count: 0,
+            leaves: 0,
+        },
+        list: Candidates {
+            distances: [0; 64],
+            tags: [0; 64],
+            count: 0,
+        },
+    }
 }
 
 // The record of an identifier and a point.

@@ -7,12 +7,13 @@ ghost use lib.ListN.{length};
 ghost use Rattle.geometry.specs.Stored.{inRange};
 ghost use Rattle.index.specs.Refusals.{First};
 ghost use Rattle.index.specs.Outcomes.{insertedWith, deletedWith};
-ghost use Rattle.index.specs.Questions.{Refused, Answered};
+ghost use Rattle.index.specs.Questions.{Answered};
 ghost use Rattle.index.specs.Trusted.{trustedInsert, trustedDelete, TrustedOutcome, TrustedQuestioned};
 use crate::making::permitted;
 use crate::refusing::record_of;
 use crate::refusing::refuse_insert;
 use crate::refusing::refuse_question;
+use crate::refusing::refused;
 use candidates::Row;
 use geometry::points::slots_of;
 use lending::Answer;
@@ -52,24 +53,6 @@ pub fn delete(index: &mut [u8], id: u32) -> u32
     }
     tree::delete(index, x);
     0
-}
-
-// What a question that is refused returns: its number, 0 rows, 0 leaves.
-pub fn refused(code: u32) -> Outcome
-    ensures { λ o. ⌜ Refused code o ⌝ }
-{
-    Outcome {
-        answer: Answer {
-            code: code,
-            count: 0,
-            leaves: 0,
-        },
-        list: Candidates {
-            distances: [0; 64],
-            tags: [0; 64],
-            count: 0,
-        },
-    }
 }
 
 // What a question that is not refused returns: the rows and the count are the search's.
