@@ -8,7 +8,7 @@ use lib.IntN.{ℤ}
 use lib.ListN.{length, length-map}
 use Rattle.geometry.specs.Stored.{stored}
 use Rattle.pagestore.specs.declared.Record.{Record}
-use Rattle.pagestore.specs.Store.{View, viewOf, features}
+use Rattle.pagestore.specs.Store.{View, viewOf, features, newIndex}
 use Rattle.trees.specs.Trees.{live}
 use Rattle.trees.specs.Sound.{Permitted, SoundIndex}
 use Rattle.search.specs.Visit.{Answer as Found}
@@ -19,8 +19,8 @@ use Rattle.index.specs.RefusalLaws.{first-one, all-hold, none-fails}
 use Rattle.index.specs.Outcomes.{insertedWith, deletedWith, foundWith}
 use Rattle.index.specs.Trusted.{Suits, trustedInsert, trustedDelete, trustedQuestion}
 use Rattle.index.specs.TrustedLaws.{insert-same, delete-same, question-same}
-use Rattle.index.specs.Acts.{Act, insert, delete, question, check, Done, does, Series, end, next}
-use Rattle.promises.specs.Series.{Stands, act-stands}
+use Rattle.index.specs.Acts.{Act, insert, delete, question, check, Done, does, Series, end, next, heldBy}
+use Rattle.promises.specs.Series.{Stands, act-stands, new-stands, series}
 
 -- what a trusted act on index b returns and leaves, as its contract says; check is the act itself
 abbrev pub trustedDoes : Act → List ℕ → ℕ → Found → List ℕ → Type 0
@@ -75,6 +75,10 @@ trusted-series {b = b} s (step {m = m} {o = o} h t) =
     let g = trusted-same b s (o .act) (o .code) (o .answer) m h in
     let r = trusted-series (sound-after b s (o .act) (o .code) (o .answer) m g) t in
     (next g (r .0), r .1)
+
+-- demand 2 for trusted acts: after any of them on a newly made index the live records are those inserted and not deleted since
+pub trusted-stands : (b : List ℕ) (d : ℕ) → Permitted (length b) → 1 ≤ d → d ≤ 16 → {os : List Done} {c : List ℕ} → TrustedSeries (newIndex b d) os c → Stands d (heldBy d os []) c
+trusted-stands b d lent low high h = series b d lent low high (trusted-series (new-stands b d lent low high .sound) h .0)
 
 -- Demand 3's last sentence for the trusted question: whatever bytes the pages of the unread leaves hold, it is carried out on them with the
 -- rows and the count of the question on the sound index.
