@@ -1,6 +1,5 @@
 -- The outcome of a question by value, refused or carried out.
 use mathlib.Core.Path.{_≡_, refl, sym, ap, _∙_, subst}
-use mathlib.Core.Bool.{true}
 use mathlib.Core.Logic.{_≢_}
 use mathlib.Core.List.{List, map}
 use Prim.Native.Nat.{ℕ, zero, suc, _≤_}
@@ -8,24 +7,17 @@ use native.Mathlib.Omega.{arith}
 use lib.IntN.{ℤ}
 use lib.ListN.{length, take}
 use lib.Seq.{length-take-le}
-use Rattle.geometry.specs.Stored.{stored, slotsOf, inRange}
-use Rattle.pagestore.specs.Store.{View, viewOf, features, fieldAt}
+use Rattle.geometry.specs.Stored.{stored, slotsOf}
 use Rattle.candidates.specs.Held.{rowsIn, rowsOf}
 use Rattle.candidates.proofs.HeldLaws.{length-rowsOf}
 use Rattle.search.specs.declared.Found as search
 use Rattle.search.specs.Visit.{Answer as Found, found}
 use Rattle.search.specs.Steps.{Searched}
 use Rattle.lending.specs.declared.Outcome.{Outcome}
-use Rattle.index.specs.Refusals.{First, checkRules, questionRules}
-use Rattle.index.specs.RefusalLaws.{all-hold}
-use Rattle.index.specs.Facts.{Checked}
+use Rattle.index.specs.Refusals.{Rule, First}
 use Rattle.index.specs.Outcomes.{foundWith, nothingFound}
 use Rattle.index.specs.PointLaws.{slots-own}
-use Rattle.index.specs.Questions.{Asked, Refused, Answered}
-
-pub checked-features : (b : List ℕ) (n d : ℕ) → First (checkRules b) n → d ≡ fieldAt features b → Checked b n d
-unfolding viewOf
-checked-features b n d f e = record { first = f; features = sym e }
+use Rattle.index.specs.Questions.{OutcomeBy, Refused, Answered}
 
 -- ---- THE ROWS
 
@@ -34,17 +26,18 @@ rows-held ds ts n d t l = length-take-le n (rowsOf ds ts) (length-rowsOf n ds ts
 
 -- ---- THE OUTCOME
 
-module _ (b : List ℕ) (p : List ℤ) (k n : ℕ) where
+module _ (rules : List Rule) (b : List ℕ) (p : List ℤ) (k : ℕ) where
   nothing-with : (m : ℕ) → m ≢ 0 → foundWith m b p k ≡ nothingFound
   nothing-with zero w = absurd (w refl)
   nothing-with (suc m) w = refl
 
-  pub asked-refused : (m : ℕ) (o : Outcome) → First (questionRules b p k n) m → m ≢ 0 → Refused m o → Asked b p k n o
+  pub asked-refused : (m : ℕ) (o : Outcome) → First rules m → m ≢ 0 → Refused m o → OutcomeBy rules b p k o
   asked-refused m o f w h =
       let e : foundWith (o .answer .code) b p k ≡ nothingFound = ap (λ (x : ℕ). foundWith x b p k) (h .code) ∙ nothing-with m w in
       record {
-        first = subst (First (questionRules b p k n)) (sym (h .code)) f;
+        first = subst (First rules) (sym (h .code)) f;
         listed = h .listed ∙ sym (h .count);
+        few = omega (arith, h .listed);
         count = h .count ∙ sym (ap (λ (x : Found). length (x .rows)) e);
         leaves = h .leaves ∙ sym (ap (λ (x : Found). x .leaves) e);
         rows = ap (rowsIn (o .list .distances) (o .list .tags)) (h .listed) ∙ sym (ap (λ (x : Found). x .rows) e);
@@ -52,34 +45,26 @@ module _ (b : List ℕ) (p : List ℤ) (k n : ℕ) where
         tags = h .tags;
       }
 
-  pub asked-answered : (m : ℕ) (o : Outcome) → First (questionRules b p k n) m → m ≡ 0 → Answered b p k o → Asked b p k n o
-  asked-answered m o f z h =
+  pub asked-answered : (m : ℕ) (o : Outcome) → First rules m → m ≡ 0 → k ≤ 64 → Answered b p k o → OutcomeBy rules b p k o
+  asked-answered m o f z top h =
       let e : found b (map stored p) k ≡ foundWith (o .answer .code) b p k = sym (ap (λ (x : ℕ). foundWith x b p k) (h .code)) in
       let rows : rowsIn (o .list .distances) (o .list .tags) (o .list .count) ≡ foundWith (o .answer .code) b p k .rows = ap (λ (x : Found). x .rows) (h .same ∙ e) in
+      let few : o .list .count ≤ k = h .few in
       record {
-        first = subst (First (questionRules b p k n)) (z ∙ sym (h .code)) f;
+        first = subst (First rules) (z ∙ sym (h .code)) f;
         listed = h .listed;
-        count = sym (h .listed) ∙ sym (rows-held (o .list .distances) (o .list .tags) (o .list .count) (h .distances) (h .tags) (h .few)) ∙ ap length rows;
+        few = few;
+        count = sym (h .listed) ∙ sym (rows-held (o .list .distances) (o .list .tags) (o .list .count) (h .distances) (h .tags) (omega arith)) ∙ ap length rows;
         leaves = ap (λ (x : Found). x .leaves) (h .same ∙ e);
         rows = rows;
         distances = h .distances;
         tags = h .tags;
       }
 
-  -- what the search asks for
-  pub may-search : (m : ℕ) → First (questionRules b p k n) m → m ≡ 0 → (1 ≤ length p) × (length p ≤ 16) × (inRange p ≡ true) × (1 ≤ k) × (k ≤ 64)
-  may-search m f z =
-      let w = all-hold (questionRules b p k n) refl (subst (First (questionRules b p k n)) z f) in
-      let same : length p ≡ viewOf b .d = w .1 .1 .0 in
-      let low : 1 ≤ viewOf b .d = w .1 .0 .d .0 in
-      let high : viewOf b .d ≤ 16 = w .1 .0 .d .1 in
-      (omega arith, omega arith, w .1 .1 .1 .0, w .1 .1 .1 .1 .0 .0, w .1 .1 .1 .1 .0 .1)
-
 -- what the search returns, as an outcome
-pub answered-by : (b : List ℕ) (p : List ℤ) (k : ℕ) (slots : List ℕ) (r : search.Found) → slots ≡ slotsOf p → k ≤ 64 → Searched b (take (length p) slots) k r
+pub answered-by : (b : List ℕ) (p : List ℤ) (k : ℕ) (slots : List ℕ) (r : search.Found) → slots ≡ slotsOf p → Searched b (take (length p) slots) k r
     → length (r .distances) ≡ 64 → length (r .tags) ≡ 64
     → Answered b p k (record { answer = record { code = 0; count = r .rows; leaves = r .leaves }; list = record { distances = r .distances; tags = r .tags; count = r .rows } })
-answered-by b p k slots r e l h d t =
+answered-by b p k slots r e h d t =
     let own : take (length p) slots ≡ map stored p = subst (λ (s : List ℕ). take (length p) s ≡ map stored p) (sym e) (slots-own p) in
-    let few : r .rows ≤ k = h .few in
-    record { code = refl; listed = refl; few = omega arith; same = h .answer ∙ ap (λ (q : List ℕ). found b q k) own; distances = d; tags = t }
+    record { code = refl; listed = refl; few = h .few; same = h .answer ∙ ap (λ (q : List ℕ). found b q k) own; distances = d; tags = t }

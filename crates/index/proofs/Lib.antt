@@ -1,3 +1,4 @@
 pub mod AskLaws
-pub mod CodeLaws
-pub mod UpkeepLaws
+pub mod LocalLoans
+pub mod QuestionWalk
+pub mod RuleLaws

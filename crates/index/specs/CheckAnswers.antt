@@ -1,8 +1,8 @@
 -- What check answers (01): a number, and a page.
 use mathlib.Core.Path.{_≡_, refl}
 use mathlib.Core.Logic.{_≢_, inl, inr}
-use mathlib.Core.List.{List}
-use Prim.Native.Nat.{ℕ}
+use mathlib.Core.List.{List, [], _++_}
+use Prim.Native.Nat.{ℕ, _<_}
 use native.Mathlib.Omega.{arith}
 use lib.ListN.{length}
 use Rattle.pagestore.specs.Store.{viewOf}
@@ -11,7 +11,7 @@ use Rattle.faults.specs.Faults.{FailsAt}
 use Rattle.faults.specs.Decided.{sound-none}
 use Rattle.soundness.specs.declared.Checked.{Checked}
 use Rattle.soundness.specs.Outcome.{Verdict}
-use Rattle.index.specs.Refusals.{First, checkRules}
+use Rattle.index.specs.Refusals.{Rule, First, liveTimes, checkRules}
 
 -- of the bytes b: the first number of check's order that applies; the page is 0 with 0 or 1, and with 2 one at which soundness fails
 pub record CheckAnswer (b : List ℕ) (r : Checked) : Type 0 where
@@ -26,3 +26,12 @@ check-one b w = record { first = inl (refl, w); none = λ n. refl; fault = λ e.
 pub check-passes : (b : List ℕ) (r : Checked) → Permitted (length b) → Verdict b r → CheckAnswer b r
 check-passes b r l (Verdict.sound s) = record { first = inr (l, inr (s l, refl)); none = λ n. refl; fault = λ e. absurd (omega (arith, e)) }
 check-passes b r l (Verdict.fails {p = p} f) = record { first = inr (l, inl (refl, λ s. sound-none b s p f)); none = λ n. absurd (n refl); fault = λ e. f }
+
+-- where an identifier is live twice, any act whose rules begin with check's is refused with 2
+pub repeated-refused : (b : List ℕ) (rest : List Rule) (i n : ℕ) → Permitted (length b) → 1 < liveTimes b i → First (checkRules b ++ rest) n → n ≡ 2
+repeated-refused b rest i n l h (inl e) = absurd (e .1 l)
+repeated-refused b rest i n l h (inr (p, inl e)) = e .0
+repeated-refused b rest i n l h (inr (p, inr (s, e))) = absurd (omega (arith, s .distinct i))
+
+pub check-repeated : (b : List ℕ) (r : Checked) (i : ℕ) → CheckAnswer b r → Permitted (length b) → 1 < liveTimes b i → r .code ≡ 2
+check-repeated b r i a l h = repeated-refused b [] i (r .code) l h (a .first)

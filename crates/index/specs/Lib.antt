@@ -2,9 +2,10 @@ pub mod Refusals
 pub mod RefusalLaws
 pub mod Outcomes
 pub mod OutcomeLaws
-pub mod Facts
 pub mod CheckAnswers
 pub mod Questions
 pub mod QuestionLaws
+pub mod Trusted
+pub mod TrustedLaws
 pub mod Acts
 pub mod PointLaws

@@ -6,17 +6,13 @@ use Prim.Native.Nat.{ℕ, zero, suc, _≤_}
 use native.Mathlib.Omega.{arith}
 use lib.IntN.{ℤ}
 use lib.Dec.{eqb}
-use lib.ListN.{length, take, drop, length-take, length-map}
+use lib.ListN.{length, drop}
 use borrow.Author.Tests.{ne-eqb}
 use Rattle.lists.specs.Basics.{pick}
 use Rattle.geometry.specs.Stored.{stored}
-use Rattle.pagestore.specs.Store.{View, viewOf}
-use Rattle.bestfirst.specs.Nearest.{candidates, nearest}
 use Rattle.candidates.specs.declared.Row.{Row}
 use Rattle.candidates.specs.Held.{rowsIn}
-use Rattle.search.specs.Visit.{Answer as Found, found, ranking}
-use Rattle.search.specs.Questions.{rowsOf}
-use Rattle.search.proofs.Promises.{found-exact}
+use Rattle.search.specs.Visit.{Answer as Found, found}
 use Rattle.lending.specs.declared.Answer.{Answer}
 use Rattle.lending.specs.declared.Candidates.{Candidates}
 use Rattle.lending.specs.declared.Outcome.{Outcome}
@@ -25,10 +21,10 @@ use Rattle.lending.specs.Tallies.{counted}
 use Rattle.lending.specs.Filling.{filled}
 use Rattle.lending.specs.FillingLaws.{filled-is}
 use Rattle.lending.specs.Delivered.{Delivered, rowsAfter, tallyAfter}
-use Rattle.index.specs.Refusals.{First, questionRules}
+use Rattle.index.specs.Refusals.{Rule, First, questionRules}
 use Rattle.index.specs.RefusalLaws.{all-hold}
 use Rattle.index.specs.Outcomes.{unlessRefused, foundWith, nothingFound}
-use Rattle.index.specs.Questions.{written, Questioned, Asked}
+use Rattle.index.specs.Questions.{written, QuestionedBy, OutcomeBy, Questioned, QuestionOutcome}
 
 module _ (lent : List Row) (l : Candidates) (f : Found) where
   -- a refused question leaves the rows, one carried out writes those found
@@ -42,33 +38,29 @@ tally-by : (n : ℕ) (t u : Tally) → pick (eqb n 0) t u ≡ unlessRefused n t 
 tally-by zero t u = refl
 tally-by (suc n) t u = rw (ne-eqb (suc n) 0 (λ (e : suc n ≡ 0). omega arith))
 
-nearest-few : (k : ℕ) (xs : List Row) → length (nearest ranking k xs) ≤ k
-unfolding nearest
-nearest-few k xs = omega (arith, length-take k (candidates ranking xs))
+module _ (rules : List Rule) (b : List ℕ) (p : List ℤ) (k : ℕ) (lent : List Row) (tally : Tally) (o : Outcome) (a : OutcomeBy rules b p k o) where
+  -- where it is carried out, there is room for the k rows asked for
+  module _ (room : o .answer .code ≡ 0 → (k ≤ 64) × (k ≤ length lent)) where
+    pub handed-over : (r : Answer) (lent' : List Row) (tally' : Tally) → Delivered o lent tally r lent' tally' → QuestionedBy rules b p k lent tally r lent' tally'
+    handed-over r lent' tally' h =
+        let few : o .list .count ≤ k = a .few in
+        let e : o .list .count ≡ length (foundWith (o .answer .code) b p k .rows) = a .listed ∙ a .count in
+        subst (λ (x : Answer). QuestionedBy rules b p k lent tally x lent' tally') (sym (h .same))
+        (record {
+          first = a .first;
+          count = a .count;
+          leaves = a .leaves;
+          rows = h .filling
+              ∙ rows-by lent (o .list) (found b (map stored p) k) (o .answer .code) (a .rows) e (λ z. let top : k ≤ 64 = room z .0 in
+              let most : k ≤ length lent = room z .1 in filled-is (o .list) lent (a .distances) (a .tags) (omega arith) (omega arith));
+          tallying = h .count ∙ tally-by (o .answer .code) (counted tally (o .answer .leaves)) tally;
+        })
 
--- no more rows than are asked for and lent
-found-few : (b : List ℕ) (p : List ℤ) (k n m : ℕ) → First (questionRules b p k n) m → (length (foundWith m b p k .rows) ≤ 64) × (length (foundWith m b p k .rows) ≤ n)
-found-few b p k n zero h =
-    let w = all-hold (questionRules b p k n) refl h in
-    let same : length (map stored p) ≡ viewOf b .d = length-map p stored ∙ w .1 .1 .0 in
-    let top : k ≤ 64 = w .1 .1 .1 .1 .0 .1 in
-    let room : k ≤ n = w .1 .1 .1 .1 .1 .0 in
-    let e : length (found b (map stored p) k .rows) ≡ length (nearest ranking k (rowsOf (viewOf b) (map stored p))) =
-    ap (λ (f : Found). length (f .rows)) (found-exact b (w .1 .0) (map stored p) same k (w .1 .1 .1 .1 .0 .0)) in
-    let q = nearest-few k (rowsOf (viewOf b) (map stored p)) in
-    (omega arith, omega arith)
-found-few b p k n (suc m) h = (omega arith, omega arith)
+-- the act's: where it is carried out, its rules leave room
+module _ (b : List ℕ) (p : List ℤ) (k : ℕ) (lent : List Row) (tally : Tally) (o : Outcome) where
+  room : First (questionRules b p k (length lent)) (o .answer .code) → o .answer .code ≡ 0 → (k ≤ 64) × (k ≤ length lent)
+  room f z =
+      let w = all-hold (questionRules b p k (length lent)) refl (subst (First (questionRules b p k (length lent))) z f) in (w .1 .1 .1 .1 .0 .1, w .1 .1 .1 .1 .1 .0)
 
-module _ (b : List ℕ) (p : List ℤ) (k : ℕ) (lent : List Row) (tally : Tally) (o : Outcome) (a : Asked b p k (length lent) o) where
-  pub handed-over : (r : Answer) (lent' : List Row) (tally' : Tally) → Delivered o lent tally r lent' tally' → Questioned b p k lent tally r lent' tally'
-  handed-over r lent' tally' h =
-      let few = found-few b p k (length lent) (o .answer .code) (a .first) in
-      let e : o .list .count ≡ length (foundWith (o .answer .code) b p k .rows) = a .listed ∙ a .count in
-      subst (λ (x : Answer). Questioned b p k lent tally x lent' tally') (sym (h .same))
-      (record {
-        first = a .first;
-        count = a .count;
-        leaves = a .leaves;
-        rows = h .filling ∙ rows-by lent (o .list) (found b (map stored p) k) (o .answer .code) (a .rows) e (λ z. filled-is (o .list) lent (a .distances) (a .tags) (omega arith) (omega arith));
-        tallying = h .count ∙ tally-by (o .answer .code) (counted tally (o .answer .leaves)) tally;
-      })
+  pub question-hands : QuestionOutcome b p k (length lent) o → (r : Answer) (lent' : List Row) (tally' : Tally) → Delivered o lent tally r lent' tally' → Questioned b p k lent tally r lent' tally'
+  question-hands a = handed-over (questionRules b p k (length lent)) b p k lent tally o a (room (a .first))

@@ -12,30 +12,39 @@ use Rattle.lending.specs.declared.Answer.{Answer}
 use Rattle.lending.specs.declared.Outcome.{Outcome}
 use Rattle.lending.specs.declared.Tally.{Tally}
 use Rattle.lending.specs.Tallies.{counted}
-use Rattle.index.specs.Refusals.{First, questionRules}
+use Rattle.index.specs.Refusals.{Rule, First, questionRules}
 use Rattle.index.specs.Outcomes.{unlessRefused, foundWith}
 
 -- rows lent, once these rows have been returned in them: rows past those keep their contents
 abbrev pub written : List Row → List Row → List Row
 written rows lent = rows ++ drop (length rows) lent
 
--- What a question for the k nearest of p on index b returns and leaves. lent, tally: the rows lent and the caller's tally before it.
-pub record Questioned (b : List ℕ) (p : List ℤ) (k : ℕ) (lent : List Row) (tally : Tally) (r : Answer) (lent' : List Row) (tally' : Tally) : Type 0 where
-  pub first : First (questionRules b p k (length lent)) (r .code)
+-- What a question for the k nearest of p on index b returns and leaves, by its rules. lent, tally: the rows lent and the caller's tally before it.
+pub record QuestionedBy (rules : List Rule) (b : List ℕ) (p : List ℤ) (k : ℕ) (lent : List Row) (tally : Tally) (r : Answer) (lent' : List Row) (tally' : Tally) : Type 0 where
+  pub first : First rules (r .code)
   pub count : r .count ≡ length (foundWith (r .code) b p k .rows)
   pub leaves : r .leaves ≡ foundWith (r .code) b p k .leaves
   pub rows : lent' ≡ written (foundWith (r .code) b p k .rows) lent
   pub tallying : tally' ≡ unlessRefused (r .code) (counted tally (r .leaves)) tally
 
--- the same by value, before it is handed over: an outcome o of a question with n rows lent
-pub record Asked (b : List ℕ) (p : List ℤ) (k n : ℕ) (o : Outcome) : Type 0 where
-  pub first : First (questionRules b p k n) (o .answer .code)
+-- the same by value, before it is handed over: an outcome o
+pub record OutcomeBy (rules : List Rule) (b : List ℕ) (p : List ℤ) (k : ℕ) (o : Outcome) : Type 0 where
+  pub first : First rules (o .answer .code)
   pub listed : o .list .count ≡ o .answer .count
+  pub few : o .list .count ≤ k
   pub count : o .answer .count ≡ length (foundWith (o .answer .code) b p k .rows)
   pub leaves : o .answer .leaves ≡ foundWith (o .answer .code) b p k .leaves
   pub rows : rowsIn (o .list .distances) (o .list .tags) (o .list .count) ≡ foundWith (o .answer .code) b p k .rows
   pub distances : length (o .list .distances) ≡ 64
   pub tags : length (o .list .tags) ≡ 64
+
+-- the act: its rules are the table's
+abbrev pub Questioned : List ℕ → List ℤ → ℕ → List Row → Tally → Answer → List Row → Tally → Type 0
+Questioned b p k lent tally r lent' tally' = QuestionedBy (questionRules b p k (length lent)) b p k lent tally r lent' tally'
+
+-- and by value, with n rows lent
+abbrev pub QuestionOutcome : List ℕ → List ℤ → ℕ → ℕ → Outcome → Type 0
+QuestionOutcome b p k n o = OutcomeBy (questionRules b p k n) b p k o
 
 -- refused with the number n: 0 rows, 0 leaves
 pub record Refused (n : ℕ) (o : Outcome) : Type 0 where
@@ -50,7 +59,7 @@ pub record Refused (n : ℕ) (o : Outcome) : Type 0 where
 pub record Answered (b : List ℕ) (p : List ℤ) (k : ℕ) (o : Outcome) : Type 0 where
   pub code : o .answer .code ≡ 0
   pub listed : o .list .count ≡ o .answer .count
-  pub few : o .list .count ≤ 64
+  pub few : o .list .count ≤ k
   pub same : record { rows = rowsIn (o .list .distances) (o .list .tags) (o .list .count); leaves = o .answer .leaves } ≡ found b (map stored p) k
   pub distances : length (o .list .distances) ≡ 64
   pub tags : length (o .list .tags) ≡ 64

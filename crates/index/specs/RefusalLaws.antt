@@ -70,3 +70,8 @@ refused-before (rule ∷ xs) ys n w (inr e) = inr (e .0, refused-before xs ys n 
 pub refused-after : (xs ys : List Rule) (n : ℕ) → Hold xs → First ys n → First (xs ++ ys) n
 refused-after [] ys n h e = e
 refused-after (rule ∷ xs) ys n h e = inr (h .0, refused-after xs ys n (h .1) e)
+
+-- rules without the first one
+abbrev pub later : List Rule → List Rule
+later [] = []
+later (rule ∷ rules) = rules

@@ -1,5 +1,6 @@
 // Check: is an index sound?
 ghost use Rattle.index.specs.CheckAnswers.{CheckAnswer};
+ghost use Rattle.index.specs.Refusals.{First, checkRules};
 use crate::making::permitted;
 use soundness::Checked;
 
@@ -11,4 +12,12 @@ pub fn check(index: &[u8]) -> Checked
         return Checked { code: 1, page: 0 };
     }
     soundness::check(index)
+}
+
+// The number that check gives.
+pub fn refuse_index(index: &[u8]) -> u32
+    ensures { λ r. ⌜ First (checkRules (now (index .entry))) r ⌝ }
+{
+    let checked = check(index);
+    checked.code as u32
 }

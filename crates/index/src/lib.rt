@@ -1,10 +1,17 @@
 // The acts on an index: each has a stated outcome for every input, and refuses with the first number that applies in its order.
+// An act is the check and then the act without it (`trusted`), which a caller that holds its index alone may use by itself.
+use candidates::Row;
+use lending::Answer;
+use lending::Tally;
+
 mod asking;
 mod checking;
 mod making;
 mod refusing;
+pub mod trusted;
 mod upkeep;
 
+pub use asking::ask;
 pub use asking::question;
 pub use asking::question_outcome;
 pub use checking::check;
@@ -12,3 +19,10 @@ pub use making::make;
 pub use making::permitted;
 pub use upkeep::delete;
 pub use upkeep::insert;
+
+// What a question by value leaves: its answer, and the rows and the tally after it.
+pub struct Asked {
+    pub answer: Answer,
+    pub rows: [Row; 64],
+    pub tally: Tally,
+}

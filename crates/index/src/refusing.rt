@@ -1,20 +1,47 @@
-// The numbers of the refusal table, tested in each act's order. What is asked of the index comes as numbers.
+// The numbers of the refusal table, tested in each act's order, but for number 2: of the bytes nothing is known here.
 ghost use mathlib.Core.Path.{_≡_};
-ghost use mathlib.Core.List.{List};
-ghost use Prim.Native.Nat.{ℕ};
-ghost use lib.IntN.{ℤ};
-ghost use Rattle.index.specs.Refusals.{First, pointRules, insertRules, deleteRules, questionRules};
-ghost use Rattle.index.specs.Facts.{Checked, ToInsert, ToDelete};
+ghost use mathlib.Core.Bool.{true};
+ghost use Prim.Native.Nat.{_≤_, _<_};
+ghost use lib.ListN.{length};
+ghost use Rattle.geometry.specs.Stored.{inRange};
+ghost use Rattle.index.specs.Refusals.{First, recordOf};
+ghost use Rattle.index.specs.Outcomes.{Decides};
+ghost use Rattle.index.specs.Questions.{Refused};
+ghost use Rattle.index.specs.Trusted.{trustedPoint, trustedInsert, trustedQuestion};
+use crate::making::permitted;
 use geometry::points::in_range;
+use geometry::points::slots_of;
+use lending::Answer;
+use lending::Candidates;
+use lending::Outcome;
+use pagestore::Record;
+use pagestore::features_of;
+use pagestore::free_count;
+use pagestore::total_records;
+use tree::find;
+use tree::pages_wanted;
 
-// The first of 1, 2, 3 and 4 that applies to a point, where check gives `checked`.
-pub fn point_code(checked: u32, features: u8, point: &[i16]) -> u32
-    ensures { λ r. ⌜ ((b : List ℕ) → Checked b checked features → First (pointRules b (now (point .entry))) r) ⌝ }
+// Whether a point with so many coordinates suits an index of so many features.
+fn suits(coordinates: usize, features: u8) -> bool
+    ensures { λ r. ⌜ Decides ((1 ≤ coordinates) × (coordinates ≤ 16) × (coordinates ≡ features)) r ⌝ }
 {
-    if checked != 0 {
-        return checked;
+    if coordinates < 1 {
+        return false;
     }
-    if point.len() != features as usize {
+    if 16 < coordinates {
+        return false;
+    }
+    coordinates == features as usize
+}
+
+// The first of 1, 3 and 4 that applies to a point.
+fn refuse_point(index: &[u8], point: &[i16]) -> u32
+    ensures { λ r. ⌜ First (trustedPoint (now (index .entry)) (now (point .entry))) r ⌝ }
+{
+    if !permitted(index.len()) {
+        return 1;
+    }
+    if !suits(point.len(), features_of(index)) {
         return 3;
     }
     if !in_range(point) {
@@ -23,10 +50,11 @@ pub fn point_code(checked: u32, features: u8, point: &[i16]) -> u32
     0
 }
 
-// The number of a question for the k nearest with some rows lent, where its point's is `coded`.
-pub fn question_code(coded: u32, k: usize, lent: usize) -> u32
-    ensures { λ r. ⌜ ((b : List ℕ) (p : List ℤ) → First (pointRules b p) coded → First (questionRules b p k lent) r) ⌝ }
+// The number of a question for the k nearest with some rows lent.
+pub fn refuse_question(index: &[u8], point: &[i16], k: usize, lent: usize) -> u32
+    ensures { λ r. ⌜ First (trustedQuestion (now (index .entry)) (now (point .entry)) k lent) r ⌝ }
 {
+    let coded = refuse_point(index, point);
     if coded != 0 {
         return coded;
     }
@@ -42,40 +70,65 @@ pub fn question_code(coded: u32, k: usize, lent: usize) -> u32
     0
 }
 
-// The number of an insert.
-pub fn insert_code(coded: u32, id: u32, found: u32, total: u32, wanted: u32, free: u32) -> u32
-    ensures { λ r. ⌜ ((b : List ℕ) (p : List ℤ) → ToInsert b id p coded found total wanted free → First (insertRules b id p) r) ⌝ }
+// What a question that is refused returns: its number, 0 rows, 0 leaves.
+pub fn refused(code: u32) -> Outcome
+    ensures { λ o. ⌜ Refused code o ⌝ }
 {
+    Outcome {
+        answer: Answer {
+            code: code,
+            count: 0,
+            leaves: 0,
+        },
+        list: Candidates {
+            distances: [0; 64],
+            tags: [0; 64],
+            count: 0,
+        },
+    }
+}
+
+// The record of an identifier and a point.
+pub fn record_of(id: u32, point: &[i16]) -> Record
+    requires { ⌜ (length (now point) ≤ 16) × (inRange (now point) ≡ true) ⌝ }
+    ensures { λ r. ⌜ r ≡ recordOf id (now (point .entry)) ⌝ }
+{
+    let slots = slots_of(point);
+    Record {
+        id: id,
+        coords: slots,
+    }
+}
+
+// The number of an insert whose point and identifier may be a record's.
+fn refuse_record(index: &[u8], id: u32, point: &[i16]) -> u32
+    requires { ⌜ (0 < id) × First (trustedPoint (now index) (now point)) 0 ⌝ }
+    ensures { λ r. ⌜ First (trustedInsert (now (index .entry)) id (now (point .entry))) r ⌝ }
+{
+    let found = find(index, id);
+    if found.id != 0 {
+        return 6;
+    }
+    if 65535 <= total_records(index) {
+        return 8;
+    }
+    let x = record_of(id, point);
+    if free_count(index) < pages_wanted(index, x) {
+        return 9;
+    }
+    0
+}
+
+// The number of an insert.
+pub fn refuse_insert(index: &[u8], id: u32, point: &[i16]) -> u32
+    ensures { λ r. ⌜ First (trustedInsert (now (index .entry)) id (now (point .entry))) r ⌝ }
+{
+    let coded = refuse_point(index, point);
     if coded != 0 {
         return coded;
     }
     if id == 0 {
         return 5;
     }
-    if found != 0 {
-        return 6;
-    }
-    if 65535 <= total {
-        return 8;
-    }
-    if free < wanted {
-        return 9;
-    }
-    0
-}
-
-// The number of a delete. Evening out two leaves never wants a page, so 12 is not given.
-pub fn delete_code(checked: u32, id: u32, found: u32) -> u32
-    ensures { λ r. ⌜ ((b : List ℕ) → ToDelete b id checked found → First (deleteRules b id) r) ⌝ }
-{
-    if checked != 0 {
-        return checked;
-    }
-    if id == 0 {
-        return 5;
-    }
-    if found == 0 {
-        return 7;
-    }
-    0
+    refuse_record(index, id, point)
 }

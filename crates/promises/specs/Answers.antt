@@ -26,7 +26,7 @@ use Rattle.search.proofs.Promises.{found-exact, exchange}
 use Rattle.index.specs.Refusals.{First, questionRules}
 use Rattle.index.specs.RefusalLaws.{all-hold}
 use Rattle.index.specs.Outcomes.{foundWith}
-use Rattle.promises.specs.NewRecords.{slots-own}
+use Rattle.index.specs.PointLaws.{slots-own}
 
 -- ---- THE ROWS OF THE LIVE RECORDS
 

@@ -2,3 +2,4 @@ pub mod NewRecords
 pub mod Answers
 pub mod Series
 pub mod Identifiers
+pub mod TrustedActs

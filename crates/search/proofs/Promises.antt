@@ -226,7 +226,7 @@ module _ (ps b c : List ℕ) (h : AgreeBut ps b c) where
   agree-page : (p : ℕ) → mult p ps ≡ 0 → SamePage b c p
   agree-page p z = bytes-page b c p (h .lent) (λ i k. let e : (p * 1024 + i) / 1024 ≡ p = omega arith in h .bytes (p * 1024 + i) (rw e z))
 
-  agree-field : mult 0 ps ≡ 0 → (f : Field) → fieldAt f c ≡ fieldAt f b
+  pub agree-field : mult 0 ps ≡ 0 → (f : Field) → fieldAt f c ≡ fieldAt f b
   agree-field z f = bytes-field f b c (h .lent) (λ i k. let e : i / 1024 ≡ 0 = omega arith in h .bytes i (rw e z))
 
 -- the inner pages are the same, and the same numbers are pages
@@ -255,7 +255,7 @@ module _ (b : List ℕ) (s : SoundIndex b) (q : List ℕ) (same : length q ≡ v
       omega (arith, tree-once b s (u .0), pages-split (u .0) (viewOf b .level) (treeOf (viewOf b)), keep-split (toRead (viewOf b) q k) (u .0) (leavesOf (viewOf b))))
       (keep-there (toRead (viewOf b) q k) (leavesOf (viewOf b)))
 
-  unread-header : mult 0 unread ≡ 0
+  pub unread-header : mult 0 unread ≡ 0
   unfolding unreadPages leavesOf
   unread-header = omega (arith, tree-header b s, pages-split 0 (viewOf b .level) (treeOf (viewOf b)), keep-split (toRead (viewOf b) q k) 0 (leavesOf (viewOf b)))
 

@@ -1,0 +1,28 @@
+-- `index::trusted::question` meets its contract: the walk of a question, with `trusted::question_outcome` as the callee that finds the outcome. Assumes nothing.
+use contract.Running.{givenOf, tables, tablesOf}
+use denote.Triple.Spec.{tripleOf}
+use denote.Triple.Table.{entered, cited}
+use Rattle.index.specs.Trusted.{TrustedOutcome, TrustedQuestioned}
+use Rattle.index.specs.TrustedLaws.{trusted-hands}
+use Rattle.index.proofs.QuestionWalk.{question-meets}
+use Rattle.index.proofs.trusted.question_outcome as core
+use Rattle.index.proofs.trusted.question_outcome.Symbol as core-def
+use Rattle.index.proofs.trusted.question_outcome.Symbol.{name as #index·question-outcome}
+use Rattle.index.proofs.trusted.question_outcome.Met as core-thm
+use Rattle.lending.proofs.deliver as deliver
+use Rattle.lending.proofs.deliver.Symbol as deliver-def
+use Rattle.lending.proofs.deliver.Symbol.{name as #lending·deliver}
+use Rattle.lending.proofs.deliver.Met as deliver-thm
+use Rattle.index.proofs.trusted.question.Key.{name as #index·question}
+use Rattle.index.proofs.trusted.question as question
+use Rattle.index.proofs.trusted.question.Statement as stated
+use Rattle.index.proofs.trusted.question.Code as code
+
+pub question-spec : {M : Type 1} → stated.statement M
+unfolding code.routine tablesOf
+question-spec 𝓤 H 𝓜 𝓖 𝓡 =
+    entered 𝓤 H (tripleOf 𝓤 H (𝓖 .A) question.signature (question.spec 𝓤 H (𝓖 .A) (𝓜 .mem) (𝓡 .run)))
+    (tables 𝓤 H 𝓜 𝓡 code.env .C) (tables 𝓤 H 𝓜 𝓡 code.env .Λ) #index·question code.function (code.unfolded 𝓤 H 𝓜 𝓡)
+    (question-meets #index·question-outcome TrustedOutcome TrustedQuestioned trusted-hands 𝓤 H (𝓖 .A) (givenOf 𝓤 H 𝓜 𝓖) (𝓜 .mem) (𝓡 .run) (tablesOf 𝓤 H 𝓜 (tables 𝓤 H 𝓜 𝓡 code.env))
+    (cited 𝓤 H (tripleOf 𝓤 H (𝓖 .A) core.signature (core.spec 𝓤 H (𝓖 .A) (𝓜 .mem) (𝓡 .run))) 𝓜 𝓡 code.env #index·question-outcome core-def.routine code.calls-index·trusted·question-outcome (core-thm.met 𝓤 H 𝓜 𝓖 𝓡))
+    (cited 𝓤 H (tripleOf 𝓤 H (𝓖 .A) deliver.signature (deliver.spec 𝓤 H (𝓖 .A) (𝓜 .mem) (𝓡 .run))) 𝓜 𝓡 code.env #lending·deliver deliver-def.routine code.calls-lending·deliver (deliver-thm.met 𝓤 H 𝓜 𝓖 𝓡)))

@@ -1,0 +1,79 @@
+-- The acts without the check, for an index that the caller knows to be sound: the table's rules with number 2 left out.
+-- Nothing is known of the bytes here, so 3 asks for d too (01: "d, or the number of coordinates, is wrong"), and 6, 7 and 8 go by what finding an
+-- identifier gives and by the header's total. On a sound index each rule is the act's (TrustedLaws).
+use mathlib.Core.Path.{_≡_}
+use mathlib.Core.Bool.{Bool, true, not}
+use mathlib.Core.Logic.{_≢_}
+use mathlib.Core.List.{List, [], _∷_, map}
+use Prim.Native.Nat.{ℕ, _≤_, _<_}
+use lib.IntN.{ℤ}
+use lib.Dec.{eqb}
+use lib.ListN.{length}
+use Rattle.lists.specs.Sorting.{keep}
+use Rattle.geometry.specs.Stored.{inRange}
+use Rattle.pagestore.specs.declared.Record.{Record}
+use Rattle.pagestore.specs.Store.{View, viewOf, freeAt}
+use Rattle.trees.specs.Sound.{Permitted}
+use Rattle.tree.specs.Insertion.{pagesWanted}
+use Rattle.tree.specs.Lookup.{findIn}
+use Rattle.lending.specs.declared.Answer.{Answer}
+use Rattle.lending.specs.declared.Outcome.{Outcome}
+use Rattle.lending.specs.declared.Tally.{Tally}
+use Rattle.candidates.specs.declared.Row.{Row}
+use Rattle.index.specs.Refusals.{Rule, First, recordOf, pagesToEven}
+use Rattle.index.specs.Questions.{OutcomeBy, QuestionedBy}
+
+-- the point p has as many coordinates as the index b has features: 1 to 16
+abbrev pub Suits : List ℕ → List ℤ → Type 0
+Suits b p = (1 ≤ length p) × (length p ≤ 16) × (length p ≡ viewOf b .d)
+
+abbrev pub trustedInsert : List ℕ → ℕ → List ℤ → List Rule
+trustedInsert b i p =
+    (1, Permitted (length b))
+    ∷ (3, Suits b p)
+    ∷ (4, inRange p ≡ true)
+    ∷ (5, 1 ≤ i)
+    ∷ (6, findIn b i .id ≡ 0)
+    ∷ (8, viewOf b .total < 65535)
+    ∷ (9, pagesWanted b (recordOf i p) ≤ length (freeAt b))
+    ∷ []
+
+abbrev pub trustedDelete : List ℕ → ℕ → List Rule
+trustedDelete b i =
+    (1, Permitted (length b))
+    ∷ (5, 1 ≤ i)
+    ∷ (7, findIn b i .id ≢ 0)
+    ∷ (12, pagesToEven ≤ length (freeAt b))
+    ∷ []
+
+abbrev pub trustedQuestion : List ℕ → List ℤ → ℕ → ℕ → List Rule
+trustedQuestion b p k n =
+    (1, Permitted (length b))
+    ∷ (3, Suits b p)
+    ∷ (4, inRange p ≡ true)
+    ∷ (10, (1 ≤ k) × (k ≤ 64))
+    ∷ (11, k ≤ n)
+    ∷ []
+
+-- those with which insert and question both begin
+abbrev pub trustedPoint : List ℕ → List ℤ → List Rule
+trustedPoint b p =
+    (1, Permitted (length b))
+    ∷ (3, Suits b p)
+    ∷ (4, inRange p ≡ true)
+    ∷ []
+
+-- the numbers of rules, in their order, and those without number 2
+abbrev pub numbers : List Rule → List ℕ
+numbers [] = []
+numbers (rule ∷ rules) = rule .0 ∷ numbers rules
+
+abbrev pub withoutCheck : List ℕ → List ℕ
+withoutCheck ns = keep (λ n. not (eqb n 2)) ns
+
+-- a question without the check, by value and as it is handed over
+abbrev pub TrustedOutcome : List ℕ → List ℤ → ℕ → ℕ → Outcome → Type 0
+TrustedOutcome b p k n o = OutcomeBy (trustedQuestion b p k n) b p k o
+
+abbrev pub TrustedQuestioned : List ℕ → List ℤ → ℕ → List Row → Tally → Answer → List Row → Tally → Type 0
+TrustedQuestioned b p k lent tally r lent' tally' = QuestionedBy (trustedQuestion b p k (length lent)) b p k lent tally r lent' tally'

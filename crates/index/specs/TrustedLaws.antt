@@ -1,0 +1,140 @@
+-- On a sound index an act without the check gives the act's number.
+use mathlib.Core.Path.{_≡_, refl, sym, ap, _∙_, subst}
+use mathlib.Core.Bool.{Bool, true, not}
+use mathlib.Core.Logic.{_≢_, inl, inr}
+use mathlib.Core.List.{List, [], _∷_}
+use Prim.Native.Nat.{ℕ, _≤_, _<_}
+use native.Mathlib.Omega.{arith}
+use lib.IntN.{ℤ}
+use lib.Dec.{eqb}
+use lib.ListN.{length}
+use Rattle.lists.specs.Sorting.{keep}
+use Rattle.lists.specs.Tests.{decide}
+use Rattle.pagestore.specs.declared.Record.{Record}
+use Rattle.pagestore.specs.Store.{View, viewOf}
+use Rattle.trees.specs.Trees.{live}
+use Rattle.trees.specs.Sound.{SoundIndex}
+use Rattle.tree.specs.Lookup.{findIn}
+use Rattle.tree_laws.specs.LookupPromises.{find-ident, find-none}
+use Rattle.candidates.specs.declared.Row.{Row}
+use Rattle.lending.specs.declared.Answer.{Answer}
+use Rattle.lending.specs.declared.Candidates.{Candidates}
+use Rattle.lending.specs.declared.Outcome.{Outcome}
+use Rattle.lending.specs.declared.Tally.{Tally}
+use Rattle.lending.specs.Delivered.{Delivered}
+use Rattle.index.specs.Refusals.{Rule, First, liveTimes, insertRules, deleteRules, questionRules}
+use Rattle.index.specs.RefusalLaws.{all-hold, later}
+use Rattle.index.specs.Questions.{QuestionOutcome, Questioned}
+use Rattle.index.specs.QuestionLaws.{handed-over}
+use Rattle.index.specs.Trusted.{Suits, trustedInsert, trustedDelete, trustedQuestion, numbers, withoutCheck, TrustedOutcome, TrustedQuestioned}
+
+-- ---- THE NUMBERS: THE ACT'S, IN ITS ORDER, WITHOUT 2
+
+pub insert-numbers : (b : List ℕ) (i : ℕ) (p : List ℤ) → numbers (trustedInsert b i p) ≡ withoutCheck (numbers (insertRules b i p))
+unfolding keep
+insert-numbers b i p = refl
+
+pub delete-numbers : (b : List ℕ) (i : ℕ) → numbers (trustedDelete b i) ≡ withoutCheck (numbers (deleteRules b i))
+unfolding keep
+delete-numbers b i = refl
+
+pub question-numbers : (b : List ℕ) (p : List ℤ) (k n : ℕ) → numbers (trustedQuestion b p k n) ≡ withoutCheck (numbers (questionRules b p k n))
+unfolding keep
+question-numbers b p k n = refl
+
+-- ---- RULES THAT AGREE
+
+-- the same numbers, and conditions that agree where those before them hold
+abbrev Alike : List Rule → List Rule → Type 0
+Alike [] [] = Unit {0}
+Alike [] (y ∷ ys) = ⊥
+Alike (x ∷ xs) [] = ⊥
+Alike (x ∷ xs) (y ∷ ys) = (x .0 ≡ y .0) × (x .1 → y .1) × (y .1 → x .1) × (y .1 → Alike xs ys)
+
+first-alike : (xs ys : List Rule) → Alike xs ys → (n : ℕ) → First xs n → First ys n
+first-alike [] [] a n f = f
+first-alike [] (y ∷ ys) a n f = absurd a
+first-alike (x ∷ xs) [] a n f = absurd a
+first-alike (x ∷ xs) (y ∷ ys) a n (inl f) = inl (f .0 ∙ a .0, λ c. f .1 (a .2 c))
+first-alike (x ∷ xs) (y ∷ ys) a n (inr f) = inr (a .1 (f .0), first-alike xs ys (a .3 (a .1 (f .0))) n (f .1))
+
+-- ---- ON A SOUND INDEX
+
+module _ (b : List ℕ) (s : SoundIndex b) where
+  suits : (p : List ℤ) → length p ≡ viewOf b .d → Suits b p
+  suits p e = let low : 1 ≤ viewOf b .d = s .d .0 in let high : viewOf b .d ≤ 16 = s .d .1 in (omega arith, omega arith, e)
+
+  not-live : (i : ℕ) → 1 ≤ i → findIn b i .id ≡ 0 → liveTimes b i ≡ 0
+  not-live i l e = decide (liveTimes b i) 0 (λ z. z) (λ w. let z : i ≡ 0 = sym (find-ident b i s (omega (arith, w))) ∙ e in absurd (omega (arith, z)))
+
+  not-found : (i : ℕ) → liveTimes b i ≡ 0 → findIn b i .id ≡ 0
+  not-found i z = ap (λ (r : Record). r .id) (find-none b i s z)
+
+  pub insert-same : (i : ℕ) (p : List ℤ) (n : ℕ) → First (trustedInsert b i p) n → First (insertRules b i p) n
+  insert-same i p n (inl e) = inl e
+  insert-same i p n (inr f) =
+      inr (
+        f .0,
+        inr (
+          s,
+          first-alike (later (trustedInsert b i p)) (later (later (insertRules b i p)))
+              (refl, λ h. h .2, suits p, λ w. (refl, λ h. h, λ h. h, λ w. (refl, λ h. h, λ h. h, λ l. (refl, not-live i l, not-found i, λ w. (refl, λ h. few h, λ h. total h, λ w. (refl, λ h. h, λ h. h, λ w. tt)))))) n (f .1),
+        ),
+      )
+    where
+      few : viewOf b .total < 65535 → length (live (viewOf b)) < 65535
+      few h = omega (arith, s .total)
+
+      total : length (live (viewOf b)) < 65535 → viewOf b .total < 65535
+      total h = omega (arith, s .total)
+
+  pub delete-same : (i n : ℕ) → First (trustedDelete b i) n → First (deleteRules b i) n
+  delete-same i n (inl e) = inl e
+  delete-same i n (inr f) =
+      inr (
+        f .0,
+        inr (
+          s,
+          first-alike (later (trustedDelete b i)) (later (later (deleteRules b i)))
+              (refl, λ h. h, λ h. h, λ l. (refl, λ h. is-live h, λ h. is-found l h, λ w. (refl, λ h. h, λ h. h, λ w. tt))) n (f .1),
+        ),
+      )
+    where
+      is-live : findIn b i .id ≢ 0 → 0 < liveTimes b i
+      is-live w = decide (liveTimes b i) 0 (λ z. absurd (w (not-found i z))) (λ h. omega (arith, h))
+
+      is-found : 1 ≤ i → 0 < liveTimes b i → findIn b i .id ≢ 0
+      is-found l h e = omega (arith, not-live i l e)
+
+  pub question-same : (p : List ℤ) (k m n : ℕ) → First (trustedQuestion b p k m) n → First (questionRules b p k m) n
+  question-same p k m n (inl e) = inl e
+  question-same p k m n (inr f) =
+      inr (
+        f .0,
+        inr (
+          s,
+          first-alike (later (trustedQuestion b p k m)) (later (later (questionRules b p k m)))
+              (refl, λ h. h .2, suits p, λ w. (refl, λ h. h, λ h. h, λ w. (refl, λ h. h, λ h. h, λ w. (refl, λ h. h, λ h. h, λ w. tt)))) n (f .1),
+        ),
+      )
+
+  -- and its outcome by value
+  pub asked-same : (p : List ℤ) (k m : ℕ) (o : Outcome) → TrustedOutcome b p k m o → QuestionOutcome b p k m o
+  asked-same p k m o a =
+      record { first = question-same p k m (o .answer .code) (a .first); listed = a .listed; few = a .few; count = a .count; leaves = a .leaves; rows = a .rows; distances = a .distances; tags = a .tags }
+
+-- ---- AN OUTCOME HANDED OVER
+
+module _ (b : List ℕ) (p : List ℤ) (k : ℕ) (lent : List Row) (tally : Tally) (o : Outcome) where
+  room : First (trustedQuestion b p k (length lent)) (o .answer .code) → o .answer .code ≡ 0 → (k ≤ 64) × (k ≤ length lent)
+  room f z =
+      let w = all-hold (trustedQuestion b p k (length lent)) refl (subst (First (trustedQuestion b p k (length lent))) z f) in (w .1 .1 .1 .0 .1, w .1 .1 .1 .1 .0)
+
+  pub trusted-hands : TrustedOutcome b p k (length lent) o → (r : Answer) (lent' : List Row) (tally' : Tally) → Delivered o lent tally r lent' tally' → TrustedQuestioned b p k lent tally r lent' tally'
+  trusted-hands a = handed-over (trustedQuestion b p k (length lent)) b p k lent tally o a (room (a .first))
+
+-- on a sound index the trusted question is the question
+pub questioned-same : (b : List ℕ) → SoundIndex b → (p : List ℤ) (k : ℕ) (lent : List Row) (tally : Tally) (r : Answer) (lent' : List Row) (tally' : Tally)
+    → TrustedQuestioned b p k lent tally r lent' tally' → Questioned b p k lent tally r lent' tally'
+questioned-same b s p k lent tally r lent' tally' q =
+    record { first = question-same b s p k (length lent) (r .code) (q .first); count = q .count; leaves = q .leaves; rows = q .rows; tallying = q .tallying }

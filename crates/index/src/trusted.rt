@@ -1,0 +1,105 @@
+// The acts without the check, for a caller that holds its index alone and has checked it once. On a sound index each does what the act does
+// (`trusted-same`), and leaves a sound one. On any other bytes it ends without a fault, and what it returns and leaves is stated too.
+ghost use mathlib.Core.Path.{_≡_};
+ghost use mathlib.Core.Bool.{true};
+ghost use Prim.Native.Nat.{_≤_};
+ghost use lib.ListN.{length};
+ghost use Rattle.geometry.specs.Stored.{inRange};
+ghost use Rattle.index.specs.Refusals.{First};
+ghost use Rattle.index.specs.Outcomes.{insertedWith, deletedWith};
+ghost use Rattle.index.specs.Questions.{Answered};
+ghost use Rattle.index.specs.Trusted.{trustedInsert, trustedDelete, TrustedOutcome, TrustedQuestioned};
+use crate::making::permitted;
+use crate::refusing::record_of;
+use crate::refusing::refuse_insert;
+use crate::refusing::refuse_question;
+use crate::refusing::refused;
+use candidates::Row;
+use geometry::points::slots_of;
+use lending::Answer;
+use lending::Candidates;
+use lending::Outcome;
+use lending::Tally;
+use lending::deliver;
+use search::Query;
+use search::search;
+use tree::find;
+
+// Inserts an identifier with its point.
+pub fn insert(index: &mut [u8], id: u32, point: &[i16]) -> u32
+    ensures { λ r. ⌜ First (trustedInsert (now (index .entry)) id (now (point .entry))) r × (now (index .exit) ≡ insertedWith r (now (index .entry)) id (now (point .entry))) ⌝ }
+{
+    let code = refuse_insert(index, id, point);
+    if code == 0 {
+        let x = record_of(id, point);
+        tree::insert(index, x);
+    }
+    code
+}
+
+// Deletes an identifier with its point. Evening out two leaves never wants a page, so 12 is not given.
+pub fn delete(index: &mut [u8], id: u32) -> u32
+    ensures { λ r. ⌜ First (trustedDelete (now (index .entry)) id) r × (now (index .exit) ≡ deletedWith r (now (index .entry)) id) ⌝ }
+{
+    if !permitted(index.len()) {
+        return 1;
+    }
+    if id == 0 {
+        return 5;
+    }
+    let x = find(index, id);
+    if x.id == 0 {
+        return 7;
+    }
+    tree::delete(index, x);
+    0
+}
+
+// What a question that is not refused returns: the rows and the count are the search's.
+fn answered(index: &[u8], point: &[i16], what: Query) -> Outcome
+    requires { ⌜ (1 ≤ length (now point)) × (length (now point) ≤ 16) × (inRange (now point) ≡ true) × (1 ≤ what .k) × (what .k ≤ 64) ⌝ }
+    ensures { λ o. ⌜ Answered (now (index .entry)) (now (point .entry)) (what .k) o ⌝ }
+{
+    let slots = slots_of(point);
+    let n = point.len();
+    let found = search(index, &slots[..n], what);
+    let distances = found.distances;
+    let tags = found.tags;
+    Outcome {
+        answer: Answer {
+            code: 0,
+            count: found.rows,
+            leaves: found.leaves,
+        },
+        list: Candidates {
+            distances: distances,
+            tags: tags,
+            count: found.rows,
+        },
+    }
+}
+
+// A question by value, with some rows lent: for callers that hold no rows and no tally of their own.
+pub fn question_outcome(index: &[u8], point: &[i16], what: Query, lent: usize) -> Outcome
+    ensures { λ o. ⌜ TrustedOutcome (now (index .entry)) (now (point .entry)) (what .k) lent o ⌝ }
+{
+    let code = refuse_question(index, point, what.k, lent);
+    if code != 0 {
+        return refused(code);
+    }
+    answered(index, point, what)
+}
+
+// A question whose rows go to those lent, and which the caller's tally counts.
+pub fn question(
+    index: &[u8],
+    point: &[i16],
+    what: Query,
+    rows: &mut [Row],
+    tally: &mut Tally,
+) -> Answer
+    ensures { λ r. ⌜ TrustedQuestioned (now (index .entry)) (now (point .entry)) (what .k) (now (rows .entry)) (now (tally .entry)) r (now (rows .exit)) (now (tally .exit)) ⌝ }
+{
+    let o = question_outcome(index, point, what, rows.len());
+    deliver(rows, tally, o)
+}
