@@ -76,6 +76,13 @@ fn both(a: Seen, b: Seen) -> Seen {
     }
 }
 
+// Another number for each batch.
+fn batch_seed(b: Batch, seed: u64) -> u64 {
+    let kind = (b.kind % 16) as u64;
+    let d = (b.d % 32) as u64;
+    leap(seed % 65536 + 100 * kind + d)
+}
+
 // Asks the questions of a batch.
 fn ask_all(
     index: &[u8],
@@ -89,7 +96,7 @@ fn ask_all(
     requires { ⌜ (1 ≤ b .d) × (b .d ≤ 16) × (leaves ≤ length (now pages)) × (length (now live) ≡ 1024) × (length (now places) ≡ 16384) ⌝ }
 {
     let n = b.questions;
-    let mut s = seed;
+    let mut s = batch_seed(b, seed);
     let mut seen = Seen {
         rows: 0,
         leaves: 0,
@@ -106,17 +113,18 @@ fn ask_all(
 
 fn show_kind(kind: u32) {
     if kind == WIDE {
-        show::text(b"wide ");
+        show::text(b" wide");
     }
     if kind == CLUSTERED {
-        show::text(b"clustered ");
+        show::text(b" clustered");
     }
     if kind == TIED {
-        show::text(b"tied ");
+        show::text(b" tied");
     }
 }
 
 fn report(b: Batch, points: usize, refused: u64, seen: Seen) {
+    show::text(b"full scan:");
     show::field(b"d", b.d as u64);
     show_kind(b.kind);
     show::field(b"acts refused", refused);
@@ -186,33 +194,33 @@ fn run_batch(b: Batch)
 }
 
 // Batches of d features, for each way in which points lie.
-fn run_features(d: usize)
+fn run_features(d: usize, questions: u32)
     requires { ⌜ (1 ≤ d) × (d ≤ 16) ⌝ }
 {
     run_batch(Batch {
         d: d,
         points: 900,
         kind: WIDE,
-        questions: 100,
+        questions: questions,
     });
     run_batch(Batch {
         d: d,
         points: 700,
         kind: CLUSTERED,
-        questions: 100,
+        questions: questions,
     });
     run_batch(Batch {
         d: d,
         points: 500,
         kind: TIED,
-        questions: 100,
+        questions: questions,
     });
 }
 
 pub fn run() {
-    run_features(1);
-    run_features(2);
-    run_features(3);
-    run_features(8);
-    run_features(16);
+    run_features(1, 100);
+    run_features(2, 100);
+    run_features(3, 100);
+    run_features(8, 50);
+    run_features(16, 25);
 }

@@ -9,12 +9,12 @@ pub fn number(n: u64) {
     io::print_decimal(STDOUT_FILENO, n);
 }
 
-// A name and a number, as in `d 8 `.
+// A name and a number, as in ` d 8`.
 pub fn field(name: &[u8], n: u64) {
+    text(b" ");
     text(name);
     text(b" ");
     number(n);
-    text(b" ");
 }
 
 // What was done, what came of it, and what the specification says.

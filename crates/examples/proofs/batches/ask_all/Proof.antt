@@ -9,6 +9,9 @@ Inv-loop index places live pages b leaves seed n s₀ seen₀ i₀ s seen i = i 
 abbrev μ-loop : tie.MeasureT-loop
 μ-loop index places live pages b leaves seed n s₀ seen₀ i₀ s seen i = n - i
 
+batch-seed-requires : tie.Need-batch-seed-requires Inv-loop μ-loop
+batch-seed-requires c κs = search needs
+
 loop-holds : tie.Need-loop-holds Inv-loop μ-loop
 loop-holds c = search needs
 
@@ -39,6 +42,7 @@ ask-all-spec =
     (tie.spec
     Inv-loop
     μ-loop
+    batch-seed-requires
     loop-holds
     leap-requires
     ask-one-requires
