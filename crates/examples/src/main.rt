@@ -5,6 +5,7 @@ mod codes;
 mod comparing;
 mod filling;
 mod leaves;
+mod lent;
 mod numbers;
 mod scan;
 mod show;

@@ -3,6 +3,7 @@ ghost use mathlib.Core.Path.{_≡_};
 ghost use Prim.Native.Nat.{_≤_, _<_};
 ghost use lib.ListN.{length};
 use crate::leaves::list_leaves;
+use crate::lent;
 use crate::numbers::coordinate;
 use crate::show::line;
 use crate::show::text;
@@ -187,5 +188,6 @@ pub fn run() {
     let mut four = [0u8; 4096];
     four_pages(&mut four);
     questions(&four);
+    lent::run(&four);
     fewer(&mut four);
 }
