@@ -1,0 +1,31 @@
+// Lines of output.
+use libc::STDOUT_FILENO;
+
+pub fn text(s: &[u8]) {
+    io::write_all(STDOUT_FILENO, s);
+}
+
+pub fn number(n: u64) {
+    io::print_decimal(STDOUT_FILENO, n);
+}
+
+// A name and a number, as in ` d 8`.
+pub fn field(name: &[u8], n: u64) {
+    text(b" ");
+    text(name);
+    text(b" ");
+    number(n);
+}
+
+// What was done, what came of it, and what the specification says.
+pub fn line(what: &[u8], came: u64, said: u64) {
+    text(what);
+    text(b": ");
+    number(came);
+    text(b", 01 says ");
+    number(said);
+    if came != said {
+        text(b" DIFFERS");
+    }
+    text(b"\n");
+}
