@@ -1,18 +1,19 @@
 -- What each turn of a loop over coordinates adds, with the coordinates from m on still to come.
-use mathlib.Core.Path.{_≡_, ap, _∙_}
+use mathlib.Core.Path.{_≡_, refl, ap, _∙_}
 use mathlib.Core.Bool.{Bool, true, false}
 use mathlib.Core.List.{List, [], _∷_, _++_, map}
 use mathlib.Core.Logic.{_≢_}
-use Prim.Native.Nat.{ℕ, zero, suc, max, _+_, _*_, _-_, _≤_, _<_}
+use Prim.Native.Nat.{ℕ, zero, suc, max, _+_, _*_, _-_, _/_, _%_, _≤_, _<_}
 use native.Mathlib.Omega.{arith}
 use native.Mathlib.Nat.{mul-le-mul}
 use native.Mathlib.Numerals.{add-one}
-use borrow.Author.Tests.{eq-eqb, ne-eqb}
+use borrow.Author.Tests.{eq-eqb, ne-eqb, leb-true, leb-false}
 use lib.Dec.{leb, ltb}
 use lib.IntN.{ℤ, pos, natAbs, _-ℤ_}
 use lib.ListN.{length, getD, take, drop, set, replicate, length-append, length-map, length-replicate, length-take, length-drop, drop-of-length-le}
 use lib.Seq.{drop-cons, take-all, take-length, length-take-le}
 use Rattle.lists.specs.Basics.{pick}
+use Rattle.lists.specs.Counts.{by-cases}
 use Rattle.geometry.proofs.SliceLaws.{slice-parts, side-square}
 use Rattle.geometry.proofs.StoredLaws.{length-point, point-at, point-take, point-drop, coord-gap, coord-neg}
 use Rattle.geometry.specs.Points.{heightOf, axisAt, axisOf, pyramidOf, distBy, square}
@@ -28,25 +29,59 @@ point-cons p m l =
 pub point-end : (p : List ℕ) (m : ℕ) → length p ≤ m → drop m (pointOf p) ≡ []
 point-end p m l = drop-of-length-le (pointOf p) {i = m} (omega (arith, length-point p))
 
-pub height-more : (p : List ℕ) (m : ℕ) → m < length p → heightOf (drop m (pointOf p)) ≡ max (natAbs (coordOf (getD p m 0))) (heightOf (drop (m + 1) (pointOf p)))
-unfolding heightOf
-height-more p m l = rw (point-cons p m l)
+-- the greatest lead from coordinate m on, which has number n
+unfoldable pub topLead : ℕ → List ℤ → ℕ
+topLead n [] = 0
+topLead n (c ∷ cs) = max (natAbs c * 16 + (15 - n)) (topLead (suc n) cs)
 
-pub height-end : (p : List ℕ) (m : ℕ) → length p ≤ m → heightOf (drop m (pointOf p)) ≡ 0
-unfolding heightOf
-height-end p m l = rw (point-end p m l)
+pub lead-more : (p : List ℕ) (m : ℕ) → m < length p
+    → topLead m (drop m (pointOf p)) ≡ max (natAbs (coordOf (getD p m 0)) * 16 + (15 - m)) (topLead (m + 1) (drop (m + 1) (pointOf p)))
+unfolding topLead
+lead-more p m l = rw (point-cons p m l, add-one)
 
-pub axis-here : (h : ℕ) (p : List ℕ) (m : ℕ) → m < length p → natAbs (coordOf (getD p m 0)) ≡ h → axisAt h (drop m (pointOf p)) ≡ 0
-unfolding axisAt
-axis-here h p m l e = rw (point-cons p m l, eq-eqb (natAbs (coordOf (getD p m 0))) h e)
+pub lead-end : (p : List ℕ) (m : ℕ) → length p ≤ m → topLead m (drop m (pointOf p)) ≡ 0
+unfolding topLead
+lead-end p m l = rw (point-end p m l)
 
-pub axis-more : (h : ℕ) (p : List ℕ) (m : ℕ) → m < length p → natAbs (coordOf (getD p m 0)) ≢ h → axisAt h (drop m (pointOf p)) ≡ suc (axisAt h (drop (m + 1) (pointOf p)))
-unfolding axisAt
-axis-more h p m l e = rw (point-cons p m l, ne-eqb (natAbs (coordOf (getD p m 0))) h e)
+-- it is that of the first coordinate of greatest magnitude
+axis-first : (c : ℤ) (cs : List ℤ) → heightOf cs ≤ natAbs c → (heightOf (c ∷ cs) ≡ natAbs c) × (axisAt (heightOf (c ∷ cs)) (c ∷ cs) ≡ 0)
+unfolding heightOf axisAt
+axis-first c cs l = let e : max (natAbs c) (heightOf cs) ≡ natAbs c = omega arith in (e, rw (e, eq-eqb (natAbs c) (natAbs c) refl))
 
-pub axis-end : (h : ℕ) (p : List ℕ) (m : ℕ) → length p ≤ m → axisAt h (drop m (pointOf p)) ≡ 0
-unfolding axisAt
-axis-end h p m l = rw (point-end p m l)
+axis-later : (c : ℤ) (cs : List ℤ) → natAbs c < heightOf cs
+    → (heightOf (c ∷ cs) ≡ heightOf cs) × (axisAt (heightOf (c ∷ cs)) (c ∷ cs) ≡ suc (axisAt (heightOf cs) cs))
+unfolding heightOf axisAt
+axis-later c cs l =
+    let e : max (natAbs c) (heightOf cs) ≡ heightOf cs = omega arith in
+    let n : natAbs c ≢ heightOf cs = omega arith in
+    (e, rw (e, ne-eqb (natAbs c) (heightOf cs) n))
+
+lead-first : (n : ℕ) (c : ℤ) (cs : List ℤ) → heightOf cs ≤ natAbs c → topLead (suc n) cs ≤ heightOf cs * 16 + (15 - n)
+    → topLead n (c ∷ cs) ≡ heightOf (c ∷ cs) * 16 + (15 - (n + axisAt (heightOf (c ∷ cs)) (c ∷ cs)))
+unfolding topLead
+lead-first n c cs l h = let e = axis-first c cs l in rw (e .1, e .0) (omega arith)
+
+later-wins : (n a h j t : ℕ) → a < h → t ≡ h * 16 + (15 - (suc n + j)) → max (a * 16 + (15 - n)) t ≡ h * 16 + (15 - (n + suc j))
+later-wins n a h j t l e = omega arith
+
+lead-later : (n : ℕ) (c : ℤ) (cs : List ℤ) → natAbs c < heightOf cs → topLead (suc n) cs ≡ heightOf cs * 16 + (15 - (suc n + axisAt (heightOf cs) cs))
+    → topLead n (c ∷ cs) ≡ heightOf (c ∷ cs) * 16 + (15 - (n + axisAt (heightOf (c ∷ cs)) (c ∷ cs)))
+unfolding topLead
+lead-later n c cs l h =
+    let e = axis-later c cs l in
+    rw (e .1, e .0) (later-wins n (natAbs c) (heightOf cs) (axisAt (heightOf cs) cs) (topLead (suc n) cs) l h)
+
+lead-one : (n : ℕ) (c : ℤ) → topLead n (c ∷ []) ≡ heightOf (c ∷ []) * 16 + (15 - (n + axisAt (heightOf (c ∷ [])) (c ∷ [])))
+unfolding topLead heightOf
+lead-one n c = lead-first n c [] (omega arith) (omega arith)
+
+pub lead-is : (n : ℕ) (c : ℤ) (cs : List ℤ) → topLead n (c ∷ cs) ≡ heightOf (c ∷ cs) * 16 + (15 - (n + axisAt (heightOf (c ∷ cs)) (c ∷ cs)))
+lead-is n c [] = lead-one n c
+lead-is n c (a ∷ cs) =
+    let ih = lead-is (suc n) a cs in
+    by-cases (leb (heightOf (a ∷ cs)) (natAbs c))
+    (λ t. lead-first n c (a ∷ cs) (leb-true _ _ t) (omega (arith, ih)))
+    (λ t. lead-later n c (a ∷ cs) (leb-false _ _ t) ih)
 
 pub dist-more : (q p : List ℕ) (m : ℕ) → m < length q → m < length p
     → distBy square m (drop m (pointOf q)) (drop m (pointOf p))
@@ -106,11 +141,20 @@ pub slots-length : (p : List ℤ) (m : ℕ) → m ≤ length p → length p ≤ 
 slots-length p m l k =
     omega (arith, length-append (map stored (take m p)) (replicate (16 - m) 0), length-map (take m p) stored, length-take-le m p l, length-replicate {A = ℕ} (16 - m) 0)
 
--- the first coordinate of greatest magnitude and its sign make the pyramid number
-pub axis-is : (p : List ℤ) (h j : ℕ) → h ≡ heightOf p → j ≡ axisAt h p → j ≡ axisOf p
-unfolding axisOf
-axis-is p h j e f = f ∙ ap (λ (x : ℕ). axisAt x p) e
+-- the greatest lead of a point
+pub top-is : (p : List ℕ) (r : ℕ) → 0 < length p → r ≡ topLead 0 (pointOf p) → r ≡ heightOf (pointOf p) * 16 + (15 - axisOf (pointOf p))
+unfolding axisOf pointOf
+top-is [] r l e = absurd (omega arith)
+top-is (x ∷ xs) r l e = omega (arith, e, lead-is 0 (coordOf x) (pointOf xs))
 
+-- and its two parts
+pub top-height : (t h j : ℕ) → t ≡ h * 16 + (15 - j) → t / 16 ≡ h
+top-height t h j e = omega arith
+
+pub top-axis : (t h j : ℕ) → t ≡ h * 16 + (15 - j) → j < 16 → 15 - t % 16 ≡ j
+top-axis t h j e l = omega arith
+
+-- the first coordinate of greatest magnitude and its sign make the pyramid number
 pub pyramid-is : (p : List ℕ) (j : ℕ) → j < length p → j ≡ axisOf (pointOf p) → pick (ltb (getD p j 0) 1000) j (j + length p) ≡ pyramidOf (pointOf p)
 unfolding pyramidOf
 pyramid-is p j l e = rw (← e, length-point p, point-at p j l, coord-neg (getD p j 0))

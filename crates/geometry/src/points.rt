@@ -7,7 +7,7 @@ ghost use lib.IntN.{natAbs};
 ghost use lib.Dec.{leb};
 ghost use lib.ListN.{length};
 ghost use Rattle.lists.specs.Basics.{pick};
-ghost use Rattle.geometry.specs.Points.{heightOf, axisAt, pyramidOf, distance};
+ghost use Rattle.geometry.specs.Points.{heightOf, axisOf, pyramidOf, distance};
 ghost use Rattle.geometry.specs.Stored.{coordOf, pointOf, stored, slotsOf, inRange};
 use crate::Height;
 use crate::Pair;
@@ -87,31 +87,33 @@ pub fn magnitude(x: u16) -> u16
     apart(x, 1000)
 }
 
-// The height of a point.
-fn height_of(p: &[u16]) -> u16
-    ensures { λ r. ⌜ r ≡ heightOf (pointOf (now (p .entry))) ⌝ }
+fn highest(a: u32, b: u32) -> u32
+    ensures { λ r. ⌜ r ≡ max a b ⌝ }
 {
-    let mut h: u16 = 0;
-    let mut m = 0;
-    while m < p.len() {
-        h = greater(h, magnitude(p[m]));
-        m += 1;
-    }
-    h
+    if a < b { b } else { a }
 }
 
-// The first coordinate of magnitude h, or the number of coordinates where none is.
-fn axis_at(p: &[u16], h: u16) -> usize
-    ensures { λ r. ⌜ r ≡ axisAt h (pointOf (now (p .entry))) ⌝ }
+// The magnitude of coordinate m, followed by how far m is below 15: the first of the coordinates of one magnitude has the greatest number.
+fn lead(x: u16, m: usize) -> u32
+    requires { ⌜ m < 16 ⌝ }
+    ensures { λ r. ⌜ (r ≡ natAbs (coordOf x) * 16 + (15 - m)) × (r < 1048576) ⌝ }
 {
+    let h = magnitude(x) as u32;
+    h * 16 + (15 - m as u32)
+}
+
+// The greatest lead: the height and the axis of a point, found in one pass without a branch.
+fn top_lead(p: &[u16]) -> u32
+    requires { ⌜ (0 < length (now p)) × (length (now p) ≤ 16) ⌝ }
+    ensures { λ r. ⌜ (r ≡ heightOf (pointOf (now (p .entry))) * 16 + (15 - axisOf (pointOf (now (p .entry))))) × (r < 1048576) ⌝ }
+{
+    let mut top: u32 = 0;
     let mut m = 0;
     while m < p.len() {
-        if magnitude(p[m]) == h {
-            return m;
-        }
+        top = highest(top, lead(p[m], m));
         m += 1;
     }
-    m
+    top
 }
 
 // The number of the pyramid on axis j of d, on the side below 0 or not.
@@ -127,8 +129,9 @@ pub fn pair_of(p: &[u16]) -> Pair
     requires { ⌜ (0 < length (now p)) × (length (now p) ≤ 16) ⌝ }
     ensures { λ r. ⌜ (r .pyramid .0 ≡ pyramidOf (pointOf (now (p .entry)))) × (r .height .0 ≡ heightOf (pointOf (now (p .entry)))) ⌝ }
 {
-    let h = height_of(p);
-    let j = axis_at(p, h);
+    let top = top_lead(p);
+    let h = (top / 16) as u16;
+    let j = 15 - (top % 16) as usize;
     let below = p[j] < 1000;
     let i = pyramid_no(j, p.len(), below);
     Pair {

@@ -11,7 +11,7 @@ use borrow.Author.Tests.{leb-true, leb-false}
 use borrow.Rule.Slice.PartMut.{putMid, postOf, post-is}
 use Rattle.lists.specs.Basics.{run, flat, length-run}
 use Rattle.lists.specs.Counts.{by-cases}
-use Rattle.lists.specs.Runs.{run-take, length-flat}
+use Rattle.lists.specs.Runs.{getD-run, run-take, length-flat}
 use Rattle.geometry.specs.declared.Key.{Key}
 use Rattle.pagestore.specs.declared.Record.{Record}
 use Rattle.pagestore.specs.declared.Leaf.{Leaf}
@@ -19,7 +19,7 @@ use Rattle.pagestore.specs.declared.Entry.{Entry}
 use Rattle.pagestore.specs.declared.Inner.{Inner}
 use Rattle.pagestore.specs.Bytes.{byteAt, leAt, leBytes, put}
 use Rattle.pagestore.specs.ByteLaws.{length-le, length-put, put-next, put-front}
-use Rattle.pagestore.specs.Layout.{keyBytes, entryAt, entryBytes, recordAt, coordBytes, recordBytes, leafOf, innerOf, itemBytes, leafBytes, innerBytes, freedBytes}
+use Rattle.pagestore.specs.Layout.{keyAt, keyBytes, entryAt, entryBytes, recordAt, coordBytes, recordBytes, leafOf, innerOf, itemBytes, leafBytes, innerBytes, freedBytes}
 use Rattle.pagestore.specs.LayoutLaws.{length-key, length-coords, noRecord, noEntry}
 use Rattle.pagestore.specs.Store.{pagesIn, inRange, stretch, setStretch, recordsIn, entriesIn, linkAt, setLink, setLeaf, fieldAt, setField, size, features, root, freed, fresh, pageTaken, takePage, freePage, clearHeader, setFields, newIndex}
 use Rattle.pagestore.specs.Store.RangeLaws.{range-whole}
@@ -39,6 +39,32 @@ pub inner-is : (s : List ℕ) (v n : ℕ) (es : List Entry) → v ≡ byteAt s 0
     → _≡_ {A = Inner} (record { level = v; count = n; entries = es }) (innerOf s)
 unfolding innerOf
 inner-is s v n es o p q = rw (o, p, q)
+
+-- one item of a page
+pub record-read : (s : List ℕ) (i : ℕ) → i < 16 → recordAt s (4 + 44 * i) ≡ getD (leafOf s .records) i noRecord
+unfolding leafOf
+record-read s i h = sym (getD-run 16 (λ k. recordAt s (4 + 44 * k)) i noRecord h)
+
+pub ident-read : (s : List ℕ) (i : ℕ) → i < 16 → leAt 4 s (4 + 44 * i) ≡ getD (leafOf s .records) i noRecord .id
+unfolding recordAt
+ident-read s i h = ap (λ (r : Record). r .id) (record-read s i h)
+
+pub entry-read : (s : List ℕ) (i : ℕ) → i < 16 → entryAt s (4 + 20 * i) ≡ getD (innerOf s .entries) i noEntry
+unfolding innerOf
+entry-read s i h = sym (getD-run 16 (λ k. entryAt s (4 + 20 * k)) i noEntry h)
+
+-- and of a page without bytes: all its items are the same
+pub record-none : (i : ℕ) → i < 16 → recordAt [] 0 ≡ getD (leafOf [] .records) i noRecord
+unfolding recordAt leAt run
+record-none i h = record-read [] i h
+
+pub ident-none : (i : ℕ) → i < 16 → 0 ≡ getD (leafOf [] .records) i noRecord .id
+unfolding leAt
+ident-none i h = ident-read [] i h
+
+pub entry-none : (i : ℕ) → i < 16 → entryAt [] 0 ≡ getD (innerOf [] .entries) i noEntry
+unfolding entryAt keyAt leAt
+entry-none i h = entry-read [] i h
 
 -- ---- what the writers leave: one store behind another
 

@@ -11,19 +11,24 @@ mod pages;
 mod shift;
 
 // One page, handed over as a part of the index.
+pub use pages::read_count;
 pub use pages::read_inner;
 pub use pages::read_leaf;
+pub use pages::read_record;
 pub use pages::write_inner;
 pub use pages::write_leaf;
 
 // Pages by number.
 pub use pages::count_at;
+pub use pages::entry_at;
+pub use pages::ident_at;
 pub use pages::in_range;
 pub use pages::inner_at;
 pub use pages::leaf_at;
 pub use pages::level_at;
 pub use pages::link_at;
 pub use pages::page_count;
+pub use pages::record_at;
 pub use pages::set_inner;
 pub use pages::set_leaf;
 

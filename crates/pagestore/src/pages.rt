@@ -2,9 +2,10 @@
 ghost use mathlib.Core.Path.{_≡_};
 ghost use mathlib.Core.List.{[], _∷_};
 ghost use Prim.Native.Nat.{_<_, _≤_, min};
-ghost use lib.ListN.{length};
+ghost use lib.ListN.{length, getD};
 ghost use Rattle.pagestore.specs.Bytes.{byteAt, put};
 ghost use Rattle.pagestore.specs.Layout.{recordAt, entryAt, leafOf, innerOf, leafBytes, innerBytes};
+ghost use Rattle.pagestore.specs.LayoutLaws.{noRecord, noEntry};
 ghost use Rattle.pagestore.specs.Store.{pagesIn, inRange, stretch, leafAt, innerAt, levelAt, countAt, linkAt, recordsIn, entriesIn, setLeaf, setInner};
 use crate::Entry;
 use crate::Inner;
@@ -83,6 +84,22 @@ pub fn read_inner(page: &[u8]) -> Inner
         count: count,
         entries: entries,
     }
+}
+
+// The count of a leaf, as stored, read from its page.
+pub fn read_count(page: &[u8]) -> usize
+    requires { ⌜ length (now page) ≡ 1024 ⌝ }
+    ensures { λ r. ⌜ r ≡ leafOf (now (page .entry)) .count ⌝ }
+{
+    get_u8(page, 1) as usize
+}
+
+// One record of a leaf, read from its page by itself.
+pub fn read_record(page: &[u8], i: usize) -> Record
+    requires { ⌜ (length (now page) ≡ 1024) × (i < 16) ⌝ }
+    ensures { λ r. ⌜ r ≡ getD (leafOf (now (page .entry)) .records) i noRecord ⌝ }
+{
+    get_record(page, 4 + 44 * i)
 }
 
 // How many items are written for a count: a page has room for 16.
@@ -234,6 +251,48 @@ pub fn inner_at(index: &[u8], page: u32) -> Inner
         read_inner(&index[at..end])
     } else {
         empty_inner()
+    }
+}
+
+// One record of the leaf at a page; out of range an empty one.
+pub fn record_at(index: &[u8], page: u32, i: usize) -> Record
+    requires { ⌜ i < 16 ⌝ }
+    ensures { λ r. ⌜ r ≡ getD (leafAt (now (index .entry)) page .records) i noRecord ⌝ }
+{
+    if in_range(index, page) {
+        let at = page as usize * 1024;
+        let end = at + 1024;
+        read_record(&index[at..end], i)
+    } else {
+        no_record()
+    }
+}
+
+// The identifier of that record; out of range 0.
+pub fn ident_at(index: &[u8], page: u32, i: usize) -> u32
+    requires { ⌜ i < 16 ⌝ }
+    ensures { λ r. ⌜ r ≡ getD (leafAt (now (index .entry)) page .records) i noRecord .id ⌝ }
+{
+    if in_range(index, page) {
+        let at = page as usize * 1024;
+        let end = at + 1024;
+        get_u32(&index[at..end], 4 + 44 * i)
+    } else {
+        0
+    }
+}
+
+// One entry of the inner page at a page number; out of range an empty one.
+pub fn entry_at(index: &[u8], page: u32, i: usize) -> Entry
+    requires { ⌜ i < 16 ⌝ }
+    ensures { λ r. ⌜ r ≡ getD (innerAt (now (index .entry)) page .entries) i noEntry ⌝ }
+{
+    if in_range(index, page) {
+        let at = page as usize * 1024;
+        let end = at + 1024;
+        get_entry(&index[at..end], 4 + 20 * i)
+    } else {
+        no_entry()
     }
 }
 

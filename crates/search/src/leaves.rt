@@ -16,7 +16,8 @@ use pagestore::Record;
 use pagestore::count_at;
 use pagestore::in_range;
 use pagestore::inner_at;
-use pagestore::read_leaf;
+use pagestore::read_count;
+use pagestore::read_record;
 
 // How many items a page with this count has: there are 16 slots.
 pub fn filled(count: usize) -> usize
@@ -76,12 +77,11 @@ fn offer_leaf(
     requires { ⌜ (length (now page) ≡ 1024) × (length (now q) ≤ 16) × Held (now distances) (now tags) n k ⌝ }
     ensures { λ r. ⌜ OfferedAll (now (distances .entry)) (now (tags .entry)) n k (map (rowOf (now (q .entry)) position) (recordsIn (leafOf (now (page .entry))))) r (now (distances .exit)) (now (tags .exit)) ⌝ }
 {
-    let leaf = read_leaf(page);
-    let count = filled(leaf.count);
+    let count = filled(read_count(page));
     let mut rows = n;
     let mut i = 0;
     while i < count {
-        let row = row_of(q, position, leaf.records[i]);
+        let row = row_of(q, position, read_record(page, i));
         rows = offer(distances, tags, rows, k, row);
         i += 1;
     }

@@ -211,12 +211,15 @@ module _ (b m : List ℕ) (c : Counted (viewOf b) m) where
   followed = marked-followed v m (c .marks)
 
   -- they are as many as the points
-  pub pairs-few : length (pairsTo (viewOf b) m (viewOf b .count)) ≤ 65535
-  pairs-few =
+  pub pairs-total : length (pairsTo (viewOf b) m (viewOf b .count)) ≡ viewOf b .total
+  pairs-total =
       let e : length is ≡ sum (λ p. length (idents v p)) (markedTo m (v .count)) = counted-pairs v m length refl length-append (v .count) in
       let f : sum (λ p. length (idents v p)) (markedTo m (v .count)) ≡ sum (λ p. length (recordsOf (v .page p))) (markedTo m (v .count)) =
       ap (λ (g : ℕ → ℕ). sum g (markedTo m (v .count))) (λ i p. length-map (recordsOf (v .page p)) identOf i) in
-      omega (arith, length-map ps identOn, e, f, live-count v (view-stored b) (c .linked) (markedTo m (v .count)) followed, c .total, c .most)
+      omega (arith, length-map ps identOn, e, f, live-count v (view-stored b) (c .linked) (markedTo m (v .count)) followed, c .total)
+
+  pub pairs-few : length (pairsTo (viewOf b) m (viewOf b .count)) ≤ 65535
+  pairs-few = omega (arith, pairs-total, c .most)
 
   times : (i : ℕ) → mult i (map identOf (live v)) ≡ mult i is
   times i =

@@ -4,18 +4,19 @@ ghost use mathlib.Core.List.{map};
 ghost use Prim.Native.Nat.{ℕ, _+_, _<_, _≤_};
 ghost use lib.ListN.{length};
 ghost use Rattle.lists.specs.Counts.{mult};
-ghost use Rattle.pagestore.specs.Store.{viewOf, recordsIn};
+ghost use Rattle.pagestore.specs.Store.{viewOf, leafAt, recordsIn};
 ghost use Rattle.trees.specs.Trees.{identOf, live};
 ghost use Rattle.faults.specs.Faults.{FailsAt};
 ghost use Rattle.soundness.specs.Judged.{Found};
 ghost use Rattle.soundness.specs.Marks.{MarksAre};
 ghost use Rattle.soundness.specs.Outcome.{Counted};
 ghost use Rattle.soundness.specs.Collect.{identOn, holderOf, pairsIf, pairsTo, Joined, Collected};
+use crate::keys::item_count;
 use crate::links::place;
-use pagestore::Leaf;
-use pagestore::leaf_at;
+use pagestore::ident_at;
 use pagestore::level_at;
 use pagestore::page_count;
+use pagestore::total_records;
 use repeats::lowest_repeat_of;
 
 // A page number as it is kept beside an identifier.
@@ -27,16 +28,23 @@ fn narrow(page: u32) -> u16
 }
 
 // Puts the identifiers of a leaf behind the first n of `ids`, and its page as often into `holders`: how many there are then.
-fn collect_leaf(leaf: Leaf, holder: u16, ids: &mut [u32], holders: &mut [u16], n: usize) -> usize
-    requires { ⌜ (leaf .count ≤ 16) × (n + leaf .count ≤ length (now ids)) × (n + leaf .count ≤ length (now holders)) ⌝ }
-    ensures { λ r. ⌜ Joined (map identOf (recordsIn leaf)) (map (λ x. holder) (recordsIn leaf)) n (now (ids .entry)) (now (holders .entry)) r (now (ids .exit)) (now (holders .exit)) ⌝ }
+fn collect_leaf(
+    index: &[u8],
+    page: u32,
+    count: usize,
+    holder: u16,
+    ids: &mut [u32],
+    holders: &mut [u16],
+    n: usize,
+) -> usize
+    requires { ⌜ (count ≡ leafAt (now index) page .count) × (count ≤ 16) × (n + count ≤ length (now ids)) × (n + count ≤ length (now holders)) ⌝ }
+    ensures { λ r. ⌜ Joined (map identOf (recordsIn (leafAt (now (index .entry)) page))) (map (λ x. holder) (recordsIn (leafAt (now (index .entry)) page)))
+        n (now (ids .entry)) (now (holders .entry)) r (now (ids .exit)) (now (holders .exit)) ⌝ }
 {
-    let count = leaf.count;
     let mut i = 0;
     while i < count {
-        let r = leaf.records[i];
         let at = n + i;
-        ids[at] = r.id;
+        ids[at] = ident_at(index, page, i);
         holders[at] = holder;
         i += 1;
     }
@@ -64,9 +72,9 @@ fn collect_page(
     if level_at(index, p) != 0 {
         return n;
     }
-    let leaf = leaf_at(index, p);
+    let count = item_count(index, p);
     let holder = narrow(p);
-    collect_leaf(leaf, holder, ids, holders, n)
+    collect_leaf(index, p, count, holder, ids, holders, n)
 }
 
 // All of them: how many there are.
@@ -86,19 +94,38 @@ fn collect(index: &[u8], marks: &[u8], ids: &mut [u32], holders: &mut [u16]) -> 
 }
 
 fn find_repeat_in(index: &[u8], marks: &[u8], ids: &mut [u32], holders: &mut [u16]) -> u32
-    requires { ⌜ Counted (viewOf (now index)) (now marks) × (length (now ids) ≡ 65535) × (length (now holders) ≡ 65535) ⌝ }
+    requires { ⌜ Counted (viewOf (now index)) (now marks) × (viewOf (now index) .total ≤ length (now ids)) × (length (now holders) ≡ length (now ids)) ⌝ }
     ensures { λ r. ⌜ Found ((i : ℕ) → mult i (map identOf (live (viewOf (now (index .entry))))) ≤ 1) (FailsAt (viewOf (now (index .entry)))) r ⌝ }
 {
     let n = collect(index, marks, ids, holders);
     lowest_repeat_of(ids, holders, n) as u32
 }
 
-// The lowest page that holds a repeated identifier, or 0.
-pub fn find_repeat(index: &[u8], marks: &[u8]) -> u32
+fn find_repeat_few(index: &[u8], marks: &[u8]) -> u32
+    requires { ⌜ Counted (viewOf (now index)) (now marks) × (viewOf (now index) .total ≤ 4096) ⌝ }
+    ensures { λ r. ⌜ Found ((i : ℕ) → mult i (map identOf (live (viewOf (now (index .entry))))) ≤ 1) (FailsAt (viewOf (now (index .entry)))) r ⌝ }
+{
+    let mut ids = [0u32; 4096];
+    let mut holders = [0u16; 4096];
+    find_repeat_in(index, marks, &mut ids, &mut holders)
+}
+
+fn find_repeat_many(index: &[u8], marks: &[u8]) -> u32
     requires { ⌜ Counted (viewOf (now index)) (now marks) ⌝ }
     ensures { λ r. ⌜ Found ((i : ℕ) → mult i (map identOf (live (viewOf (now (index .entry))))) ≤ 1) (FailsAt (viewOf (now (index .entry)))) r ⌝ }
 {
     let mut ids = [0u32; 65535];
     let mut holders = [0u16; 65535];
     find_repeat_in(index, marks, &mut ids, &mut holders)
+}
+
+// The lowest page that holds a repeated identifier, or 0. A small index is spared the room for 65,535 points.
+pub fn find_repeat(index: &[u8], marks: &[u8]) -> u32
+    requires { ⌜ Counted (viewOf (now index)) (now marks) ⌝ }
+    ensures { λ r. ⌜ Found ((i : ℕ) → mult i (map identOf (live (viewOf (now (index .entry))))) ≤ 1) (FailsAt (viewOf (now (index .entry)))) r ⌝ }
+{
+    if total_records(index) <= 4096 {
+        return find_repeat_few(index, marks);
+    }
+    find_repeat_many(index, marks)
 }

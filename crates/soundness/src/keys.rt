@@ -1,14 +1,11 @@
 // The keys of records and entries, and a leaf judged by itself.
 ghost use mathlib.Core.Path.{_≡_};
-ghost use mathlib.Core.List.{map};
 ghost use Prim.Native.Nat.{_<_, _≤_, _^_};
-ghost use lib.ListN.{length, take};
-ghost use Rattle.lists.specs.Basics.{All, flat};
+ghost use Rattle.lists.specs.Basics.{flat};
 ghost use Rattle.lists.specs.Ascending.{Ascending, headOr, lastOr};
 ghost use Rattle.geometry.specs.Keys.{keyNumber};
-ghost use Rattle.pagestore.specs.Store.{recordsIn, entriesIn, fillOf, pageAt};
-ghost use Rattle.trees.specs.Trees.{keyOf, rankOf, firstKey, lastKey};
-ghost use Rattle.trees.specs.Sound.{RecordOk};
+ghost use Rattle.pagestore.specs.Store.{recordsIn, entriesIn, fillOf, pageAt, leafAt, innerAt};
+ghost use Rattle.trees.specs.Trees.{keyOf, firstKey, lastKey};
 ghost use Rattle.faults.specs.Faults.{ends, noEntry, firstOf, lastOf};
 ghost use Rattle.soundness.specs.Judged.{Decides, Judges, RecordsFine, RecordsBad};
 use geometry::Key;
@@ -16,11 +13,11 @@ use geometry::keys::key_number;
 use geometry::keys::key_of;
 use geometry::points::pair_of;
 use pagestore::Inner;
-use pagestore::Leaf;
 use pagestore::Record;
-use pagestore::inner_at;
-use pagestore::leaf_at;
+use pagestore::count_at;
+use pagestore::entry_at;
 use pagestore::level_at;
+use pagestore::record_at;
 
 // The key of a record with d features.
 pub fn record_key(r: Record, d: usize) -> Key
@@ -38,13 +35,6 @@ fn rank(k: Key) -> u64
     key_number(k)
 }
 
-fn record_rank(r: Record, d: usize) -> u64
-    requires { ⌜ (1 ≤ d) × (d ≤ 16) ⌝ }
-    ensures { λ k. ⌜ (k ≡ rankOf d r) × (k < 2 ^ 56) ⌝ }
-{
-    rank(record_key(r, d))
-}
-
 pub fn same_key(a: Key, b: Key) -> bool
     ensures { λ r. ⌜ Decides (a ≡ b) r ⌝ }
 {
@@ -57,50 +47,33 @@ pub fn same_key(a: Key, b: Key) -> bool
     a.id == b.id
 }
 
-// Are all these coordinates in range?
-fn slots_fine(slots: &[u16]) -> bool
-    ensures { λ r. ⌜ Decides (All (λ c. c ≤ 2000) (now (slots .entry))) r ⌝ }
+// Are the identifier and the coordinates of a record with this key in range? The height is the greatest magnitude.
+fn key_fine(k: Key) -> bool
+    ensures { λ r. ⌜ Decides ((1 ≤ k .id) × (k .height .0 ≤ 1000)) r ⌝ }
 {
-    let mut m = 0;
-    while m < slots.len() {
-        if 2000 < slots[m] {
-            return false;
-        }
-        m += 1;
-    }
-    true
-}
-
-// Are a record's identifier and coordinates in range?
-fn record_fine(r: Record, d: usize) -> bool
-    requires { ⌜ d ≤ 16 ⌝ }
-    ensures { λ k. ⌜ Decides (RecordOk d r) k ⌝ }
-{
-    if r.id == 0 {
+    if k.id == 0 {
         return false;
     }
-    let coords = r.coords;
-    slots_fine(&coords[..d])
+    k.height.0 <= 1000
 }
 
-// Are the records of a leaf in range, and do their keys ascend?
-pub fn judge_leaf(leaf: Leaf, d: usize) -> bool
-    requires { ⌜ (leaf .count ≤ 16) × (1 ≤ d) × (d ≤ 16) ⌝ }
-    ensures { λ r. ⌜ Judges (RecordsFine d (recordsIn leaf)) (RecordsBad d (recordsIn leaf)) r ⌝ }
+// Are the records of a leaf in range, and do their keys ascend? Each record is read once.
+pub fn judge_leaf(index: &[u8], page: u32, n: usize, d: usize) -> bool
+    requires { ⌜ (n ≡ leafAt (now index) page .count) × (n ≤ 16) × (1 ≤ d) × (d ≤ 16) ⌝ }
+    ensures { λ r. ⌜ Judges (RecordsFine d (recordsIn (leafAt (now (index .entry)) page))) (RecordsBad d (recordsIn (leafAt (now (index .entry)) page))) r ⌝ }
 {
-    let n = leaf.count;
     let mut next: u64 = 0;
     let mut i = 0;
     while i < n {
-        let r = leaf.records[i];
-        if !record_fine(r, d) {
+        let key = record_key(record_at(index, page, i), d);
+        if !key_fine(key) {
             return false;
         }
-        let rank = record_rank(r, d);
-        if rank < next {
+        let own = rank(key);
+        if own < next {
             return false;
         }
-        next = rank + 1;
+        next = own + 1;
         i += 1;
     }
     true
@@ -136,26 +109,24 @@ pub struct Ends {
     pub last: Key,
 }
 
-fn leaf_ends(leaf: Leaf, d: usize) -> Ends
-    requires { ⌜ (1 ≤ leaf .count) × (leaf .count ≤ 16) × (1 ≤ d) × (d ≤ 16) ⌝ }
-    ensures { λ r. ⌜ (r .first ≡ firstKey d (recordsIn leaf)) × (r .last ≡ lastKey d (recordsIn leaf)) ⌝ }
+fn leaf_ends(index: &[u8], page: u32, n: usize, d: usize) -> Ends
+    requires { ⌜ (n ≡ leafAt (now index) page .count) × (1 ≤ n) × (n ≤ 16) × (1 ≤ d) × (d ≤ 16) ⌝ }
+    ensures { λ r. ⌜ (r .first ≡ firstKey d (recordsIn (leafAt (now (index .entry)) page))) × (r .last ≡ lastKey d (recordsIn (leafAt (now (index .entry)) page))) ⌝ }
 {
-    let at = leaf.count - 1;
-    let first = record_key(leaf.records[0], d);
-    let last = record_key(leaf.records[at], d);
+    let first = record_key(record_at(index, page, 0), d);
+    let last = record_key(record_at(index, page, n - 1), d);
     Ends {
         first: first,
         last: last,
     }
 }
 
-fn inner_ends(inner: Inner) -> Ends
-    requires { ⌜ (1 ≤ inner .count) × (inner .count ≤ 16) ⌝ }
-    ensures { λ r. ⌜ (r .first ≡ headOr noEntry (entriesIn inner) .first) × (r .last ≡ lastOr noEntry (entriesIn inner) .last) ⌝ }
+fn inner_ends(index: &[u8], page: u32, n: usize) -> Ends
+    requires { ⌜ (n ≡ innerAt (now index) page .count) × (1 ≤ n) × (n ≤ 16) ⌝ }
+    ensures { λ r. ⌜ (r .first ≡ headOr noEntry (entriesIn (innerAt (now (index .entry)) page)) .first) × (r .last ≡ lastOr noEntry (entriesIn (innerAt (now (index .entry)) page)) .last) ⌝ }
 {
-    let at = inner.count - 1;
-    let head = inner.entries[0];
-    let tail = inner.entries[at];
+    let head = entry_at(index, page, 0);
+    let tail = entry_at(index, page, n - 1);
     let first = head.first;
     let last = tail.last;
     Ends {
@@ -164,13 +135,21 @@ fn inner_ends(inner: Inner) -> Ends
     }
 }
 
+// The count of a page, as stored.
+pub fn item_count(index: &[u8], page: u32) -> usize
+    ensures { λ r. ⌜ (r ≡ leafAt (now (index .entry)) page .count) × (r ≡ innerAt (now (index .entry)) page .count) × (r ≡ fillOf (pageAt (now (index .entry)) page)) ⌝ }
+{
+    count_at(index, page) as usize
+}
+
 // Those of any page that has items and no more than 16.
 pub fn ends_of(index: &[u8], page: u32, d: usize) -> Ends
     requires { ⌜ (1 ≤ fillOf (pageAt (now index) page)) × (fillOf (pageAt (now index) page) ≤ 16) × (1 ≤ d) × (d ≤ 16) ⌝ }
     ensures { λ r. ⌜ (r .first ≡ firstOf d (pageAt (now (index .entry)) page)) × (r .last ≡ lastOf d (pageAt (now (index .entry)) page)) ⌝ }
 {
+    let n = item_count(index, page);
     if level_at(index, page) == 0 {
-        return leaf_ends(leaf_at(index, page), d);
+        return leaf_ends(index, page, n, d);
     }
-    inner_ends(inner_at(index, page))
+    inner_ends(index, page, n)
 }

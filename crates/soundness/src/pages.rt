@@ -13,6 +13,7 @@ ghost use Rattle.soundness.specs.Judged.{Judges, Found};
 ghost use Rattle.soundness.specs.Marks.{Marked, Clear, MarksAre, FreedMarks, HasEntry, EndsRight, EndsWrong, Named, PagesFine, markedTo, Lost};
 use crate::keys::ends_of;
 use crate::keys::entries_ascend;
+use crate::keys::item_count;
 use crate::keys::judge_leaf;
 use crate::keys::same_key;
 use crate::links::may_follow;
@@ -22,7 +23,6 @@ use pagestore::Inner;
 use pagestore::count_at;
 use pagestore::fresh_page;
 use pagestore::inner_at;
-use pagestore::leaf_at;
 use pagestore::level_at;
 use pagestore::page_count;
 use pagestore::root_page;
@@ -103,7 +103,7 @@ fn judge_page(index: &[u8], p: u32, d: usize, marks: &[u8], freed: &[u8], named:
         return true;
     }
     if level_at(index, p) == 0 {
-        return judge_leaf(leaf_at(index, p), d);
+        return judge_leaf(index, p, item_count(index, p), d);
     }
     let inner = inner_at(index, p);
     if !entries_ascend(inner) {

@@ -3,12 +3,15 @@ use mathlib.Core.Path.{_≡_, refl, sym, ap, _∙_}
 use mathlib.Core.Logic.{_≢_}
 use mathlib.Core.Bool.{Bool, true, false}
 use mathlib.Core.List.{List, [], _∷_, _++_, append-assoc}
-use Prim.Native.Nat.{ℕ, zero, suc, _+_, _-_, _≤_, _<_, min}
+use Prim.Native.Nat.{ℕ, zero, suc, _+_, _-_, _≤_, _<_, min, max}
 use native.Mathlib.Omega.{arith}
 use native.Mathlib.Numerals.{add-one, sub-one}
-use lib.ListN.{length, take, drop}
-use lib.Seq.{slice, take-take, take-all, append-snoc}
-use borrow.Author.Tests.{le-leb, lt-leb}
+use lib.Dec.{leb}
+use lib.ListN.{length, set, take, drop, length-take, length-set, take-append-drop, drop-of-length-le}
+use lib.Seq.{slice, take-take, take-all, take-suc-set, take-set-lt, drop-set-lt, length-take-le, append-snoc}
+use borrow.Author.Tests.{le-leb, lt-leb, leb-true, leb-false}
+use Rattle.lists.specs.Counts.{by-cases}
+use Rattle.lists.specs.Shift as shift
 use Rattle.lists.specs.Leading.{leading, ins-leading}
 use Rattle.pagestore.specs.declared.Record.{Record}
 use Rattle.pagestore.specs.declared.Entry.{Entry}
@@ -41,8 +44,33 @@ module _ {A : Type 0} (slots : List A) (n c i : ℕ) (l : length slots ≡ 16) (
       ∙ ap (λ (x : List A). take i (take c slots) ++ (ys ++ drop (i + 1) x)) (sym (filled-is slots n c l f))
       ∙ ap (λ (m : ℕ). take i (take c slots) ++ (ys ++ drop m (take c slots))) (add-one i)
 
+  -- the item at place i anew, or one behind the last
+  renewed-rest : (m : ℕ) (e : A) → m ≡ max n (i + 1) → drop (suc i) (take m (set slots i e)) ≡ drop (i + 1) (take n slots)
+  renewed-rest m e q =
+      by-cases (leb n i)
+      (λ t. let g = leb-true n i t in
+      drop-of-length-le (take m (set slots i e)) {i = suc i} (omega (arith, length-take m (set slots i e)))
+      ∙ sym (drop-of-length-le (take n slots) {i = i + 1} (omega (arith, length-take n slots))))
+      (λ t. let g : i < n = leb-false n i t in let o : m ≡ n = omega arith in
+      rw (o, add-one i) (ap (drop (suc i)) (take-set-lt n slots i e g) ∙ drop-set-lt (suc i) (take n slots) i e (omega arith)))
+
+  pub renewed-is : (m : ℕ) (e : A) → i ≤ 15 → m ≡ max n (i + 1) → Held m (set slots i e) (replaced i (e ∷ []) (take c slots))
+  renewed-is m e k q =
+      let s : List A = set slots i e in
+      let z : length s ≡ 16 = length-set slots i e ∙ l in
+      let a : take (suc i) (take m s) ≡ take i slots ++ (e ∷ []) = take-take (suc i) m s (omega arith) ∙ take-suc-set slots i e (omega arith) in
+      let t : take m s ≡ replaced i (e ∷ []) (take c slots) =
+      sym (take-append-drop (suc i) (take m s)) ∙ ap (λ (x : List A). x ++ drop (suc i) (take m s)) a
+      ∙ ap (λ (x : List A). (take i slots ++ (e ∷ [])) ++ x) (renewed-rest m e q) ∙ replaced-is (e ∷ []) in
+      record { count = sym (length-take-le m s (omega arith)) ∙ ap length t; items = t }
+
 pub insert-is : (d : ℕ) (x : Record) (k i : ℕ) (rs : List Record) → k ≡ rankOf d x → i ≡ leading (rankBelow d k) rs → take i rs ++ ((x ∷ []) ++ drop i rs) ≡ insertRecord d x rs
 insert-is d x k i rs e f = rw (f, e) (ins-leading (λ y z. rankBelow d (rankOf d z) y) x rs)
+
+-- the same of a leaf with room
+pub fill-is : (d : ℕ) (x : Record) (k i : ℕ) (rs ys : List Record) → k ≡ rankOf d x → i ≡ leading (rankBelow d k) rs → ys ≡ shift.insertAt rs i x → ys ≡ insertRecord d x rs
+unfolding shift.insertAt
+fill-is d x k i rs ys e f g = g ∙ insert-is d x k i rs e f
 
 -- ---- items put to a page
 
@@ -52,6 +80,14 @@ module _ {A : Type 0} (write : List ℕ → ℕ → List A → List ℕ) (entry 
   put-one n {ys} {x} {e} l h i f g =
       let w : ys ≡ xs = i ∙ take-all n xs (omega arith) in
       rw (le-leb (length xs) 16 (omega arith)) (record { bytes = rw w at f; entries = ap (λ (z : Entry). z ∷ []) (rw w at g) })
+
+  -- the items as they are held
+  pub put-held : {n : ℕ} {slots : List A} {x : List ℕ} {e : Entry} → Held n slots xs → n ≤ 16 → x ≡ write b p (take n slots) → e ≡ entry p (take n slots) → Done (put write entry b p xs) x (One e)
+  put-held {n} {slots} {x} {e} h k f g = put-one n (sym (h .count)) k (h .items ∙ sym (take-all n xs (omega (arith, h .count)))) f g
+
+  -- as many as a page's count takes in
+  pub put-filled : (n : ℕ) (slots : List A) {x : List ℕ} {e : Entry} → length slots ≡ 16 → n ≤ 16 → take n slots ≡ xs → x ≡ write b p (take n slots) → e ≡ entry p (take n slots) → Done (put write entry b p xs) x (One e)
+  put-filled n slots {x} {e} l k h f g = put-held (record { count = sym (length-take-le n slots (omega arith)) ∙ ap length h; items = h }) k f g
 
   pub put-two : {n : ℕ} {b1 b2 x : List ℕ} {lo hi : List A} {e f : Entry} → length xs ≡ 17 → n ≡ pageTaken b → b1 ≡ takePage b → lo ≡ slice 0 9 xs → hi ≡ slice 9 17 xs
       → b2 ≡ write b1 p lo → x ≡ write b2 n hi → e ≡ entry p lo → f ≡ entry n hi → Done (put write entry b p xs) x (Two e f)

@@ -1,7 +1,7 @@
 // Insertion: a record into a leaf, and what the pages above it become.
 ghost use mathlib.Core.Path.{_≡_};
 ghost use mathlib.Core.List.{[], _∷_, _++_};
-ghost use Prim.Native.Nat.{_+_, _<_, _≤_};
+ghost use Prim.Native.Nat.{_+_, _<_, _≤_, max};
 ghost use Rattle.lists.specs.Leading.{leading};
 ghost use Rattle.pagestore.specs.Store.{recordsIn, entriesIn, setLeaf};
 ghost use Rattle.trees.specs.Trees.{rankOf};
@@ -26,6 +26,7 @@ use crate::items::push_entry;
 use crate::items::push_record;
 use crate::keys::filled;
 use crate::keys::record_rank;
+use pagestore::Entry;
 use pagestore::Inner;
 use pagestore::Leaf;
 use pagestore::Record;
@@ -87,11 +88,25 @@ fn put_records(index: &mut [u8], page: u32, all: RecordList, d: u8) -> Grown
     Grown::One(leaf_entry(page, leaf, d))
 }
 
+// A leaf with room for one record more.
+fn fill_leaf(index: &mut [u8], page: u32, leaf: Leaf, x: Record, rank: u64, d: u8) -> Grown
+    requires { ⌜ (leaf .count < 16) × (rank ≡ rankOf d x) ⌝ }
+    ensures { λ r. ⌜ Done (put setLeaf (leafEntry d) (now (index .entry)) page (insertRecord d x (recordsIn leaf))) (now (index .exit)) r ⌝ }
+{
+    let i = place_of(leaf, rank, d);
+    let next = pagestore::insert_record(leaf, i, x);
+    set_leaf(index, page, next);
+    Grown::One(leaf_entry(page, next, d))
+}
+
 fn insert_leaf(index: &mut [u8], page: u32, x: Record, rank: u64, d: u8) -> Grown
     requires { ⌜ rank ≡ rankOf d x ⌝ }
     ensures { λ r. ⌜ Done (insertAt d 0 (now (index .entry)) page x) (now (index .exit)) r ⌝ }
 {
     let leaf = leaf_at(index, page);
+    if leaf.count < 16 {
+        return fill_leaf(index, page, leaf, x, rank, d);
+    }
     let all = insert_record(leaf, x, rank, d);
     put_records(index, page, all, d)
 }
@@ -142,10 +157,48 @@ fn replace_grown(inner: Inner, i: usize, grown: Grown) -> EntryList
     append_entries(push_grown(before, grown), inner, i + 1, n)
 }
 
+// How many slots are in use once the one at i is.
+fn reaching(n: usize, i: usize) -> usize
+    requires { ⌜ i ≤ 15 ⌝ }
+    ensures { λ r. ⌜ r ≡ max n (i + 1) ⌝ }
+{
+    if i < n { n } else { i + 1 }
+}
+
+// A page with the entry at one place anew.
+fn renewed(inner: Inner, level: u8, i: usize, e: Entry) -> Inner
+    requires { ⌜ (i ≤ 15) × (i ≤ inner .count) ⌝ }
+    ensures { λ r. ⌜ (r .level ≡ level) × Held (r .count) (r .entries) (replaced i (e ∷ []) (entriesIn inner)) ⌝ }
+{
+    let n = filled(inner.count);
+    let count = reaching(n, i);
+    let mut entries = inner.entries;
+    entries[i] = e;
+    Inner {
+        level: level,
+        count: count,
+        entries: entries,
+    }
+}
+
+// A page whose child has not split.
+fn put_entry(index: &mut [u8], page: u32, level: u8, inner: Inner, i: usize, e: Entry) -> Grown
+    requires { ⌜ (i ≤ 15) × (i ≤ inner .count) ⌝ }
+    ensures { λ r. ⌜ Done (put (writeInner level) innerEntry (now (index .entry)) page (replaced i (e ∷ []) (entriesIn inner))) (now (index .exit)) r ⌝ }
+{
+    let next = renewed(inner, level, i, e);
+    set_inner(index, page, next);
+    Grown::One(inner_entry(page, next))
+}
+
+// A page, with what its child has become in the child's place.
 fn put_inner(index: &mut [u8], page: u32, level: u8, inner: Inner, i: usize, grown: Grown) -> Grown
     requires { ⌜ (i ≤ 15) × (i ≤ inner .count) ⌝ }
     ensures { λ r. ⌜ Done (put (writeInner level) innerEntry (now (index .entry)) page (replaced i (grownList grown) (entriesIn inner))) (now (index .exit)) r ⌝ }
 {
+    if let Grown::One(e) = grown {
+        return put_entry(index, page, level, inner, i, e);
+    }
     let all = replace_grown(inner, i, grown);
     put_entries(index, page, level, all)
 }

@@ -1,31 +1,35 @@
-use mathlib.Core.Path.{_≡_, ap}
-use Prim.Native.Nat.{_-_}
+use mathlib.Core.Path.{_≡_, ap, _∙_}
+use Prim.Native.Nat.{ℕ, _-_}
 use native.Mathlib.Omega.{arith}
-use lib.ListN.{length}
-use Rattle.soundness.proofs.JudgeLaws.{unmapped}
 use Rattle.soundness.proofs.KeyLaws.{head-take, last-taken}
 use Rattle.pagestore.specs.declared.Entry.{Entry}
 use Rattle.pagestore.specs.LayoutLaws.{noEntry}
+use Rattle.pagestore.specs.Store.{innerAt}
+use Rattle.pagestore.specs.Store.PageLaws.{entries-slots}
+use lib.ListN.{getD}
 use Rattle.faults.specs.Faults
 use borrow.Author.Needs.{needs}
 use Rattle.soundness.proofs.keys.inner_ends.Statement.{statement}
 use Rattle.soundness.proofs.keys.inner_ends.Tie as tie
 
-sub-at : tie.Need-sub-at
-sub-at c = search needs
+entry-at-requires : tie.Need-entry-at-requires
+entry-at-requires c κs = search needs
 
-element-copy-out-head : tie.Need-element-copy-out-head
-element-copy-out-head c = search needs
+sub-entry-at : tie.Need-sub-entry-at
+sub-entry-at c = search needs
 
-mul-tail : tie.Need-mul-tail
-mul-tail c = search needs
-
-element-copy-out-tail : tie.Need-element-copy-out-tail
-element-copy-out-tail c = search needs
+entry-at-requires-2 : tie.Need-entry-at-requires-2
+entry-at-requires-2 c κs = search needs
 
 returns : tie.Need-returns
-returns c = let S = (c .before .before .before .before) in let slots : length (S .args .t1 .entries) ≡ 16 = search (unmapped, needs) in (ap (λ (e : Entry). e .first) (head-take noEntry Faults.noEntry (S .args .t1 .entries) (S .args .t1 .count) (omega (arith, S .pre .0)) (omega (arith, S .pre .1))), ap (λ (e : Entry). e .last) (last-taken noEntry Faults.noEntry (S .args .t1 .entries) (S .args .t1 .count) (omega (arith, S .pre .0)) (omega (arith, S .pre .1))))
+returns c =
+    let S = c .before .before .before .before .before in let x = innerAt (S .args .index .now) (S .args .page) in
+    let slots = entries-slots (S .args .index .now) (S .args .page) in
+    let last : getD (x .entries) (S .args .n - 1) noEntry ≡ getD (x .entries) (x .count - 1) noEntry = ap (λ (k : ℕ). getD (x .entries) (k - 1) noEntry) (S .pre .0) in (
+      ap (λ (e : Entry). e .first) (c .before .before .before .entry-at .ensures ∙ head-take noEntry Faults.noEntry (x .entries) (x .count) (omega (arith, S .pre .0, S .pre .1)) (omega (arith, S .pre .0, S .pre .2, slots))),
+      ap (λ (e : Entry). e .last) (c .before .before .entry-at2 .ensures ∙ last ∙ last-taken noEntry Faults.noEntry (x .entries) (x .count) (omega (arith, S .pre .0, S .pre .1)) (omega (arith, S .pre .0, S .pre .2, slots))),
+    )
 
 pub inner-ends-spec : {M : Type 1} → statement M
 inner-ends-spec =
-    tie.close (tie.spec sub-at element-copy-out-head mul-tail element-copy-out-tail returns)
+    tie.close (tie.spec entry-at-requires sub-entry-at entry-at-requires-2 returns)

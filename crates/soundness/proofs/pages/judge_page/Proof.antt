@@ -1,4 +1,4 @@
-use mathlib.Core.Path.{_≡_, sym, _∙_, subst}
+use mathlib.Core.Path.{_≡_, refl, sym, _∙_, subst}
 use Prim.Native.Nat.{_-_}
 use native.Mathlib.Omega.{arith}
 use Rattle.soundness.proofs.JudgeLaws.{passes, faults, judge-map}
@@ -12,7 +12,7 @@ use Rattle.soundness.specs.Marks.{Marked}
 use Rattle.soundness.proofs.EntryLaws.{named-none, named-leaf, inner-few, leaf-few}
 use Rattle.soundness.proofs.MarkLaws.{no-entries}
 use Rattle.soundness.proofs.PageLaws.{leaf-fine, leaf-fails, inner-fine, inner-fails}
-use Rattle.pagestore.specs.Store.{levelAt}
+use Rattle.pagestore.specs.Store.{levelAt, leafAt}
 use borrow.Author.Needs.{needs}
 use Rattle.soundness.proofs.pages.judge_page.Statement.{statement}
 use Rattle.soundness.proofs.pages.judge_page.Tie as tie
@@ -29,14 +29,14 @@ returns c = let s = (c .before .before .before .before .before .before .before) 
 level-at-requires : tie.Need-level-at-requires
 level-at-requires c κs = search needs
 
-leaf-at-requires : tie.Need-leaf-at-requires
-leaf-at-requires c κs = search needs
+item-count-requires : tie.Need-item-count-requires
+item-count-requires c κs = search needs
 
 judge-leaf-requires : tie.Need-judge-leaf-requires
-judge-leaf-requires c κs = let s = (c .before .before .before .before .before .before .before .before .before .before) in let b = s .args .index .now in let p = s .args .p in let m = s .args .marks .now in let A = c .before .before .before .before .before .place .ensures in let r = s .pre .2 .reached p (subst (Marked m) A (c .before .before .before .if1 .left)) in let X = c .leaf-at in let g = rooted r .features in (leaf-few b p (X .result) r (X .ensures), omega (arith, g .0, s .pre .1), omega (arith, g .1, s .pre .1))
+judge-leaf-requires c κs = let s = c .before .before .before .before .before .before .before .before .before .before in let b = s .args .index .now in let p = s .args .p in let m = s .args .marks .now in let A = c .before .before .before .before .before .place .ensures in let r = s .pre .2 .reached p (subst (Marked m) A (c .before .before .before .if1 .left)) in let N = c .item-count in let g = rooted r .features in (N .ensures .0, omega (arith, N .ensures .0, leaf-few b p (leafAt b p) r refl), omega (arith, g .0, s .pre .1), omega (arith, g .1, s .pre .1))
 
 returns-2 : tie.Need-returns-2
-returns-2 c = let s = (c .before .before .before .before .before .before .before .before .before .before .before) in let b = s .args .index .now in let p = s .args .p in let m = s .args .marks .now in let A = c .before .before .before .before .before .before .place .ensures in let r = s .pre .2 .reached p (subst (Marked m) A (c .before .before .before .before .if1 .left)) in let X = c .before .leaf-at in let z : levelAt b p ≡ 0 = sym (c .before .before .before .level-at .ensures) ∙ c .before .before .if2 .taken in judge-map (λ h. (named-leaf b p (no-entries (viewOf b .page p) (view-level b p ∙ z)) (s .pre .4), λ q. leaf-fine b p (s .args .d) (s .pre .1) (X .result) (X .ensures) z h)) (leaf-fails b p (s .args .d) (s .pre .1) (X .result) (X .ensures) z r) (c .judge-leaf .ensures)
+returns-2 c = let s = c .before .before .before .before .before .before .before .before .before .before .before in let b = s .args .index .now in let p = s .args .p in let m = s .args .marks .now in let A = c .before .before .before .before .before .before .place .ensures in let r = s .pre .2 .reached p (subst (Marked m) A (c .before .before .before .before .if1 .left)) in let N = c .before .item-count in let z : levelAt b p ≡ 0 = sym (c .before .before .before .level-at .ensures) ∙ c .before .before .if2 .taken in judge-map (λ h. (named-leaf b p (no-entries (viewOf b .page p) (view-level b p ∙ z)) (s .pre .4), λ q. leaf-fine b p (s .args .d) (s .pre .1) (leafAt b p) refl z h)) (leaf-fails b p (s .args .d) (s .pre .1) (leafAt b p) refl z r) (c .judge-leaf .ensures)
 
 inner-at-requires : tie.Need-inner-at-requires
 inner-at-requires c κs = search needs
@@ -64,7 +64,7 @@ judge-page-spec =
     shared-slice-read-if1
     returns
     level-at-requires
-    leaf-at-requires
+    item-count-requires
     judge-leaf-requires
     returns-2
     inner-at-requires
