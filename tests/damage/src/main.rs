@@ -2,6 +2,7 @@
 
 mod acts;
 mod bounds;
+mod built;
 mod damage;
 mod data;
 mod ffi;
@@ -21,6 +22,7 @@ fn main() {
     bounds::all(&mut run);
     large::all(&mut run);
     series::all(&mut run);
+    built::all(&mut run);
     unread::all(&mut run);
     damage::all(&mut run);
     if !run.finish() {

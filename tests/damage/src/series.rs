@@ -36,6 +36,13 @@ impl Series {
         series
     }
 
+    /// An index that is there.
+    pub fn over(bytes: Vec<u8>, kind: Kind, ids: Ids, seed: u64) -> Series {
+        let model = Model::over(bytes);
+        let live = model.records().iter().map(|r| r.id).collect();
+        Series { lib: Lent::new(&model.b), model, rng: Rng(seed), kind, ids, live, next: 0 }
+    }
+
     pub fn act(&mut self, run: &mut Run, act: &Act) -> u32 {
         let code = run.act(&mut self.lib, &mut self.model, act, true);
         match act {
