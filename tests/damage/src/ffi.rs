@@ -3,6 +3,9 @@
 use crate::model::{Answer, Row, Tally};
 use std::mem::MaybeUninit;
 
+/// Whether insert and delete without the check are quick on a damaged index of any level.
+pub const BOUNDED: bool = false;
+
 #[repr(C)]
 struct Outcome {
     code: u32,

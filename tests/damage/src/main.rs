@@ -12,6 +12,7 @@ mod large;
 mod layout;
 mod lent;
 mod model;
+mod rules;
 mod run;
 mod series;
 mod shapes;
@@ -24,6 +25,7 @@ fn main() {
     series::all(&mut run);
     built::all(&mut run);
     unread::all(&mut run);
+    rules::all(&mut run);
     damage::all(&mut run);
     if !run.finish() {
         std::process::exit(1);
