@@ -190,12 +190,14 @@ fn acted(run: &mut Run, rng: &mut Rng, plan: Plan, steps: usize) {
     }
     for step in 0..steps {
         let act = s.some_act(step % 2 == 0);
+        run.trusted = step % 3 == 0;
         let code = run.act(&mut s.lib, &mut s.model, &act, !plan.junk);
         if code == 0 {
             s.model.touch().copy_from_slice(&s.lib);
             s.live = s.model.records().iter().map(|r| r.id).collect();
         }
     }
+    run.trusted = false;
 }
 
 /// A tree of more than 65,535 points, all else in order: not sound, at the header.
@@ -211,10 +213,10 @@ fn too_many(run: &mut Run, rng: &mut Rng, points: usize, shape: Shape) {
         run.expect(code == 2, || format!("{points} points: {code}"));
     }
     let mut rows = crate::acts::lent_rows();
-    let got = ffi::search(&lib, &[3, 4], 64, &mut rows);
+    let got = ffi::search(&lib, &[3, 4], 64, &mut rows, 64);
     run.expect(got.rows <= 64, || format!("{points} points: {got:?}"));
-    ffi::insert_trusted(&mut lib, 1, &[3, 4]);
-    ffi::delete_trusted(&mut lib, 1);
+    ffi::insert(&mut lib, 1, &[3, 4], true);
+    ffi::delete(&mut lib, 1, true);
 }
 
 pub fn all(run: &mut Run) {

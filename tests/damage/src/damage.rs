@@ -62,14 +62,14 @@ fn judged(run: &mut Run, lib: &mut Lent, bytes: &[u8], given: &Given) {
 fn unchecked(run: &mut Run, lib: &mut Lent, bytes: &[u8], given: &Given) {
     for k in [1, 64] {
         let mut rows = lent_rows();
-        let got = ffi::search(lib, &given.x, k, &mut rows[..k]);
+        let got = ffi::search(lib, &given.x, k, &mut rows, k);
         run.counts.searches += 1;
         run.expect(got.rows <= k && rows[got.rows..] == lent_rows()[got.rows..], || format!("search: {got:?}, or rows past those returned"));
     }
     run.equal("search", lib, bytes);
-    ffi::insert_trusted(lib, given.new, &given.x);
-    ffi::delete_trusted(lib, given.old);
-    ffi::delete_trusted(lib, given.new);
+    ffi::insert(lib, given.new, &given.x, true);
+    ffi::delete(lib, given.old, true);
+    ffi::delete(lib, given.new, true);
     lib.copy_from_slice(bytes);
 }
 

@@ -63,17 +63,24 @@ fn seventeen(run: &mut Run) {
     }
 }
 
-/// Up to 65,535 points by the functions without the check, compared at intervals; then acts at the limit.
-fn full(run: &mut Run, d: usize, kind: Kind, upward: bool) {
+/// Up to 65,535 points: by the model, with the library's insert at intervals (all of them with `each`); then acts at the limit.
+fn full(run: &mut Run, d: usize, kind: Kind, upward: bool, each: bool) {
     let mut s = Series::new(run, MOST_PAGES, d, kind, Ids::Upward, d as u64);
     let mut points = Vec::new();
     for id in 1..=MOST_POINTS {
         let x = if upward { vec![(id % 1001) as i16; d] } else { s.point() };
-        ffi::insert_trusted(&mut s.lib, id, &x);
+        let compared = id % 2048 == 0 || id == MOST_POINTS;
+        if compared && !each {
+            s.lib.copy_from_slice(&s.model.b);
+        }
+        if compared || each {
+            let code = ffi::insert(&mut s.lib, id, &x, true);
+            run.expect(code == 0, || format!("insert of {id}: {code}"));
+        }
         let code = s.model.insert_new(id, &x);
         run.expect(code == 0, || format!("model's insert of {id}: {code}"));
         points.push(x);
-        if id % 8192 == 0 || id == MOST_POINTS {
+        if compared {
             run.equal(&format!("{id} points"), &s.lib, &s.model.b);
         }
     }
@@ -102,22 +109,27 @@ fn full(run: &mut Run, d: usize, kind: Kind, upward: bool) {
         run.search_gives("full", &s.lib, &x, k, &found.rows, found.leaves);
         let id = s.rng.range(1, 65535) as u32;
         let code = s.act(run, &Act::Delete(id));
+        run.trusted = i % 2 == 0;
         if code == 0 && i % 3 == 0 {
             s.act(run, &Act::Insert(id, x));
         }
     }
+    run.trusted = false;
     empty(run, &mut s, d);
 }
 
-/// Deletes without the check: some, or down to the empty index.
+/// Deletes without the check, compared at intervals: some, or down to the empty index.
 fn empty(run: &mut Run, s: &mut Series, d: usize) {
     let mut records = s.model.records();
-    let times = if run.long { records.len() } else { 1500 };
-    for i in 0..times {
+    for i in 0..records.len() {
         let r = records.swap_remove(s.rng.below(records.len()));
-        ffi::delete_trusted(&mut s.lib, r.id);
+        let compared = i % 2048 == 0 || records.is_empty();
+        if compared {
+            s.lib.copy_from_slice(&s.model.b);
+            ffi::delete(&mut s.lib, r.id, true);
+        }
         s.model.delete_record(&r);
-        if i % 2048 == 0 {
+        if compared {
             run.equal(&format!("d {d}, {i} deleted"), &s.lib, &s.model.b);
         }
     }
@@ -131,19 +143,21 @@ fn middle(run: &mut Run, pages: usize, d: usize, kind: Kind, points: usize) {
     for _ in 0..points {
         let (id, x) = (s.new_id(), s.point());
         if !s.live.contains(&id) && s.model.insert_new(id, &x) == 0 {
-            ffi::insert_trusted(&mut s.lib, id, &x);
             s.live.push(id);
         }
     }
-    run.equal("grown", &s.lib, &s.model.b);
+    s.lib.copy_from_slice(&s.model.b);
+    s.model.touch();
     for step in 0..if run.long { 4000 } else { 250 } {
         let act = s.some_act(step % 100 < 50);
+        run.trusted = step % 4 == 0;
         if s.rng.one_in(10) {
             s.act_on_copy(run, &act);
         } else {
             s.act(run, &act);
         }
     }
+    run.trusted = false;
 }
 
 pub fn all(run: &mut Run) {
@@ -151,11 +165,11 @@ pub fn all(run: &mut Run) {
     run.case("seventeen points", seventeen);
     run.case("acts, 1,024 pages, d 4, to the last page", |run| middle(run, 1024, 4, Kind::Uniform, 12_000));
     run.case("acts, 4,096 pages, d 16", |run| middle(run, 4096, 16, Kind::Clustered, 20_000));
-    run.case("65,535 points, d 8", |run| full(run, 8, Kind::Uniform, false));
+    run.case("65,535 points, d 8", |run| full(run, 8, Kind::Uniform, false, run.long));
     if run.long {
-        run.case("65,535 points, d 1", |run| full(run, 1, Kind::Uniform, false));
-        run.case("65,535 points, d 2, upward", |run| full(run, 2, Kind::Uniform, true));
-        run.case("65,535 points, d 16, clustered", |run| full(run, 16, Kind::Clustered, false));
-        run.case("65,535 points, d 3, tied", |run| full(run, 3, Kind::Tied, false));
+        run.case("65,535 points, d 1", |run| full(run, 1, Kind::Uniform, false, false));
+        run.case("65,535 points, d 2, upward", |run| full(run, 2, Kind::Uniform, true, false));
+        run.case("65,535 points, d 16, clustered", |run| full(run, 16, Kind::Clustered, false, false));
+        run.case("65,535 points, d 3, tied", |run| full(run, 3, Kind::Tied, false, false));
     }
 }

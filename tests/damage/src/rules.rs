@@ -287,13 +287,13 @@ fn ring(run: &mut Run, level: u8) {
     (0..16).for_each(|i| put_u32(&mut b, entry(1, i), 1));
     let mut lib = Lent::new(&b);
     run.act(&mut lib, &mut Model::over(b.clone()), &Act::Check, true);
-    let got = ffi::search(&lib, &[3, 4], 64, &mut lent_rows());
+    let got = ffi::search(&lib, &[3, 4], 64, &mut lent_rows(), 64);
     run.expect(got.rows <= 64, || format!("ring of level {level}: {got:?}"));
     run.counts.searches += 1;
     if level <= 4 || ffi::BOUNDED {
-        ffi::delete_trusted(&mut lib, 5);
+        ffi::delete(&mut lib, 5, true);
         lib.copy_from_slice(&b);
-        ffi::insert_trusted(&mut lib, 5, &[3, 4]);
+        ffi::insert(&mut lib, 5, &[3, 4], true);
     }
     run.expect(lib.intact(), || format!("ring of level {level}: bytes before the index changed"));
 }

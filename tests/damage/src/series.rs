@@ -153,6 +153,7 @@ fn series(run: &mut Run, pages: usize, d: usize, kind: Kind, ids: Ids, steps: us
     let (mut full, mut target) = (0, 0);
     for step in 0..steps {
         let act = s.some_act(growing);
+        run.trusted = s.rng.one_in(3);
         let code = if s.rng.one_in(12) { s.act_on_copy(run, &act) } else { s.act(run, &act) };
         full += (code == 9) as u32;
         if growing && (full == 6 || s.rng.one_in(pages * 40)) {
@@ -168,6 +169,7 @@ fn series(run: &mut Run, pages: usize, d: usize, kind: Kind, ids: Ids, steps: us
             run.expect(sound, || "the model's index is not sound".into());
         }
     }
+    run.trusted = false;
     while let Some(&id) = s.live.first() {
         s.act(run, &Act::Delete(id));
     }
