@@ -10,6 +10,7 @@ use crate::model::{Model, Tally};
 use crate::run::Run;
 use crate::series::Series;
 use crate::shapes::{grown, shrunk};
+use std::time::Instant;
 
 /// The acts that a damaged index is given: valid ones for the index before.
 struct Given {
@@ -58,8 +59,9 @@ fn judged(run: &mut Run, lib: &mut Lent, bytes: &[u8], given: &Given) {
     run.expect(lib.intact(), || "bytes before the index changed".into());
 }
 
-/// The search, insert and delete by themselves: they end, and the search changes nothing.
+/// The acts without the check: they end soon, and the question changes nothing.
 fn unchecked(run: &mut Run, lib: &mut Lent, bytes: &[u8], given: &Given) {
+    let start = Instant::now();
     for k in [1, 64] {
         let mut rows = lent_rows();
         let got = ffi::search(lib, &given.x, k, &mut rows, k);
@@ -67,18 +69,23 @@ fn unchecked(run: &mut Run, lib: &mut Lent, bytes: &[u8], given: &Given) {
         run.expect(got.rows <= k && rows[got.rows..] == lent_rows()[got.rows..], || format!("search: {got:?}, or rows past those returned"));
     }
     run.equal("search", lib, bytes);
-    ffi::insert(lib, given.new, &given.x, true);
-    ffi::delete(lib, given.old, true);
-    ffi::delete(lib, given.new, true);
-    lib.copy_from_slice(bytes);
+    if bytes[LEVEL] <= 4 || ffi::BOUNDED {
+        ffi::insert(lib, given.new, &given.x, true);
+        ffi::delete(lib, given.old, true);
+        ffi::delete(lib, given.new, true);
+        lib.copy_from_slice(bytes);
+    } else {
+        run.counts.spared += 1;
+    }
+    run.counts.longest = run.counts.longest.max(start.elapsed());
 }
 
 /// Every byte of the used pages, and of the first never used, to several values.
-fn each_byte(run: &mut Run, mut s: Series, step: usize) {
+fn each_byte(run: &mut Run, mut s: Series) {
     let given = given(&mut s);
     let used = (u32_at(&s.model.b, FRESH) as usize + 1) * PAGE;
     let mut bytes = s.model.b.clone();
-    for at in (0..used.min(bytes.len())).step_by(step) {
+    for at in 0..used.min(bytes.len()) {
         let old = bytes[at];
         let mut values = vec![old ^ 1, old ^ 0x80, 0, 255, old.wrapping_add(1)];
         values.sort();
@@ -163,27 +170,26 @@ fn meaningless(run: &mut Run, pages: usize, times: usize, seed: u64) {
 }
 
 pub fn all(run: &mut Run) {
-    let fine = if run.long { 1 } else { 3 };
-    run.case("each byte: empty index of 2 pages", |run| each_byte_of(run, 2, 1, 0, 0, 1));
-    run.case("each byte: one leaf of 5, d 2", |run| each_byte_of(run, 3, 2, 5, 0, 1));
-    run.case("each byte: one full leaf, d 16", |run| each_byte_of(run, 2, 16, 16, 0, 1));
-    run.case("each byte: two leaves, d 1", |run| each_byte_of(run, 5, 1, 20, 0, 1));
-    run.case("each byte: two leaves, d 16", |run| each_byte_of(run, 4, 16, 20, 0, 1));
+    run.case("each byte: empty index of 2 pages", |run| each_byte_of(run, 2, 1, 0));
+    run.case("each byte: one leaf of 5, d 2", |run| each_byte_of(run, 3, 2, 5));
+    run.case("each byte: one full leaf, d 16", |run| each_byte_of(run, 2, 16, 16));
+    run.case("each byte: two leaves, d 1", |run| each_byte_of(run, 5, 1, 20));
+    run.case("each byte: two leaves, d 16", |run| each_byte_of(run, 4, 16, 20));
     run.case("each byte: two levels, with freed pages, d 3", |run| {
         let s = shrunk(run, 12, 3, Kind::Uniform, 90, 36);
         assert!(u32_at(&s.model.b, FREED) != 0);
-        each_byte(run, s, fine);
+        each_byte(run, s);
     });
     run.case("each byte: one leaf, all other pages freed, d 2", |run| {
         let s = shrunk(run, 6, 2, Kind::Clustered, 40, 9);
-        each_byte(run, s, 1);
+        each_byte(run, s);
     });
     run.case("each byte: three levels, d 2", |run| {
         let s = grown(run, 40, 2, Kind::Uniform, 190, 0);
         assert_eq!(2, s.model.b[LEVEL]);
-        each_byte(run, s, 3 * fine - 2);
+        each_byte(run, s);
     });
-    let times = if run.long { 40_000 } else { 2_000 };
+    let times = if run.long { 60_000 } else { 8_000 };
     for (pages, d, points, drop) in [(16, 2, 60, 3), (40, 1, 200, 0), (64, 3, 350, 4), (64, 16, 350, 2), (256, 8, 1800, 5)] {
         run.case(&format!("struck: {pages} pages, d {d}"), |run| {
             let s = grown(run, pages, d, Kind::Uniform, points, drop);
@@ -194,12 +200,12 @@ pub fn all(run: &mut Run) {
         let s = shrunk(run, 64, 2, Kind::Uniform, 400, 90);
         struck(run, s, times, 9);
     });
-    for pages in [2, 3, 5, 24, 200] {
-        run.case(&format!("bytes of no meaning, {pages} pages"), |run| meaningless(run, pages, times / 4, pages as u64));
+    for pages in [2, 3, 5, 24, 200, 1000] {
+        run.case(&format!("bytes of no meaning, {pages} pages"), |run| meaningless(run, pages, if pages > 200 { times / 40 } else { times / 4 }, pages as u64));
     }
 }
 
-fn each_byte_of(run: &mut Run, pages: usize, d: usize, points: usize, drop: usize, step: usize) {
-    let s = grown(run, pages, d, Kind::Uniform, points, drop);
-    each_byte(run, s, step);
+fn each_byte_of(run: &mut Run, pages: usize, d: usize, points: usize) {
+    let s = grown(run, pages, d, Kind::Uniform, points, 0);
+    each_byte(run, s);
 }

@@ -17,6 +17,10 @@ pub struct Counts {
     pub unsound: u64,
     /// Of the unsound, those that fail at the header.
     pub header: u64,
+    /// Damaged indexes of a level above 4 that insert and delete without the check were not given.
+    pub spared: u64,
+    /// The longest time of the acts without the check on one damaged index.
+    pub longest: Duration,
     pub searches: u64,
     pub unread: u64,
 }
@@ -25,6 +29,8 @@ pub struct Run {
     pub long: bool,
     /// Acts on sound indexes go without the check.
     pub trusted: bool,
+    /// Only cases whose names contain this: the first argument.
+    only: String,
     pub counts: Counts,
     passed: u32,
     failed: u32,
@@ -36,10 +42,13 @@ impl Run {
     pub fn new() -> Run {
         std::thread::spawn(watch);
         let long = std::env::var("LONG").is_ok_and(|v| v != "" && v != "0");
-        Run { long, trusted: false, counts: Counts::default(), passed: 0, failed: 0, failures: 0, name: String::new() }
+        Run { long, trusted: false, only: std::env::args().nth(1).unwrap_or_default(), counts: Counts::default(), passed: 0, failed: 0, failures: 0, name: String::new() }
     }
 
     pub fn case(&mut self, name: &str, test: impl FnOnce(&mut Run)) {
+        if !name.contains(&self.only) {
+            return;
+        }
         self.name = name.to_string();
         self.failures = 0;
         let start = Instant::now();
@@ -77,6 +86,7 @@ impl Run {
         println!("acts compared: {} ({} without the check), codes 0 to 13: {:?}", c.acts, c.trusted, c.codes);
         println!("rows compared: {}, bytes compared: {}", c.rows, c.bytes);
         println!("damaged indexes: {} (not sound: {}, of these failing at the header: {})", c.damaged, c.unsound, c.header);
+        println!("acts without the check on damaged indexes: at most {:?} each; not given to {} of a level above 4", c.longest, c.spared);
         println!("searches by themselves: {}, with {} pages of unread leaves overwritten or exchanged", c.searches, c.unread);
         println!("damage: {} passed, {} failed", self.passed, self.failed);
         self.failed == 0
