@@ -20,7 +20,11 @@ pub enum Act {
 
 /// Rows as lent: each one recognisable.
 pub fn lent_rows() -> [Row; ROWS] {
-    std::array::from_fn(|i| Row { id: 0xABC0_0000 + i as u32, distance: 0xFEDC_BA98_0000_0000 + i as u64, position: 0x5A5A_0000 + i as u32 })
+    std::array::from_fn(|i| Row {
+        id: 0xABC0_0000 + i as u32,
+        distance: 0xFEDC_BA98_0000_0000 + i as u64,
+        position: 0x5A5A_0000 + i as u32,
+    })
 }
 
 /// k as the model takes it: anything above 64 is out of range.
@@ -39,7 +43,7 @@ impl Run {
             Act::Make(d) => (ffi::make(lib, *d), model.make(*d as u32)),
             Act::Insert(id, x) => (ffi::insert(lib, *id, x, trusted), model.insert(*id, x)),
             Act::Delete(id) => (ffi::delete(lib, *id, trusted), model.delete(*id)),
-            Act::Question(x, k, rows, tally) => self.ask(lib, model, x, *k, *rows, *tally, trusted),
+            Act::Question(..) => self.ask(lib, model, act, trusted),
             Act::Check => self.checked(lib, model),
         };
         self.counts.acts += 1;
@@ -58,7 +62,9 @@ impl Run {
         want
     }
 
-    fn ask(&mut self, lib: &[u8], model: &mut Model, x: &[i16], k: usize, lent: usize, tally: Tally, trusted: bool) -> (u32, u32) {
+    fn ask(&mut self, lib: &[u8], model: &mut Model, act: &Act, trusted: bool) -> (u32, u32) {
+        let Act::Question(x, k, lent, tally) = act else { unreachable!() };
+        let (k, lent, tally) = (*k, *lent, *tally);
         let (mut rows, mut wanted) = (lent_rows(), lent_rows());
         let (mut tally_got, mut tally_want) = (tally, tally);
         let got = ffi::question(lib, x, k, &mut rows, lent, &mut tally_got, trusted);

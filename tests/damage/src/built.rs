@@ -87,6 +87,25 @@ fn shuffled(rng: &mut Rng, n: usize) -> Vec<u32> {
     pages
 }
 
+/// The header but for the lowest page never used, and the chain of freed pages.
+fn put_header(b: &mut [u8], plan: Plan, root: u32, level: usize, chain: &[u32]) {
+    b[..PAGE].fill(0);
+    let fields = [
+        (SIZE, plan.pages as u32),
+        (FEATURES, plan.d as u32),
+        (ROOT, root),
+        (LEVEL, level as u32),
+        (TOTAL, plan.points as u32),
+        (FREED, chain.first().copied().unwrap_or(0)),
+    ];
+    fields.iter().for_each(|&(field, v)| put_u32(b, field, v));
+    for (i, &p) in chain.iter().enumerate() {
+        let before = chain.get(i + 1).copied().unwrap_or(0);
+        page_mut(b, p)[..4].fill(0);
+        put_u32(page_mut(b, p), 4, before);
+    }
+}
+
 /// The bytes of an index by plan.
 pub fn built(rng: &mut Rng, plan: Plan) -> Vec<u8> {
     let levels = levels(rng, plan.points, plan.shape);
@@ -118,22 +137,8 @@ pub fn built(rng: &mut Rng, plan: Plan) -> Vec<u8> {
         }
         below = row;
     }
-    b[..PAGE].fill(0);
-    let fields = [
-        (SIZE, plan.pages as u32),
-        (FEATURES, plan.d as u32),
-        (ROOT, below[0]),
-        (LEVEL, levels.len() as u32 - 1),
-        (TOTAL, plan.points as u32),
-        (FREED, chain.first().copied().unwrap_or(0)),
-        (FRESH, (1 + in_tree + freed) as u32),
-    ];
-    fields.iter().for_each(|&(field, v)| put_u32(&mut b, field, v));
-    for (i, &p) in chain.iter().enumerate() {
-        let before = chain.get(i + 1).copied().unwrap_or(0);
-        page_mut(&mut b, p)[..4].fill(0);
-        put_u32(page_mut(&mut b, p), 4, before);
-    }
+    put_header(&mut b, plan, below[0], levels.len() - 1, &chain);
+    put_u32(&mut b, FRESH, (1 + in_tree + freed) as u32);
     if plan.junk {
         spoil(rng, &mut b);
     }
@@ -228,7 +233,14 @@ pub fn all(run: &mut Run) {
                 for kind in KINDS {
                     let tallest = if pages > 2 { Shape::Tall } else { Shape::Any };
                     for i in 0..times {
-                        let plan = Plan { pages, d, kind, points, shape: [tallest, Shape::Any, Shape::Dense, Shape::Any][i % 4], junk: i % 2 == 1 };
+                        let plan = Plan {
+                            pages,
+                            d,
+                            kind,
+                            points,
+                            shape: [tallest, Shape::Any, Shape::Dense, Shape::Any][i % 4],
+                            junk: i % 2 == 1,
+                        };
                         acted(run, &mut rng, plan, 40);
                     }
                 }
@@ -246,7 +258,9 @@ pub fn all(run: &mut Run) {
     });
     run.case("built: more than 65,535 points", |run| {
         let mut rng = Rng(5);
-        for (points, shape) in [(65_536, Shape::Any), (65_536, Shape::Tall), (100_000, Shape::Any), (131_072, Shape::Dense), (240_000, Shape::Dense)] {
+        for (points, shape) in
+            [(65_536, Shape::Any), (65_536, Shape::Tall), (100_000, Shape::Any), (131_072, Shape::Dense), (240_000, Shape::Dense)]
+        {
             too_many(run, &mut rng, points, shape);
         }
     });

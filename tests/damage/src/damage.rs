@@ -66,7 +66,9 @@ fn unchecked(run: &mut Run, lib: &mut Lent, bytes: &[u8], given: &Given) {
         let mut rows = lent_rows();
         let got = ffi::search(lib, &given.x, k, &mut rows, k);
         run.counts.searches += 1;
-        run.expect(got.rows <= k && rows[got.rows..] == lent_rows()[got.rows..], || format!("search: {got:?}, or rows past those returned"));
+        run.expect(got.rows <= k && rows[got.rows..] == lent_rows()[got.rows..], || {
+            format!("search: {got:?}, or rows past those returned")
+        });
     }
     run.equal("search", lib, bytes);
     if bytes[LEVEL] <= 4 || ffi::BOUNDED {
@@ -201,7 +203,9 @@ pub fn all(run: &mut Run) {
         struck(run, s, times, 9);
     });
     for pages in [2, 3, 5, 24, 200, 1000] {
-        run.case(&format!("bytes of no meaning, {pages} pages"), |run| meaningless(run, pages, if pages > 200 { times / 40 } else { times / 4 }, pages as u64));
+        run.case(&format!("bytes of no meaning, {pages} pages"), |run| {
+            meaningless(run, pages, if pages > 200 { times / 40 } else { times / 4 }, pages as u64)
+        });
     }
 }
 

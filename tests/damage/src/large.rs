@@ -7,6 +7,7 @@ use crate::layout::*;
 use crate::model::{Model, Tally};
 use crate::run::Run;
 use crate::series::{Ids, Series};
+use crate::unread;
 
 fn lengths(run: &mut Run) {
     let mut bytes = Rng(3).bytes(16_778_240);
@@ -63,12 +64,10 @@ fn seventeen(run: &mut Run) {
     }
 }
 
-/// Up to 65,535 points: by the model, with the library's insert at intervals (all of them with `each`); then acts at the limit.
-fn full(run: &mut Run, d: usize, kind: Kind, upward: bool, each: bool) {
-    let mut s = Series::new(run, MOST_PAGES, d, kind, Ids::Upward, d as u64);
-    let mut points = Vec::new();
+/// 65,535 points: by the model, with the library's insert at intervals, or all of them with `each`.
+fn fill(run: &mut Run, s: &mut Series, upward: bool, each: bool) {
     for id in 1..=MOST_POINTS {
-        let x = if upward { vec![(id % 1001) as i16; d] } else { s.point() };
+        let x = if upward { vec![(id % 1001) as i16; s.model.d()] } else { s.point() };
         let compared = id % 2048 == 0 || id == MOST_POINTS;
         if compared && !each {
             s.lib.copy_from_slice(&s.model.b);
@@ -79,12 +78,16 @@ fn full(run: &mut Run, d: usize, kind: Kind, upward: bool, each: bool) {
         }
         let code = s.model.insert_new(id, &x);
         run.expect(code == 0, || format!("model's insert of {id}: {code}"));
-        points.push(x);
         if compared {
             run.equal(&format!("{id} points"), &s.lib, &s.model.b);
         }
+        s.live.push(id);
     }
     s.model.touch();
+}
+
+/// Acts on an index of 65,535 points.
+fn limit(run: &mut Run, s: &mut Series) {
     let x = s.point();
     let again = s.rng.range(1, 65535) as u32;
     let tally = Tally { questions: 1, leaves: u32::MAX };
@@ -97,20 +100,25 @@ fn full(run: &mut Run, d: usize, kind: Kind, upward: bool, each: bool) {
         Act::Delete(again),
         Act::Delete(again),
         Act::Insert(again, x.clone()),
-        Act::Insert(u32::MAX, x.clone()),
+        Act::Insert(u32::MAX, x),
     ];
     let codes: Vec<u32> = acts.iter().map(|act| s.act(run, act)).collect();
     run.expect(codes == [0, 8, 6, 5, 0, 0, 7, 0, 8], || format!("codes at the limit: {codes:?}"));
-    let times = if run.long { 300 } else { 40 };
-    for i in 0..times {
-        let x = if i % 2 == 0 { s.point() } else { points[s.rng.below(points.len())].clone() };
-        let k = 1 + s.rng.below(64);
-        let found = s.model.search(&x, k as u32);
-        run.search_gives("full", &s.lib, &x, k, &found.rows, found.leaves);
+}
+
+fn full(run: &mut Run, d: usize, kind: Kind, upward: bool, each: bool) {
+    let mut s = Series::new(run, MOST_PAGES, d, kind, Ids::Upward, d as u64);
+    fill(run, &mut s, upward, each);
+    limit(run, &mut s);
+    for i in 0..if run.long { 300 } else { 30 } {
+        if i % 3 == 0 {
+            unread::once(run, &mut s);
+        }
         let id = s.rng.range(1, 65535) as u32;
         let code = s.act(run, &Act::Delete(id));
         run.trusted = i % 2 == 0;
         if code == 0 && i % 3 == 0 {
+            let x = s.point();
             s.act(run, &Act::Insert(id, x));
         }
     }

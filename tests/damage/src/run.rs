@@ -41,8 +41,17 @@ pub struct Run {
 impl Run {
     pub fn new() -> Run {
         std::thread::spawn(watch);
-        let long = std::env::var("LONG").is_ok_and(|v| v != "" && v != "0");
-        Run { long, trusted: false, only: std::env::args().nth(1).unwrap_or_default(), counts: Counts::default(), passed: 0, failed: 0, failures: 0, name: String::new() }
+        let long = std::env::var("LONG").is_ok_and(|v| !v.is_empty() && v != "0");
+        Run {
+            long,
+            trusted: false,
+            only: std::env::args().nth(1).unwrap_or_default(),
+            counts: Counts::default(),
+            passed: 0,
+            failed: 0,
+            failures: 0,
+            name: String::new(),
+        }
     }
 
     pub fn case(&mut self, name: &str, test: impl FnOnce(&mut Run)) {

@@ -179,7 +179,7 @@ fn series(run: &mut Run, pages: usize, d: usize, kind: Kind, ids: Ids, steps: us
 }
 
 pub fn all(run: &mut Run) {
-    let scale = if run.long { 8 } else { 1 };
+    let scale = if run.long { 3 } else { 1 };
     for (pages, steps) in [(2, 400), (3, 600), (4, 700), (5, 800), (16, 1500), (64, 2500), (256, 6000)] {
         for d in [1, 2, 3, 8, 16] {
             run.case(&format!("series of acts, {pages} pages, d {d}"), |run| {

@@ -56,7 +56,8 @@ fn asked(s: &mut Series) -> Vec<i16> {
     x
 }
 
-fn once(run: &mut Run, s: &mut Series) {
+/// One question, with the pages of the leaves that it leaves unread as they are, overwritten, and exchanged.
+pub fn once(run: &mut Run, s: &mut Series) {
     let x = asked(s);
     let k = 1 + if s.rng.one_in(4) { s.rng.below(64) } else { s.rng.below(5) };
     let Found { rows, leaves, unread } = s.model.search(&x, k as u32);
@@ -78,7 +79,7 @@ fn once(run: &mut Run, s: &mut Series) {
 }
 
 pub fn all(run: &mut Run) {
-    let times = if run.long { 3000 } else { 150 };
+    let times = if run.long { 1500 } else { 150 };
     run.case("unread: an empty index", |run| {
         let s = grown(run, 3, 2, Kind::Uniform, 0, 0);
         let mut bytes = s.model.b.clone();
@@ -87,7 +88,9 @@ pub fn all(run: &mut Run) {
             run.search_gives("empty", &bytes, &[3, -4], 5, &[], 0);
         }
     });
-    for (pages, d, points, drop) in [(2, 2, 16, 0), (5, 1, 30, 0), (16, 2, 100, 0), (64, 3, 400, 5), (64, 16, 400, 0), (256, 1, 1500, 3), (256, 8, 1800, 4)] {
+    for (pages, d, points, drop) in
+        [(2, 2, 16, 0), (5, 1, 30, 0), (16, 2, 100, 0), (64, 3, 400, 5), (64, 16, 400, 0), (256, 1, 1500, 3), (256, 8, 1800, 4)]
+    {
         run.case(&format!("unread: {pages} pages, d {d}"), |run| {
             for kind in KINDS {
                 let mut s = grown(run, pages, d, kind, points, drop);
