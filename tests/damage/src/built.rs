@@ -256,6 +256,19 @@ pub fn all(run: &mut Run) {
             acted(run, &mut rng, plan, if run.long { 2000 } else { 60 });
         }
     });
+    run.case("built: 65,535 points and no page free", |run| {
+        let plan = Plan { pages: 4370, d: 4, kind: Kind::Uniform, points: 65_535, shape: Shape::Dense, junk: false };
+        let mut s = Series::over(built(&mut Rng(6), plan), plan.kind, Ids::Any, 6);
+        let mut codes = std::collections::BTreeSet::new();
+        for i in 0..12 {
+            let (new, old, x) = (s.new_id(), s.live[s.live.len() / 2], s.point());
+            codes.insert(s.act(run, &Act::Insert(new, x)));
+            if i > 2 {
+                s.act(run, &Act::Delete(old));
+            }
+        }
+        run.expect(codes.contains(&8) && codes.contains(&9), || format!("codes of inserts: {codes:?}"));
+    });
     run.case("built: more than 65,535 points", |run| {
         let mut rng = Rng(5);
         for (points, shape) in

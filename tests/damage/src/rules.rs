@@ -178,7 +178,7 @@ const LEAVES: [(&str, Rule); 10] = [
     }),
 ];
 
-const INNER: [(&str, Rule); 16] = [
+const INNER: [(&str, Rule); 17] = [
     ("root of 1", |s, b| {
         b[byte(s.root, 1)] = 1;
         vec![s.root]
@@ -246,6 +246,13 @@ const INNER: [(&str, Rule); 16] = [
         let (id, first) = (u32_at(b, record(leaf, 0)), s.leaves[1]);
         assert!(id >= s.n);
         vec![0, s.parent(first)]
+    }),
+    ("a leaf within a whole chain of freed pages", |s, b| {
+        let leaf = u32_at(b, entry(s.inner[0], 1));
+        put_u32(b, record(leaf, 0), s.freed[0]);
+        put_u32(b, entry(s.inner[0], 1) + 4, s.freed[0]);
+        put_u32(b, FREED, leaf);
+        vec![s.inner[0]]
     }),
     ("a leaf that is never used too", |s, b| {
         let last = s.fresh - 1;
