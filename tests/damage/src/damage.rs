@@ -1,6 +1,7 @@
 //! Damaged indexes: the check against the judge, refusals that change nothing, and functions without the check that end.
 
 use crate::acts::{lent_rows, Act};
+use crate::built::{built, Plan, Shape};
 use crate::data::{Kind, Rng};
 use crate::ffi;
 use crate::judge;
@@ -8,7 +9,7 @@ use crate::layout::*;
 use crate::lent::Lent;
 use crate::model::{Model, Tally};
 use crate::run::Run;
-use crate::series::Series;
+use crate::series::{Ids, Series};
 use crate::shapes::{grown, shrunk};
 use std::time::Instant;
 
@@ -149,7 +150,7 @@ fn struck(run: &mut Run, mut s: Series, times: usize, seed: u64) {
 /// Bytes of no meaning at all, with and without a header.
 fn meaningless(run: &mut Run, pages: usize, times: usize, seed: u64) {
     let mut rng = Rng(seed);
-    let mut s = Series::new(run, pages, 2, Kind::Uniform, crate::series::Ids::Any, seed);
+    let mut s = Series::new(run, pages, 2, Kind::Uniform, Ids::Any, seed);
     let given = given(&mut s);
     for i in 0..times {
         let mut bytes = rng.bytes(pages * PAGE);
@@ -202,9 +203,14 @@ pub fn all(run: &mut Run) {
         let s = shrunk(run, 64, 2, Kind::Uniform, 400, 90);
         struck(run, s, times, 9);
     });
-    for pages in [2, 3, 5, 24, 200, 1000] {
+    run.case("struck: 16,384 pages, 60,000 points, d 8", |run| {
+        let plan = Plan { pages: MOST_PAGES, d: 8, kind: Kind::Uniform, points: 60_000, shape: Shape::Any, junk: false };
+        let s = Series::over(built(&mut Rng(10), plan), plan.kind, Ids::Any, 10);
+        struck(run, s, if run.long { 400 } else { 20 }, 10);
+    });
+    for pages in [2, 3, 5, 24, 200, 1000, MOST_PAGES] {
         run.case(&format!("bytes of no meaning, {pages} pages"), |run| {
-            meaningless(run, pages, if pages > 200 { times / 40 } else { times / 4 }, pages as u64)
+            meaningless(run, pages, (times / 4).min(200_000 / pages), pages as u64)
         });
     }
 }
