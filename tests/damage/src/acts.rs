@@ -1,0 +1,109 @@
+//! One act on the library and on the model, with everything that it leaves compared.
+
+use crate::ffi;
+use crate::judge;
+use crate::layout::*;
+use crate::model::{Answer, Model, Row, Tally};
+use crate::run::Run;
+
+pub const ROWS: usize = 72;
+
+#[derive(Clone, Debug)]
+pub enum Act {
+    Make(u8),
+    Insert(u32, Vec<i16>),
+    Delete(u32),
+    /// Point, k, rows lent, tally before.
+    Question(Vec<i16>, usize, usize, Tally),
+    Check,
+}
+
+/// Rows as lent: each one recognisable.
+pub fn lent_rows() -> [Row; ROWS] {
+    std::array::from_fn(|i| Row {
+        id: 0xABC0_0000 + i as u32,
+        distance: 0xFEDC_BA98_0000_0000 + i as u64,
+        position: 0x5A5A_0000 + i as u32,
+    })
+}
+
+/// k as the model takes it: anything above 64 is out of range.
+fn small(k: usize) -> u32 {
+    k.min(65) as u32
+}
+
+impl Run {
+    /// Both carry out the act, the library without the check where `trusted` is set and the index is sound; codes, rows, tally and every byte are compared. With `exact` false, bytes that no rule names are left out where
+    /// the act was carried out.
+    pub fn act(&mut self, lib: &mut [u8], model: &mut Model, act: &Act, exact: bool) -> u32 {
+        let trusted = self.trusted && (!permitted(model.b.len()) || matches!(act, Act::Make(_)) || model.sound());
+        self.counts.trusted += trusted as u64;
+        let before = if exact { None } else { Some(model.b.clone()) };
+        let (got, want) = match act {
+            Act::Make(d) => (ffi::make(lib, *d), model.make(*d as u32)),
+            Act::Insert(id, x) => (ffi::insert(lib, *id, x, trusted), model.insert(*id, x)),
+            Act::Delete(id) => (ffi::delete(lib, *id, trusted), model.delete(*id)),
+            Act::Question(..) => self.ask(lib, model, act, trusted),
+            Act::Check => self.checked(lib, model),
+        };
+        self.counts.acts += 1;
+        self.counts.codes[want.min(13) as usize] += 1;
+        self.expect(got == want, || format!("{act:?}: library {got}, model {want}"));
+        match before {
+            Some(before) if want == 0 && got == 0 && before != model.b => {
+                let sound = judge::sound(lib);
+                self.expect(sound, || format!("{act:?}: not sound afterwards"));
+                if sound {
+                    self.equal(&format!("{act:?}"), &canonical(lib), &canonical(&model.b));
+                }
+            }
+            _ => self.equal(&format!("{act:?}"), lib, &model.b),
+        }
+        want
+    }
+
+    fn ask(&mut self, lib: &[u8], model: &mut Model, act: &Act, trusted: bool) -> (u32, u32) {
+        let Act::Question(x, k, lent, tally) = act else { unreachable!() };
+        let (k, lent, tally) = (*k, *lent, *tally);
+        let (mut rows, mut wanted) = (lent_rows(), lent_rows());
+        let (mut tally_got, mut tally_want) = (tally, tally);
+        let got = ffi::question(lib, x, k, &mut rows, lent, &mut tally_got, trusted);
+        let want = model.question(x, small(k), &mut wanted[..lent], &mut tally_want);
+        self.counts.rows += want.rows as u64;
+        self.expect(got == want, || format!("question {x:?} k {k} lent {lent}: library {got:?}, model {want:?}"));
+        self.expect(rows == wanted, || {
+            let at = (0..ROWS).find(|&i| rows[i] != wanted[i]).unwrap();
+            format!("question {x:?} k {k}: row {at}: library {:?}, model {:?}", rows[at], wanted[at])
+        });
+        self.expect(tally_got == tally_want, || format!("question {x:?} k {k}: tally: library {tally_got:?}, model {tally_want:?}"));
+        (got.code, want.code)
+    }
+
+    fn checked(&mut self, lib: &[u8], model: &mut Model) -> (u32, u32) {
+        let (code, page) = ffi::check(lib);
+        if !permitted(model.b.len()) {
+            self.expect(page == 0, || format!("check of a length that is not permitted: page {page}"));
+            return (code, 1);
+        }
+        if model.sound() {
+            self.expect(page == 0, || format!("check of a sound index: page {page}"));
+            return (code, 0);
+        }
+        let fails = judge::fails(&model.b);
+        self.expect(fails.contains(&page), || format!("check: page {page}, judge {fails:?}"));
+        (code, 2)
+    }
+
+    /// The search by itself against rows and leaves that it should give.
+    pub fn search_gives(&mut self, what: &str, lib: &[u8], x: &[i16], k: usize, want_rows: &[Row], leaves: u32) {
+        let mut rows = lent_rows();
+        let mut wanted = lent_rows();
+        wanted[..want_rows.len()].copy_from_slice(want_rows);
+        let got = ffi::search(lib, x, k, &mut rows, k);
+        self.counts.searches += 1;
+        self.counts.rows += want_rows.len() as u64;
+        let want = Answer { code: 0, rows: want_rows.len(), leaves };
+        self.expect(got == want, || format!("{what}: search {x:?} k {k}: library {got:?}, model {want:?}"));
+        self.expect(rows == wanted, || format!("{what}: search {x:?} k {k}: other rows"));
+    }
+}

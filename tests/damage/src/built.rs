@@ -1,0 +1,280 @@
+//! Sound indexes that no series of acts need ever reach: any fills, any page numbers, any chain of freed pages, any unused bytes.
+
+use crate::acts::{Act, ROWS};
+use crate::data::{point, Kind, Rng, KINDS};
+use crate::ffi;
+use crate::judge;
+use crate::layout::*;
+use crate::lent::Lent;
+use crate::model::{Model, Tally};
+use crate::run::Run;
+use crate::series::{Ids, Series};
+
+#[derive(Clone, Copy, PartialEq, Eq, Debug)]
+pub enum Shape {
+    Any,
+    /// Every page as empty as is allowed, so that the tree is as high as can be.
+    Tall,
+    /// As full as is allowed.
+    Dense,
+}
+
+#[derive(Clone, Copy, Debug)]
+pub struct Plan {
+    pub pages: usize,
+    pub d: usize,
+    pub kind: Kind,
+    pub points: usize,
+    pub shape: Shape,
+    /// Any values in bytes that no rule names.
+    pub junk: bool,
+}
+
+/// Sizes of 8 to 16 that add up to m, which is at least 16.
+fn groups(rng: &mut Rng, m: usize, shape: Shape) -> Vec<usize> {
+    let (few, many) = (m.div_ceil(16), m / 8);
+    let n = match shape {
+        Shape::Any => few + rng.below(many - few + 1),
+        Shape::Tall => many,
+        Shape::Dense => few,
+    };
+    let mut sizes = vec![8; n];
+    let mut rest = m - 8 * n;
+    while rest > 0 {
+        let at = rng.below(n);
+        if sizes[at] < 16 {
+            sizes[at] += 1;
+            rest -= 1;
+        }
+    }
+    sizes
+}
+
+/// Levels of groups from the leaves up; the last is the root alone.
+fn levels(rng: &mut Rng, points: usize, shape: Shape) -> Vec<Vec<usize>> {
+    let mut levels = Vec::new();
+    let mut m = points;
+    loop {
+        if m < 16 || m == 16 && shape != Shape::Tall {
+            levels.push(vec![m]);
+            return levels;
+        }
+        let sizes = groups(rng, m, shape);
+        m = sizes.len();
+        levels.push(sizes);
+        if m == 1 {
+            return levels;
+        }
+    }
+}
+
+fn sorted_records(rng: &mut Rng, plan: Plan) -> Vec<Record> {
+    let mut ids = std::collections::BTreeSet::new();
+    while ids.len() < plan.points {
+        ids.insert((rng.next() as u32).max(1));
+    }
+    let mut point = || point(rng, plan.kind, plan.d).iter().map(|&c| c as i64).collect::<Vec<_>>();
+    let mut records: Vec<Record> = ids.into_iter().map(|id| Record::new(id, &point())).collect();
+    records.sort_by_key(|r| r.key(plan.d));
+    records
+}
+
+fn shuffled(rng: &mut Rng, n: usize) -> Vec<u32> {
+    let mut pages: Vec<u32> = (1..=n as u32).collect();
+    for i in (1..n).rev() {
+        pages.swap(i, rng.below(i + 1));
+    }
+    pages
+}
+
+/// The header but for the lowest page never used, and the chain of freed pages.
+fn put_header(b: &mut [u8], plan: Plan, root: u32, level: usize, chain: &[u32]) {
+    b[..PAGE].fill(0);
+    let fields = [
+        (SIZE, plan.pages as u32),
+        (FEATURES, plan.d as u32),
+        (ROOT, root),
+        (LEVEL, level as u32),
+        (TOTAL, plan.points as u32),
+        (FREED, chain.first().copied().unwrap_or(0)),
+    ];
+    fields.iter().for_each(|&(field, v)| put_u32(b, field, v));
+    for (i, &p) in chain.iter().enumerate() {
+        let before = chain.get(i + 1).copied().unwrap_or(0);
+        page_mut(b, p)[..4].fill(0);
+        put_u32(page_mut(b, p), 4, before);
+    }
+}
+
+/// The bytes of an index by plan.
+pub fn built(rng: &mut Rng, plan: Plan) -> Vec<u8> {
+    let levels = levels(rng, plan.points, plan.shape);
+    let in_tree: usize = levels.iter().map(Vec::len).sum();
+    assert!(in_tree < plan.pages, "{plan:?}");
+    let freed = rng.below((plan.pages - in_tree).min(20));
+    let mut numbers = shuffled(rng, in_tree + freed);
+    let chain = numbers.split_off(in_tree);
+    let mut b = rng.bytes(plan.pages * PAGE);
+    let records = sorted_records(rng, plan);
+    let mut below: Vec<u32> = Vec::new();
+    for (level, sizes) in levels.iter().enumerate() {
+        let mut from = 0;
+        let mut row = Vec::new();
+        for &size in sizes {
+            let p = numbers.pop().unwrap();
+            if level == 0 {
+                put_leaf(&mut b, p, &records[from..from + size]);
+            } else {
+                let entry = |&child: &u32| {
+                    let (first, last) = ends(&b, child, plan.d);
+                    Entry { child, first, last }
+                };
+                let entries: Vec<Entry> = below[from..from + size].iter().map(entry).collect();
+                put_inner(&mut b, p, level as u8, &entries);
+            }
+            row.push(p);
+            from += size;
+        }
+        below = row;
+    }
+    put_header(&mut b, plan, below[0], levels.len() - 1, &chain);
+    put_u32(&mut b, FRESH, (1 + in_tree + freed) as u32);
+    if plan.junk {
+        spoil(rng, &mut b);
+    }
+    b
+}
+
+/// Whether a rule or a reader names byte i of a page.
+fn named(q: &[u8], d: usize, i: usize) -> bool {
+    let (level, count) = (q[0], q[1] as usize);
+    if i < 4 {
+        i < 2
+    } else if level == 0 {
+        (i - 4) / 44 < count && (i - 4) % 44 < 4 + 2 * d
+    } else {
+        (i - 4) / 20 < count && (i - 4) % 20 != 11 && (i - 4) % 20 != 19
+    }
+}
+
+/// Other values in the bytes of tree pages and header that nothing names.
+fn spoil(rng: &mut Rng, b: &mut [u8]) {
+    let d = b[FEATURES] as usize;
+    let header = [5..8, 13..16, 28..PAGE];
+    header.into_iter().flatten().for_each(|i| b[i] = rng.next() as u8);
+    let mut open = vec![u32_at(b, ROOT)];
+    while let Some(p) = open.pop() {
+        if level(b, p) > 0 {
+            open.extend(entries(b, p).iter().map(|e| e.child));
+        }
+        let was = page(b, p).to_vec();
+        for i in (0..PAGE).filter(|&i| !named(&was, d, i)) {
+            page_mut(b, p)[i] = rng.next() as u8;
+        }
+    }
+    let mut p = u32_at(b, FREED);
+    while p != 0 {
+        let q = page_mut(b, p);
+        [0..4, 8..PAGE].into_iter().flatten().for_each(|i| q[i] = rng.next() as u8);
+        p = u32_at(q, 4);
+    }
+}
+
+/// Questions and a series of acts on an index by plan.
+fn acted(run: &mut Run, rng: &mut Rng, plan: Plan, steps: usize) {
+    let bytes = built(rng, plan);
+    let fails = judge::fails(&bytes);
+    run.expect(fails.is_empty(), || format!("{plan:?}: judge {fails:?}"));
+    let mut s = Series::over(bytes, plan.kind, Ids::Any, rng.next());
+    s.act(run, &Act::Check);
+    for _ in 0..6 {
+        let (x, k) = (s.point(), 1 + rng.below(64));
+        let found = s.model.search(&x, k as u32);
+        run.search_gives("built", &s.lib, &x, k, &found.rows, found.leaves);
+        s.act(run, &Act::Question(x, k, ROWS, Tally::default()));
+    }
+    for step in 0..steps {
+        let act = s.some_act(step % 2 == 0);
+        run.trusted = step % 3 == 0;
+        let code = run.act(&mut s.lib, &mut s.model, &act, !plan.junk);
+        if code == 0 {
+            s.model.touch().copy_from_slice(&s.lib);
+            s.live = s.model.records().iter().map(|r| r.id).collect();
+        }
+    }
+    run.trusted = false;
+}
+
+/// A tree of more than 65,535 points, all else in order: not sound, at the header.
+fn too_many(run: &mut Run, rng: &mut Rng, points: usize, shape: Shape) {
+    let plan = Plan { pages: MOST_PAGES, d: 2, kind: Kind::Uniform, points, shape, junk: false };
+    let bytes = built(rng, plan);
+    let fails = judge::fails(&bytes);
+    run.expect(fails.iter().eq(&[0]), || format!("{points} points: judge {fails:?}"));
+    let mut lib = Lent::new(&bytes);
+    let mut model = Model::over(bytes);
+    for act in [Act::Check, Act::Insert(1, vec![3, 4]), Act::Delete(1), Act::Question(vec![3, 4], 5, 5, Tally::default())] {
+        let code = run.act(&mut lib, &mut model, &act, true);
+        run.expect(code == 2, || format!("{points} points: {code}"));
+    }
+    let mut rows = crate::acts::lent_rows();
+    let got = ffi::search(&lib, &[3, 4], 64, &mut rows, 64);
+    run.expect(got.rows <= 64, || format!("{points} points: {got:?}"));
+    ffi::insert(&mut lib, 1, &[3, 4], true);
+    ffi::delete(&mut lib, 1, true);
+}
+
+pub fn all(run: &mut Run) {
+    let times = if run.long { 40 } else { 4 };
+    for (pages, points) in [(2, 0), (2, 16), (4, 16), (8, 40), (40, 128), (64, 300), (256, 1500)] {
+        run.case(&format!("built: {points} points in {pages} pages"), |run| {
+            let mut rng = Rng(pages as u64);
+            for d in [1, 2, 5, 16] {
+                for kind in KINDS {
+                    let tallest = if pages > 2 { Shape::Tall } else { Shape::Any };
+                    for i in 0..times {
+                        let plan = Plan {
+                            pages,
+                            d,
+                            kind,
+                            points,
+                            shape: [tallest, Shape::Any, Shape::Dense, Shape::Any][i % 4],
+                            junk: i % 2 == 1,
+                        };
+                        acted(run, &mut rng, plan, 40);
+                    }
+                }
+            }
+        });
+    }
+    run.case("built: a root of level 4", |run| {
+        let mut rng = Rng(4);
+        for (d, points) in [(1, 8192), (3, 8200), (16, 9000)] {
+            let plan = Plan { pages: 3000, d, kind: Kind::Uniform, points, shape: Shape::Tall, junk: d == 3 };
+            let bytes = built(&mut rng, plan);
+            run.expect(bytes[LEVEL] == 4, || format!("level {}", bytes[LEVEL]));
+            acted(run, &mut rng, plan, if run.long { 2000 } else { 60 });
+        }
+    });
+    run.case("built: 65,535 points and no page free", |run| {
+        let plan = Plan { pages: 4370, d: 4, kind: Kind::Uniform, points: 65_535, shape: Shape::Dense, junk: false };
+        let mut s = Series::over(built(&mut Rng(6), plan), plan.kind, Ids::Any, 6);
+        let mut codes = std::collections::BTreeSet::new();
+        for i in 0..12 {
+            let (new, old, x) = (s.new_id(), s.live[s.live.len() / 2], s.point());
+            codes.insert(s.act(run, &Act::Insert(new, x)));
+            if i > 2 {
+                s.act(run, &Act::Delete(old));
+            }
+        }
+        run.expect(codes.contains(&8) && codes.contains(&9), || format!("codes of inserts: {codes:?}"));
+    });
+    run.case("built: more than 65,535 points", |run| {
+        let mut rng = Rng(5);
+        for (points, shape) in
+            [(65_536, Shape::Any), (65_536, Shape::Tall), (100_000, Shape::Any), (131_072, Shape::Dense), (240_000, Shape::Dense)]
+        {
+            too_many(run, &mut rng, points, shape);
+        }
+    });
+}

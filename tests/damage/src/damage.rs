@@ -1,0 +1,221 @@
+//! Damaged indexes: the check against the judge, refusals that change nothing, and functions without the check that end.
+
+use crate::acts::{lent_rows, Act};
+use crate::built::{built, Plan, Shape};
+use crate::data::{Kind, Rng};
+use crate::ffi;
+use crate::judge;
+use crate::layout::*;
+use crate::lent::Lent;
+use crate::model::{Model, Tally};
+use crate::run::Run;
+use crate::series::{Ids, Series};
+use crate::shapes::{grown, shrunk};
+use std::time::Instant;
+
+/// The acts that a damaged index is given: valid ones for the index before.
+struct Given {
+    acts: Vec<Act>,
+    new: u32,
+    old: u32,
+    x: Vec<i16>,
+}
+
+fn given(s: &mut Series) -> Given {
+    let x = s.point();
+    let old = s.live.first().copied().unwrap_or(5);
+    let new = (1..).find(|id| !s.live.contains(id)).unwrap();
+    let tally = Tally { questions: 3, leaves: u32::MAX - 1 };
+    let acts = vec![
+        Act::Check,
+        Act::Insert(new, x.clone()),
+        Act::Delete(old),
+        Act::Question(x.clone(), 5, 7, tally),
+        Act::Insert(0, vec![]),
+        Act::Question(vec![], 0, 0, tally),
+    ];
+    Given { acts, new, old, x }
+}
+
+/// All acts on a damaged index, held in both; `bytes` is what it was damaged to.
+fn judged(run: &mut Run, lib: &mut Lent, bytes: &[u8], given: &Given) {
+    run.counts.damaged += 1;
+    let mut model = Model::over(bytes.to_vec());
+    let sound = model.sound();
+    run.counts.unsound += !sound as u64;
+    if sound {
+        // A byte that no rule names: the check, and the acts in turn.
+        run.act(lib, &mut model, &Act::Check, true);
+        let turn = run.counts.damaged as usize % given.acts.len();
+        run.act(lib, &mut model, &given.acts[turn], false);
+        lib.copy_from_slice(bytes);
+    } else {
+        let fails = judge::fails(bytes);
+        run.counts.header += fails.contains(&0) as u64;
+        for act in &given.acts {
+            run.act(lib, &mut model, act, true);
+        }
+    }
+    unchecked(run, lib, bytes, given);
+    run.expect(lib.intact(), || "bytes before the index changed".into());
+}
+
+/// The acts without the check: they end soon, and the question changes nothing.
+fn unchecked(run: &mut Run, lib: &mut Lent, bytes: &[u8], given: &Given) {
+    let start = Instant::now();
+    for k in [1, 64] {
+        let mut rows = lent_rows();
+        let got = ffi::search(lib, &given.x, k, &mut rows, k);
+        run.counts.searches += 1;
+        run.expect(got.rows <= k && rows[got.rows..] == lent_rows()[got.rows..], || {
+            format!("search: {got:?}, or rows past those returned")
+        });
+    }
+    run.equal("search", lib, bytes);
+    if bytes[LEVEL] <= 4 || ffi::BOUNDED {
+        ffi::insert(lib, given.new, &given.x, true);
+        ffi::delete(lib, given.old, true);
+        ffi::delete(lib, given.new, true);
+        lib.copy_from_slice(bytes);
+    } else {
+        run.counts.spared += 1;
+    }
+    run.counts.longest = run.counts.longest.max(start.elapsed());
+}
+
+/// Every byte of the used pages, and of the first never used, to several values.
+fn each_byte(run: &mut Run, mut s: Series) {
+    let given = given(&mut s);
+    let used = (u32_at(&s.model.b, FRESH) as usize + 1) * PAGE;
+    let mut bytes = s.model.b.clone();
+    for at in 0..used.min(bytes.len()) {
+        let old = bytes[at];
+        let mut values = vec![old ^ 1, old ^ 0x80, 0, 255, old.wrapping_add(1)];
+        values.sort();
+        values.dedup();
+        for v in values.into_iter().filter(|&v| v != old) {
+            bytes[at] = v;
+            s.lib[at] = v;
+            judged(run, &mut s.lib, &bytes, &given);
+        }
+        bytes[at] = old;
+        s.lib[at] = old;
+    }
+    run.equal("restored", &s.lib, &bytes);
+}
+
+/// A change somewhere in an index, of the kinds that a rule speaks of.
+fn strike(rng: &mut Rng, b: &mut [u8]) {
+    let n = b.len() / PAGE;
+    let used = (u32_at(b, FRESH) as usize).clamp(2, n);
+    let p = rng.range(1, used as i64 - 1) as usize * PAGE;
+    let q = rng.range(1, used as i64 - 1) as usize * PAGE;
+    let slot = rng.below(16);
+    match rng.below(16) {
+        0 => b[rng.pick(&[SIZE, FEATURES, ROOT, LEVEL, TOTAL, FREED, FRESH, FREED, FRESH, ROOT])] = rng.below(n + 2) as u8,
+        1 => b[p] = rng.below(4) as u8,
+        2 => b[p + 1] = rng.pick(&[0, 1, 7, 8, 9, 15, 16, 17, 200, 255]),
+        3 => put_u32(b, p + 4 + 20 * slot, rng.below(n + 2) as u32),
+        4 => b[p + 4 + 20 * slot + rng.below(20)] ^= 1 << rng.below(8),
+        5 => b[p + 4 + 44 * slot + rng.below(44)] ^= 1 << rng.below(8),
+        6 => b.copy_within(q..q + PAGE, p),
+        7 => put_u32(b, p + 4, rng.below(n) as u32),
+        8 => put_u32(b, p + 4 + 44 * slot, u32_at(b, q + 4 + 44 * rng.below(16))),
+        9 => b[p + rng.below(PAGE)] = rng.next() as u8,
+        10 => b.copy_within(q + 4..q + 48, p + 4 + 44 * slot),
+        11 => b.copy_within(q + 4..q + 24, p + 4 + 20 * slot),
+        12 => put_u32(b, TOTAL, u32_at(b, TOTAL).wrapping_add(rng.pick(&[1, 8, u32::MAX]))),
+        13 => put_u32(b, rng.pick(&[FREED, FRESH, ROOT]), rng.below(n + 1) as u32),
+        14 => {
+            let junk = rng.bytes(PAGE);
+            b[p..p + PAGE].copy_from_slice(&junk);
+        }
+        _ => b[rng.below(used * PAGE)] = rng.next() as u8,
+    }
+}
+
+fn struck(run: &mut Run, mut s: Series, times: usize, seed: u64) {
+    let given = given(&mut s);
+    let mut rng = Rng(seed);
+    for _ in 0..times {
+        let mut bytes = s.model.b.clone();
+        for _ in 0..rng.pick(&[1, 1, 1, 2, 3, 8]) {
+            strike(&mut rng, &mut bytes);
+        }
+        s.lib.copy_from_slice(&bytes);
+        judged(run, &mut s.lib, &bytes, &given);
+    }
+}
+
+/// Bytes of no meaning at all, with and without a header.
+fn meaningless(run: &mut Run, pages: usize, times: usize, seed: u64) {
+    let mut rng = Rng(seed);
+    let mut s = Series::new(run, pages, 2, Kind::Uniform, Ids::Any, seed);
+    let given = given(&mut s);
+    for i in 0..times {
+        let mut bytes = rng.bytes(pages * PAGE);
+        if i % 2 == 1 {
+            bytes[..32].copy_from_slice(&s.model.b[..32]);
+            put_u32(&mut bytes, FRESH, rng.range(1, pages as i64) as u32);
+            put_u32(&mut bytes, TOTAL, rng.below(200) as u32);
+            bytes[LEVEL] = rng.below(4) as u8;
+            for p in 1..pages {
+                bytes[p * PAGE] = rng.below(4) as u8;
+                bytes[p * PAGE + 1] = 8 + rng.below(9) as u8;
+                for e in 0..16 {
+                    put_u32(&mut bytes, p * PAGE + 4 + 20 * e, rng.below(pages) as u32);
+                }
+            }
+        }
+        s.lib.copy_from_slice(&bytes);
+        judged(run, &mut s.lib, &bytes, &given);
+    }
+}
+
+pub fn all(run: &mut Run) {
+    run.case("each byte: empty index of 2 pages", |run| each_byte_of(run, 2, 1, 0));
+    run.case("each byte: one leaf of 5, d 2", |run| each_byte_of(run, 3, 2, 5));
+    run.case("each byte: one full leaf, d 16", |run| each_byte_of(run, 2, 16, 16));
+    run.case("each byte: two leaves, d 1", |run| each_byte_of(run, 5, 1, 20));
+    run.case("each byte: two leaves, d 16", |run| each_byte_of(run, 4, 16, 20));
+    run.case("each byte: two levels, with freed pages, d 3", |run| {
+        let s = shrunk(run, 12, 3, Kind::Uniform, 90, 36);
+        assert!(u32_at(&s.model.b, FREED) != 0);
+        each_byte(run, s);
+    });
+    run.case("each byte: one leaf, all other pages freed, d 2", |run| {
+        let s = shrunk(run, 6, 2, Kind::Clustered, 40, 9);
+        each_byte(run, s);
+    });
+    run.case("each byte: three levels, d 2", |run| {
+        let s = grown(run, 40, 2, Kind::Uniform, 190, 0);
+        assert_eq!(2, s.model.b[LEVEL]);
+        each_byte(run, s);
+    });
+    let times = if run.long { 60_000 } else { 8_000 };
+    for (pages, d, points, drop) in [(16, 2, 60, 3), (40, 1, 200, 0), (64, 3, 350, 4), (64, 16, 350, 2), (256, 8, 1800, 5)] {
+        run.case(&format!("struck: {pages} pages, d {d}"), |run| {
+            let s = grown(run, pages, d, Kind::Uniform, points, drop);
+            struck(run, s, if pages > 64 { times / 4 } else { times }, pages as u64);
+        });
+    }
+    run.case("struck: freed pages", |run| {
+        let s = shrunk(run, 64, 2, Kind::Uniform, 400, 90);
+        struck(run, s, times, 9);
+    });
+    run.case("struck: 16,384 pages, 60,000 points, d 8", |run| {
+        let plan = Plan { pages: MOST_PAGES, d: 8, kind: Kind::Uniform, points: 60_000, shape: Shape::Any, junk: false };
+        let s = Series::over(built(&mut Rng(10), plan), plan.kind, Ids::Any, 10);
+        struck(run, s, if run.long { 400 } else { 20 }, 10);
+    });
+    for pages in [2, 3, 5, 24, 200, 1000, MOST_PAGES] {
+        run.case(&format!("bytes of no meaning, {pages} pages"), |run| {
+            meaningless(run, pages, (times / 4).min(200_000 / pages), pages as u64)
+        });
+    }
+}
+
+fn each_byte_of(run: &mut Run, pages: usize, d: usize, points: usize) {
+    let s = grown(run, pages, d, Kind::Uniform, points, 0);
+    each_byte(run, s);
+}

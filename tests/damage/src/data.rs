@@ -1,0 +1,58 @@
+//! Chosen numbers: the same in every run.
+
+/// SplitMix64.
+#[derive(Clone)]
+pub struct Rng(pub u64);
+
+impl Rng {
+    pub fn next(&mut self) -> u64 {
+        self.0 = self.0.wrapping_add(0x9E37_79B9_7F4A_7C15);
+        let mut z = self.0;
+        z = (z ^ (z >> 30)).wrapping_mul(0xBF58_476D_1CE4_E5B9);
+        z = (z ^ (z >> 27)).wrapping_mul(0x94D0_49BB_1331_11EB);
+        z ^ (z >> 31)
+    }
+
+    /// A number below n.
+    pub fn below(&mut self, n: usize) -> usize {
+        (self.next() % n as u64) as usize
+    }
+
+    pub fn range(&mut self, low: i64, high: i64) -> i64 {
+        low + self.below((high - low + 1) as usize) as i64
+    }
+
+    pub fn one_in(&mut self, n: usize) -> bool {
+        self.below(n) == 0
+    }
+
+    pub fn pick<T: Copy>(&mut self, of: &[T]) -> T {
+        of[self.below(of.len())]
+    }
+
+    pub fn bytes(&mut self, n: usize) -> Vec<u8> {
+        (0..n).map(|_| self.next() as u8).collect()
+    }
+}
+
+#[derive(Clone, Copy, PartialEq, Eq, Debug)]
+pub enum Kind {
+    Uniform,
+    Clustered,
+    Tied,
+    Edge,
+}
+
+pub const KINDS: [Kind; 4] = [Kind::Uniform, Kind::Clustered, Kind::Tied, Kind::Edge];
+
+/// A point in range.
+pub fn point(rng: &mut Rng, kind: Kind, d: usize) -> Vec<i16> {
+    let cluster = rng.below(5) as i64;
+    let coordinate = |i: usize, rng: &mut Rng| match kind {
+        Kind::Uniform => rng.range(-1000, 1000),
+        Kind::Clustered => ((cluster * 389 + i as i64 * 157) % 1961 - 980 + rng.range(-20, 20)).clamp(-1000, 1000),
+        Kind::Tied => rng.range(-1, 1),
+        Kind::Edge => rng.pick(&[-1000, -999, -1, 0, 1, 999, 1000]),
+    };
+    (0..d).map(|i| coordinate(i, rng) as i16).collect()
+}

@@ -1,0 +1,103 @@
+//! The library's functions, called through the C interface.
+
+use crate::model::{Answer, Row, Tally};
+
+/// Whether insert and delete without the check are quick on a damaged index of any level.
+pub const BOUNDED: bool = false;
+
+/// As the C interface has a row.
+#[repr(C)]
+#[derive(Clone, Copy)]
+struct CRow {
+    distance: u64,
+    id: u32,
+    position: u32,
+}
+
+#[repr(C)]
+struct CTally {
+    questions: u32,
+    leaves: u32,
+}
+
+#[repr(C)]
+struct CAnswer {
+    code: u32,
+    count: usize,
+    leaves: u32,
+}
+
+type Insert = unsafe extern "C" fn(*mut u8, usize, u32, *const i16, usize) -> u32;
+type Delete = unsafe extern "C" fn(*mut u8, usize, u32) -> u32;
+type Question = unsafe extern "C" fn(*const u8, usize, *const i16, usize, usize, *mut CRow, usize, *mut CTally) -> CAnswer;
+
+extern "C" {
+    fn epoch_index_make(index: *mut u8, length: usize, features: u8) -> u32;
+    fn epoch_index_insert(index: *mut u8, length: usize, id: u32, point: *const i16, coordinates: usize) -> u32;
+    fn epoch_index_delete(index: *mut u8, length: usize, id: u32) -> u32;
+    fn epoch_index_check(index: *const u8, length: usize, page: *mut u32) -> u32;
+    fn epoch_index_question(
+        index: *const u8,
+        length: usize,
+        point: *const i16,
+        coordinates: usize,
+        k: usize,
+        rows: *mut CRow,
+        lent: usize,
+        tally: *mut CTally,
+    ) -> CAnswer;
+    fn epoch_index_trusted_insert(index: *mut u8, length: usize, id: u32, point: *const i16, coordinates: usize) -> u32;
+    fn epoch_index_trusted_delete(index: *mut u8, length: usize, id: u32) -> u32;
+    fn epoch_index_trusted_question(
+        index: *const u8,
+        length: usize,
+        point: *const i16,
+        coordinates: usize,
+        k: usize,
+        rows: *mut CRow,
+        lent: usize,
+        tally: *mut CTally,
+    ) -> CAnswer;
+}
+
+pub fn make(index: &mut [u8], features: u8) -> u32 {
+    unsafe { epoch_index_make(index.as_mut_ptr(), index.len(), features) }
+}
+
+/// An insert, with the check or without.
+pub fn insert(index: &mut [u8], id: u32, x: &[i16], trusted: bool) -> u32 {
+    let f: Insert = if trusted { epoch_index_trusted_insert } else { epoch_index_insert };
+    unsafe { f(index.as_mut_ptr(), index.len(), id, x.as_ptr(), x.len()) }
+}
+
+/// A delete, with the check or without.
+pub fn delete(index: &mut [u8], id: u32, trusted: bool) -> u32 {
+    let f: Delete = if trusted { epoch_index_trusted_delete } else { epoch_index_delete };
+    unsafe { f(index.as_mut_ptr(), index.len(), id) }
+}
+
+/// The code and the page.
+pub fn check(index: &[u8]) -> (u32, u32) {
+    let mut page = 0xDEAD_BEEF;
+    let code = unsafe { epoch_index_check(index.as_ptr(), index.len(), &mut page) };
+    (code, page)
+}
+
+/// A question, with the check or without. Rows that are not lent stand behind those that are, in one array.
+pub fn question(index: &[u8], x: &[i16], k: usize, rows: &mut [Row], lent: usize, tally: &mut Tally, trusted: bool) -> Answer {
+    let f: Question = if trusted { epoch_index_trusted_question } else { epoch_index_question };
+    let mut run: Vec<CRow> = rows.iter().map(|r| CRow { distance: r.distance, id: r.id, position: r.position }).collect();
+    let mut counts = CTally { questions: tally.questions, leaves: tally.leaves };
+    assert!(lent <= run.len());
+    let answer = unsafe { f(index.as_ptr(), index.len(), x.as_ptr(), x.len(), k, run.as_mut_ptr(), lent, &mut counts) };
+    for (row, r) in rows.iter_mut().zip(run) {
+        *row = Row { id: r.id, distance: r.distance, position: r.position };
+    }
+    *tally = Tally { questions: counts.questions, leaves: counts.leaves };
+    Answer { code: answer.code, rows: answer.count, leaves: answer.leaves }
+}
+
+/// The search by itself, as the question without the check.
+pub fn search(index: &[u8], x: &[i16], k: usize, rows: &mut [Row], lent: usize) -> Answer {
+    question(index, x, k, rows, lent, &mut Tally::default(), true)
+}

@@ -1,0 +1,179 @@
+//! The byte layout of docs/LAYOUT.md: fields, records, entries.
+
+use crate::geometry::{pair, Key};
+
+pub const PAGE: usize = 1024;
+pub const MOST_PAGES: usize = 16384;
+pub const MOST_POINTS: u32 = 65535;
+
+pub const SIZE: usize = 0;
+pub const FEATURES: usize = 4;
+pub const ROOT: usize = 8;
+pub const LEVEL: usize = 12;
+pub const TOTAL: usize = 16;
+pub const FREED: usize = 20;
+pub const FRESH: usize = 24;
+
+#[derive(Clone, Copy, PartialEq, Eq, Debug)]
+pub struct Record {
+    pub id: u32,
+    pub slots: [u16; 16],
+}
+
+#[derive(Clone, Copy, PartialEq, Eq, Debug)]
+pub struct Entry {
+    pub child: u32,
+    pub first: Key,
+    pub last: Key,
+}
+
+impl Record {
+    pub fn new(id: u32, x: &[i64]) -> Record {
+        let mut slots = [0; 16];
+        for (slot, c) in slots.iter_mut().zip(x) {
+            *slot = (c + 1000) as u16;
+        }
+        Record { id, slots }
+    }
+
+    pub fn point(&self, d: usize) -> Vec<i64> {
+        self.slots[..d].iter().map(|&s| s as i64 - 1000).collect()
+    }
+
+    pub fn key(&self, d: usize) -> Key {
+        let (pyramid, height) = pair(&self.point(d));
+        Key { pyramid, height, id: self.id }
+    }
+}
+
+pub fn permitted(length: usize) -> bool {
+    length.is_multiple_of(PAGE) && (2..=MOST_PAGES).contains(&(length / PAGE))
+}
+
+pub fn u16_at(b: &[u8], at: usize) -> u16 {
+    u16::from_le_bytes(b[at..at + 2].try_into().unwrap())
+}
+
+pub fn u32_at(b: &[u8], at: usize) -> u32 {
+    u32::from_le_bytes(b[at..at + 4].try_into().unwrap())
+}
+
+pub fn put_u32(b: &mut [u8], at: usize, v: u32) {
+    b[at..at + 4].copy_from_slice(&v.to_le_bytes());
+}
+
+pub fn page(b: &[u8], p: u32) -> &[u8] {
+    &b[p as usize * PAGE..(p as usize + 1) * PAGE]
+}
+
+pub fn page_mut(b: &mut [u8], p: u32) -> &mut [u8] {
+    &mut b[p as usize * PAGE..(p as usize + 1) * PAGE]
+}
+
+pub fn level(b: &[u8], p: u32) -> u8 {
+    page(b, p)[0]
+}
+
+pub fn count(b: &[u8], p: u32) -> usize {
+    page(b, p)[1] as usize
+}
+
+fn record_at(q: &[u8], i: usize) -> Record {
+    let at = 4 + 44 * i;
+    let mut slots = [0; 16];
+    for (s, slot) in slots.iter_mut().enumerate() {
+        *slot = u16_at(q, at + 4 + 2 * s);
+    }
+    Record { id: u32_at(q, at), slots }
+}
+
+fn key_at(q: &[u8], at: usize) -> Key {
+    Key { pyramid: q[at + 6], height: u16_at(q, at + 4), id: u32_at(q, at) }
+}
+
+fn entry_at(q: &[u8], i: usize) -> Entry {
+    let at = 4 + 20 * i;
+    Entry { child: u32_at(q, at), first: key_at(q, at + 4), last: key_at(q, at + 12) }
+}
+
+/// The records of a leaf of at most 16.
+pub fn records(b: &[u8], p: u32) -> Vec<Record> {
+    (0..count(b, p)).map(|i| record_at(page(b, p), i)).collect()
+}
+
+/// The entries of an inner page of at most 16.
+pub fn entries(b: &[u8], p: u32) -> Vec<Entry> {
+    (0..count(b, p)).map(|i| entry_at(page(b, p), i)).collect()
+}
+
+pub fn put_leaf(b: &mut [u8], p: u32, records: &[Record]) {
+    assert!(records.len() <= 16);
+    let q = page_mut(b, p);
+    q.fill(0);
+    q[1] = records.len() as u8;
+    for (i, r) in records.iter().enumerate() {
+        let at = 4 + 44 * i;
+        put_u32(q, at, r.id);
+        for (s, slot) in r.slots.iter().enumerate() {
+            q[at + 4 + 2 * s..at + 6 + 2 * s].copy_from_slice(&slot.to_le_bytes());
+        }
+    }
+}
+
+fn put_key(q: &mut [u8], at: usize, key: Key) {
+    put_u32(q, at, key.id);
+    q[at + 4..at + 6].copy_from_slice(&key.height.to_le_bytes());
+    q[at + 6] = key.pyramid;
+}
+
+pub fn put_inner(b: &mut [u8], p: u32, level: u8, entries: &[Entry]) {
+    assert!(level > 0 && entries.len() <= 16);
+    let q = page_mut(b, p);
+    q.fill(0);
+    q[0] = level;
+    q[1] = entries.len() as u8;
+    for (i, e) in entries.iter().enumerate() {
+        let at = 4 + 20 * i;
+        put_u32(q, at, e.child);
+        put_key(q, at + 4, e.first);
+        put_key(q, at + 12, e.last);
+    }
+}
+
+/// The first and the last key of a page, from its own items.
+pub fn ends(b: &[u8], p: u32, d: usize) -> (Key, Key) {
+    let last = count(b, p) - 1;
+    if level(b, p) == 0 {
+        (record_at(page(b, p), 0).key(d), record_at(page(b, p), last).key(d))
+    } else {
+        (entry_at(page(b, p), 0).first, entry_at(page(b, p), last).last)
+    }
+}
+
+/// A sound index with 0 in every byte that no table of the layout names.
+pub fn canonical(bytes: &[u8]) -> Vec<u8> {
+    let mut b = bytes.to_vec();
+    let fields = [SIZE, ROOT, TOTAL, FREED, FRESH].map(|f| (f, u32_at(bytes, f)));
+    let (d, root_level) = (bytes[FEATURES], bytes[LEVEL]);
+    page_mut(&mut b, 0).fill(0);
+    fields.iter().for_each(|&(f, v)| put_u32(&mut b, f, v));
+    b[FEATURES] = d;
+    b[LEVEL] = root_level;
+    let mut p = u32_at(bytes, FREED);
+    while p != 0 {
+        let next = u32_at(page(bytes, p), 4);
+        page_mut(&mut b, p).fill(0);
+        put_u32(page_mut(&mut b, p), 4, next);
+        p = next;
+    }
+    let mut open = vec![u32_at(bytes, ROOT)];
+    while let Some(p) = open.pop() {
+        if level(bytes, p) == 0 {
+            put_leaf(&mut b, p, &records(bytes, p));
+        } else {
+            put_inner(&mut b, p, level(bytes, p), &entries(bytes, p));
+            open.extend(entries(bytes, p).iter().map(|e| e.child));
+        }
+    }
+    b
+}

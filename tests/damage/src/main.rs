@@ -1,0 +1,33 @@
+//! The proved library against an implementation of its own, from the specification's words: acts, soundness, damage.
+
+mod acts;
+mod bounds;
+mod built;
+mod damage;
+mod data;
+mod ffi;
+mod geometry;
+mod judge;
+mod large;
+mod layout;
+mod lent;
+mod model;
+mod rules;
+mod run;
+mod series;
+mod shapes;
+mod unread;
+
+fn main() {
+    let mut run = run::Run::new();
+    bounds::all(&mut run);
+    large::all(&mut run);
+    series::all(&mut run);
+    built::all(&mut run);
+    unread::all(&mut run);
+    rules::all(&mut run);
+    damage::all(&mut run);
+    if !run.finish() {
+        std::process::exit(1);
+    }
+}

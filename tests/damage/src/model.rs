@@ -1,0 +1,378 @@
+//! The five acts over the model's own bytes, from the specification's words.
+
+use crate::geometry::{squared, Key, Slices};
+use crate::judge;
+use crate::layout::*;
+
+#[derive(Clone, Copy, PartialEq, Eq, Debug, Default)]
+pub struct Row {
+    pub id: u32,
+    pub distance: u64,
+    pub position: u32,
+}
+
+#[derive(Clone, Copy, PartialEq, Eq, Debug, Default)]
+pub struct Tally {
+    pub questions: u32,
+    pub leaves: u32,
+}
+
+/// A question's code, number of rows and leaves read.
+#[derive(Clone, Copy, PartialEq, Eq, Debug, Default)]
+pub struct Answer {
+    pub code: u32,
+    pub rows: usize,
+    pub leaves: u32,
+}
+
+/// What the search finds: rows, the number of leaves read, and the pages of the leaves left unread.
+#[derive(Clone, PartialEq, Eq, Debug, Default)]
+pub struct Found {
+    pub rows: Vec<Row>,
+    pub leaves: u32,
+    pub unread: Vec<u32>,
+}
+
+/// An index with what the model knows of it: whether it is sound is judged anew after `touch`.
+#[derive(Clone)]
+pub struct Model {
+    pub b: Vec<u8>,
+    known: Option<bool>,
+}
+
+fn wide(x: &[i16]) -> Vec<i64> {
+    x.iter().map(|&c| c as i64).collect()
+}
+
+fn in_range(x: &[i16]) -> bool {
+    x.iter().all(|&c| (-1000..=1000).contains(&c))
+}
+
+impl Model {
+    pub fn over(b: Vec<u8>) -> Model {
+        Model { b, known: None }
+    }
+
+    /// The bytes, for a change from outside.
+    pub fn touch(&mut self) -> &mut Vec<u8> {
+        self.known = None;
+        &mut self.b
+    }
+
+    pub fn d(&self) -> usize {
+        self.b[FEATURES] as usize
+    }
+
+    pub fn total(&self) -> u32 {
+        u32_at(&self.b, TOTAL)
+    }
+
+    fn pages(&self) -> u32 {
+        (self.b.len() / PAGE) as u32
+    }
+
+    pub fn sound(&mut self) -> bool {
+        if self.known.is_none() {
+            self.known = Some(judge::sound(&self.b));
+        }
+        self.known.unwrap()
+    }
+
+    /// 1 or 2 where the length or the index is refused.
+    fn refused(&mut self) -> Option<u32> {
+        if !permitted(self.b.len()) {
+            Some(1)
+        } else if !self.sound() {
+            Some(2)
+        } else {
+            None
+        }
+    }
+
+    pub fn make(&mut self, d: u32) -> u32 {
+        if !permitted(self.b.len()) {
+            return 1;
+        }
+        if !(1..=16).contains(&d) {
+            return 3;
+        }
+        let n = self.pages();
+        self.b[..2 * PAGE].fill(0);
+        for (field, value) in [(SIZE, n), (FEATURES, d), (ROOT, 1), (FRESH, 2)] {
+            put_u32(&mut self.b, field, value);
+        }
+        self.known = Some(true);
+        0
+    }
+
+    /// The pages of the leaves, in key order.
+    pub fn leaves(&self) -> Vec<u32> {
+        let mut row = vec![u32_at(&self.b, ROOT)];
+        while level(&self.b, row[0]) > 0 {
+            row = row.iter().flat_map(|&p| entries(&self.b, p)).map(|e| e.child).collect();
+        }
+        row
+    }
+
+    pub fn records(&self) -> Vec<Record> {
+        self.leaves().iter().flat_map(|&p| records(&self.b, p)).collect()
+    }
+
+    fn record(&self, id: u32) -> Option<Record> {
+        self.records().into_iter().find(|r| r.id == id)
+    }
+
+    fn idle(&self) -> u32 {
+        let mut idle = self.pages() - u32_at(&self.b, FRESH);
+        let mut p = u32_at(&self.b, FREED);
+        while p != 0 {
+            idle += 1;
+            p = u32_at(page(&self.b, p), 4);
+        }
+        idle
+    }
+
+    fn take(&mut self) -> u32 {
+        let freed = u32_at(&self.b, FREED);
+        if freed != 0 {
+            let before = u32_at(page(&self.b, freed), 4);
+            put_u32(&mut self.b, FREED, before);
+            return freed;
+        }
+        let fresh = u32_at(&self.b, FRESH);
+        assert!(fresh < self.pages());
+        put_u32(&mut self.b, FRESH, fresh + 1);
+        fresh
+    }
+
+    fn free(&mut self, p: u32) {
+        let before = u32_at(&self.b, FREED);
+        page_mut(&mut self.b, p).fill(0);
+        put_u32(page_mut(&mut self.b, p), 4, before);
+        put_u32(&mut self.b, FREED, p);
+    }
+
+    fn entry(&self, child: u32) -> Entry {
+        let (first, last) = ends(&self.b, child, self.d());
+        Entry { child, first, last }
+    }
+
+    fn choose(entries: &[Entry], key: Key) -> usize {
+        entries.iter().rposition(|e| e.first <= key).unwrap_or(0)
+    }
+
+    fn wanted(&self, key: Key) -> u32 {
+        let mut way = vec![u32_at(&self.b, ROOT)];
+        while level(&self.b, *way.last().unwrap()) > 0 {
+            let entries = entries(&self.b, *way.last().unwrap());
+            way.push(entries[Self::choose(&entries, key)].child);
+        }
+        let run = way.iter().rev().take_while(|&&p| count(&self.b, p) == 16).count();
+        (run + (run == way.len()) as usize) as u32
+    }
+
+    pub fn insert(&mut self, id: u32, x: &[i16]) -> u32 {
+        if let Some(code) = self.refused() {
+            return code;
+        }
+        if x.len() != self.d() {
+            return 3;
+        }
+        if !in_range(x) {
+            return 4;
+        }
+        if id == 0 {
+            return 5;
+        }
+        if self.record(id).is_some() {
+            return 6;
+        }
+        self.insert_new(id, x)
+    }
+
+    /// The rest of an insert, of an identifier known not to be live.
+    pub fn insert_new(&mut self, id: u32, x: &[i16]) -> u32 {
+        if self.total() >= MOST_POINTS {
+            return 8;
+        }
+        let record = Record::new(id, &wide(x));
+        if self.wanted(record.key(self.d())) > self.idle() {
+            return 9;
+        }
+        let root = u32_at(&self.b, ROOT);
+        let root_level = level(&self.b, root);
+        if let Some(right) = self.put(root, &record) {
+            let pair = [self.entry(root), self.entry(right)];
+            let top = self.take();
+            put_inner(&mut self.b, top, root_level + 1, &pair);
+            put_u32(&mut self.b, ROOT, top);
+            self.b[LEVEL] = root_level + 1;
+        }
+        let total = self.total() + 1;
+        put_u32(&mut self.b, TOTAL, total);
+        0
+    }
+
+    /// Puts a record below a page; the new page on the right if it is split.
+    fn put(&mut self, p: u32, record: &Record) -> Option<u32> {
+        let d = self.d();
+        let lv = level(&self.b, p);
+        if lv == 0 {
+            let mut all = records(&self.b, p);
+            all.push(*record);
+            all.sort_by_key(|r| r.key(d));
+            if all.len() <= 16 {
+                put_leaf(&mut self.b, p, &all);
+                return None;
+            }
+            let right = self.take();
+            put_leaf(&mut self.b, p, &all[..9]);
+            put_leaf(&mut self.b, right, &all[9..]);
+            return Some(right);
+        }
+        let mut all = entries(&self.b, p);
+        let i = Self::choose(&all, record.key(d));
+        let split = self.put(all[i].child, record);
+        all[i] = self.entry(all[i].child);
+        if let Some(new) = split {
+            all.insert(i + 1, self.entry(new));
+        }
+        if all.len() <= 16 {
+            put_inner(&mut self.b, p, lv, &all);
+            return None;
+        }
+        let right = self.take();
+        put_inner(&mut self.b, p, lv, &all[..9]);
+        put_inner(&mut self.b, right, lv, &all[9..]);
+        Some(right)
+    }
+
+    pub fn delete(&mut self, id: u32) -> u32 {
+        if let Some(code) = self.refused() {
+            return code;
+        }
+        if id == 0 {
+            return 5;
+        }
+        let Some(record) = self.record(id) else { return 7 };
+        self.delete_record(&record);
+        0
+    }
+
+    /// The rest of a delete, of a live record.
+    pub fn delete_record(&mut self, record: &Record) {
+        let root = u32_at(&self.b, ROOT);
+        self.drop_below(root, record);
+        if level(&self.b, root) > 0 && count(&self.b, root) == 1 {
+            let only = entries(&self.b, root)[0].child;
+            put_u32(&mut self.b, ROOT, only);
+            self.b[LEVEL] = level(&self.b, only);
+            self.free(root);
+        }
+        let total = self.total() - 1;
+        put_u32(&mut self.b, TOTAL, total);
+    }
+
+    fn drop_below(&mut self, p: u32, record: &Record) {
+        let lv = level(&self.b, p);
+        if lv == 0 {
+            let mut all = records(&self.b, p);
+            all.retain(|r| r.id != record.id);
+            put_leaf(&mut self.b, p, &all);
+            return;
+        }
+        let mut all = entries(&self.b, p);
+        let i = Self::choose(&all, record.key(self.d()));
+        self.drop_below(all[i].child, record);
+        if count(&self.b, all[i].child) < 8 {
+            self.even_out(&mut all, i);
+        } else {
+            all[i] = self.entry(all[i].child);
+        }
+        put_inner(&mut self.b, p, lv, &all);
+    }
+
+    /// Child i has 7: its partner gives one, or the two join.
+    fn even_out(&mut self, all: &mut Vec<Entry>, i: usize) {
+        let left = if i + 1 < all.len() { i } else { i - 1 };
+        let (a, b) = (all[left].child, all[left + 1].child);
+        let join = count(&self.b, a) + count(&self.b, b) == 15;
+        let keep = if i == left { 8 } else { count(&self.b, a) - 1 };
+        if level(&self.b, a) == 0 {
+            let both = [records(&self.b, a), records(&self.b, b)].concat();
+            let keep = if join { both.len() } else { keep };
+            put_leaf(&mut self.b, a, &both[..keep]);
+            put_leaf(&mut self.b, b, &both[keep..]);
+        } else {
+            let lv = level(&self.b, a);
+            let both = [entries(&self.b, a), entries(&self.b, b)].concat();
+            let keep = if join { both.len() } else { keep };
+            put_inner(&mut self.b, a, lv, &both[..keep]);
+            put_inner(&mut self.b, b, lv, &both[keep..]);
+        }
+        all[left] = self.entry(a);
+        if join {
+            self.free(b);
+            all.remove(left + 1);
+        } else {
+            all[left + 1] = self.entry(b);
+        }
+    }
+
+    /// A full scan, and the exact set by every leaf's bound.
+    pub fn search(&self, x: &[i16], k: u32) -> Found {
+        let d = self.d();
+        let asked = wide(x);
+        let leaves = self.leaves();
+        let mut rows = Vec::new();
+        for (position, &p) in leaves.iter().enumerate() {
+            for r in records(&self.b, p) {
+                rows.push(Row { id: r.id, distance: squared(&r.point(d), &asked), position: position as u32 });
+            }
+        }
+        rows.sort_by_key(|r| (r.distance, r.id));
+        let few = rows.len() < k as usize;
+        rows.truncate(k as usize);
+        let slices = Slices::of(&asked);
+        let mut found = Found::default();
+        for &p in &leaves {
+            if count(&self.b, p) == 0 {
+                found.unread.push(p);
+                continue;
+            }
+            let (first, last) = ends(&self.b, p, d);
+            let bound = slices.bound((first.pyramid, first.height), (last.pyramid, last.height));
+            if few || bound <= rows.last().unwrap().distance {
+                found.leaves += 1;
+            } else {
+                found.unread.push(p);
+            }
+        }
+        found.rows = rows;
+        found
+    }
+
+    pub fn question(&mut self, x: &[i16], k: u32, rows: &mut [Row], tally: &mut Tally) -> Answer {
+        let refusal = |code| Answer { code, ..Answer::default() };
+        if let Some(code) = self.refused() {
+            return refusal(code);
+        }
+        if x.len() != self.d() {
+            return refusal(3);
+        }
+        if !in_range(x) {
+            return refusal(4);
+        }
+        if !(1..=64).contains(&k) {
+            return refusal(10);
+        }
+        if rows.len() < k as usize {
+            return refusal(11);
+        }
+        let found = self.search(x, k);
+        rows[..found.rows.len()].copy_from_slice(&found.rows);
+        tally.questions = tally.questions.saturating_add(1);
+        tally.leaves = tally.leaves.saturating_add(found.leaves);
+        Answer { code: 0, rows: found.rows.len(), leaves: found.leaves }
+    }
+}
