@@ -1,7 +1,12 @@
-// The acts program by the line (01, "The acts program"): what the first line and each line of values do to the index and print.
+// The acts program by the line (01, "The acts program"): what the first line and each line of values do to the index and print, and how a
+// session goes on from chunk to chunk of input.
 mod acting;
+mod input;
 mod lines;
 
+pub use input::end_input;
+pub use input::end_line;
+pub use input::take_line;
 pub use lines::first_line;
 pub use lines::step;
 
@@ -9,4 +14,15 @@ pub use lines::step;
 pub struct Begun {
     pub d: usize,
     pub at: usize,
+}
+
+// Where a session stands: whether it goes on, the features named, the number of the current line, how many of its bytes are held, where the chunk
+// goes on, and where the output goes on.
+pub struct Session {
+    pub going: bool,
+    pub d: usize,
+    pub number: u64,
+    pub held: usize,
+    pub at: usize,
+    pub end: usize,
 }
