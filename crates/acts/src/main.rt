@@ -1,0 +1,148 @@
+// The acts program (01): runs the acts of a text, read from standard input, on a 64-page index, and writes what they print to standard output.
+ghost use mathlib.Core.Path.{_≡_};
+ghost use Prim.Native.Nat.{_≤_};
+ghost use lib.ListN.{length};
+ghost use Rattle.io.specs.Counts.{Counts};
+ghost use Rattle.acts_step.specs.Steps.{indexBytes, mostPrinted};
+ghost use Rattle.acts.specs.Running.{Fits, Roomy, Turned};
+use acts_step::Session;
+use acts_step::end_input;
+use acts_step::take_line;
+use libc::STDIN_FILENO;
+use libc::STDOUT_FILENO;
+
+// The most bytes that a line of input prints.
+const ROOM: usize = 6720;
+
+// The last number that a line may have; no input comes to it.
+const LAST: u64 = 18446744073709551614;
+
+// The session at other places of chunk and output.
+fn placed(s: Session, going: bool, at: usize, end: usize) -> Session
+    ensures { λ r. ⌜ (r .held ≡ s .held) × (r .at ≡ at) × (r .number ≡ s .number) × (r .end ≡ end) ⌝ }
+{
+    Session {
+        going: going,
+        d: s.d,
+        number: s.number,
+        held: s.held,
+        at: at,
+        end: end,
+    }
+}
+
+// Writes what is printed. Where that fails the session does not go on.
+fn flush(out: &[u8], s: Session) -> Session
+    requires { ⌜ s .end ≤ length (now out) ⌝ }
+    ensures { λ r. ⌜ (r .held ≡ s .held) × (r .at ≡ s .at) × (r .number ≡ s .number) × (r .end ≡ 0) ⌝ }
+{
+    let end = s.end;
+    let is_written = io::write_all(STDOUT_FILENO, &out[..end]);
+    placed(s, s.going && is_written, s.at, 0)
+}
+
+// Makes room for what a line prints.
+fn make_room(out: &[u8], s: Session) -> Session
+    requires { ⌜ (s .end ≤ length (now out)) × (mostPrinted ≤ length (now out)) ⌝ }
+    ensures { λ r. ⌜ Roomy (now (out .entry)) s r ⌝ }
+{
+    if ROOM <= out.len() - s.end {
+        return s;
+    }
+    flush(out, s)
+}
+
+// The chunk up to the end of a line.
+fn turn(index: &mut [u8], held: &mut [u8], chunk: &[u8], out: &mut [u8], s: Session) -> Session
+    requires { ⌜ Fits (now index) (now held) (now out) s × (s .at ≤ length (now chunk)) ⌝ }
+    ensures { λ r. ⌜ Turned (now (index .exit)) (now (held .exit)) (now (chunk .entry)) (now (out .exit)) s r ⌝ }
+{
+    if LAST < s.number {
+        return placed(s, false, chunk.len(), s.end);
+    }
+    let t = make_room(out, s);
+    take_line(index, held, chunk, out, t)
+}
+
+fn run_chunk(index: &mut [u8], held: &mut [u8], chunk: &[u8], out: &mut [u8], s: Session) -> Session
+    requires { ⌜ Fits (now index) (now held) (now out) s ⌝ }
+    ensures { λ r. ⌜ Fits (now (index .exit)) (now (held .exit)) (now (out .exit)) r ⌝ }
+{
+    let mut t = placed(s, s.going, 0, s.end);
+    while t.going && t.at < chunk.len() {
+        t = turn(index, held, chunk, out, t);
+    }
+    t
+}
+
+// Reads once; a read that fails ends the input.
+fn read_chunk(chunk: &mut [u8]) -> usize
+    ensures { λ r. ⌜ Counts r (now (chunk .exit)) ⌝ }
+{
+    let got = libc::read(STDIN_FILENO, chunk);
+    io::count(got, chunk)
+}
+
+// Reads and runs to the end of input. The loop counts its turns down, from a number that no run uses up.
+fn run_input(
+    index: &mut [u8],
+    held: &mut [u8],
+    chunk: &mut [u8],
+    out: &mut [u8],
+    s: Session,
+) -> Session
+    requires { ⌜ Fits (now index) (now held) (now out) s ⌝ }
+    ensures { λ r. ⌜ Fits (now (index .exit)) (now (held .exit)) (now (out .exit)) r ⌝ }
+{
+    let mut t = s;
+    let mut turns = u64::MAX;
+    while turns > 0 && t.going {
+        let n = read_chunk(chunk);
+        if n == 0 {
+            return t;
+        }
+        t = run_chunk(index, held, &chunk[..n], out, t);
+        turns -= 1;
+    }
+    t
+}
+
+// The end of input ends a last line, unless the session has ended before.
+fn close(index: &mut [u8], held: &[u8], out: &mut [u8], s: Session)
+    requires { ⌜ Fits (now index) (now held) (now out) s ⌝ }
+{
+    if !s.going {
+        flush(out, s);
+        return;
+    }
+    if LAST < s.number {
+        flush(out, s);
+        return;
+    }
+    let t = make_room(out, s);
+    let u = end_input(index, held, out, t);
+    flush(out, u);
+}
+
+fn run(index: &mut [u8], held: &mut [u8], chunk: &mut [u8], out: &mut [u8])
+    requires { ⌜ (length (now index) ≡ indexBytes) × (257 ≤ length (now held)) × (mostPrinted ≤ length (now out)) ⌝ }
+{
+    let s = Session {
+        going: true,
+        d: 0,
+        number: 1,
+        held: 0,
+        at: 0,
+        end: 0,
+    };
+    let t = run_input(index, held, chunk, out, s);
+    close(index, held, out, t);
+}
+
+fn main() {
+    let mut index = io::large_buffer();
+    let mut chunk = io::large_buffer();
+    let mut out = io::large_buffer();
+    let mut held = [0u8; 257];
+    run(&mut index, &mut held, &mut chunk, &mut out);
+}

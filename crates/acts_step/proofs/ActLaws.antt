@@ -1,0 +1,139 @@
+-- What an act does and prints, from what its function and the writer of a line ensure.
+use mathlib.Core.Path.{_≡_, refl, sym, ap, _∙_, subst}
+use mathlib.Core.Logic.{_≢_}
+use mathlib.Core.Bool.{Bool, true, false}
+use mathlib.Core.List.{List, [], _∷_, _++_}
+use Prim.Native.Nat.{ℕ, zero, suc, _+_, _^_, _≤_, _<_, min}
+use native.Mathlib.Omega.{arith}
+use lib.Dec.{eqb}
+use lib.IntN.{ℤ}
+use lib.ListN.{length, take, length-take}
+use borrow.Author.Tests.{eq-eqb, ne-eqb}
+use Rattle.candidates.specs.declared.Row.{Row}
+use Rattle.candidates.specs.Held.{rowsOf, rowsIn}
+use Rattle.lists.specs.Basics.{pick}
+use Rattle.search.specs.Visit.{Answer as Found}
+use Rattle.lending.specs.declared.Answer.{Answer}
+use Rattle.lending.specs.declared.Candidates.{Candidates}
+use Rattle.lending.specs.declared.Outcome.{Outcome}
+use Rattle.index.specs.Refusals.{First, insertRules, deleteRules, questionRules}
+use Rattle.index.specs.Outcomes.{insertedWith, deletedWith, foundWith, nothingFound, unlessRefused}
+use Rattle.index.specs.Acts.{Act, insert, delete, question}
+use Rattle.index.specs.Questions.{Asked}
+use Rattle.acts_text.specs.declared.ActLine.{ActLine}
+use Rattle.acts_text.specs.Bytes.{Written}
+use Rattle.acts_text.specs.Output.{resultLine}
+use Rattle.acts_step.specs.Printed.{rowLines, answerLines}
+use Rattle.acts_step.specs.Steps.{rowsLent, mostPrinted, pointOf, askedBy, Acted, Puts}
+
+module _ (b c out out' : List ℕ) (n code at r : ℕ) (room : r ≤ at + 105) where
+  pub inserted : (i : ℕ) (p : List ℤ) → i < 2 ^ 32 → First (insertRules b i p) code → c ≡ insertedWith code b i p → Written out out' at r (resultLine n code i 0 0)
+      → Puts (Acted (insert i p) b n c) mostPrinted out out' at r
+  inserted i p low first e w = record {
+    text = resultLine n code i 0 0;
+    says = record { code = code; answer = nothingFound; done = (low, first, e); prints = refl };
+    written = w;
+    room = omega arith;
+  }
+
+  pub deleted : (i : ℕ) → First (deleteRules b i) code → c ≡ deletedWith code b i → Written out out' at r (resultLine n code i 0 0) → Puts (Acted (delete i) b n c) mostPrinted out out' at r
+  deleted i first e w = record {
+    text = resultLine n code i 0 0;
+    says = record { code = code; answer = nothingFound; done = (first, e); prints = refl };
+    written = w;
+    room = omega arith;
+  }
+
+-- ---- A QUESTION
+
+lines-none : (n code leaves : ℕ) (xs : List Row) → length xs ≡ 0 → resultLine n code 0 0 leaves ≡ answerLines n code leaves xs
+lines-none n code leaves [] e = refl
+lines-none n code leaves (x ∷ xs) e = absurd (omega (arith, e))
+
+lines-some : (n code leaves : ℕ) (xs : List Row) → length xs ≢ 0 → rowLines n code leaves xs ≡ answerLines n code leaves xs
+lines-some n code leaves [] e = absurd (e refl)
+lines-some n code leaves (x ∷ xs) e = refl
+
+-- one that has rows is not refused
+rows-zero : (b : List ℕ) (p : List ℤ) (k m : ℕ) → length (foundWith m b p k .rows) ≢ 0 → m ≡ 0
+rows-zero b p k zero e = refl
+rows-zero b p k (suc m) e = absurd (e refl)
+
+length-rows : (ds ts : List ℕ) → length (rowsOf ds ts) ≤ length ds
+unfolding rowsOf
+length-rows [] ts = omega arith
+length-rows (d ∷ ds) [] = omega arith
+length-rows (d ∷ ds) (t ∷ ts) = omega (arith, length-rows ds ts)
+
+module _ (b : List ℕ) (p : List ℤ) (k : ℕ) (o : Outcome) (a : Asked b p k 64 o) where
+  abbrev answer : Found
+  answer = foundWith (o .answer .code) b p k
+
+  -- no more rows than there are places for them
+  pub rows-fit : o .list .count ≤ 64
+  rows-fit =
+      let e : o .list .count ≡ length (rowsIn (o .list .distances) (o .list .tags) (o .list .count)) = a .listed ∙ a .count ∙ ap length (sym (a .rows)) in
+      let l = length-take (o .list .count) (rowsOf (o .list .distances) (o .list .tags)) in
+      let m = length-rows (o .list .distances) (o .list .tags) in
+      let d = a .distances in omega arith
+
+  module _ (n : ℕ) (out out' : List ℕ) (at r : ℕ) where
+    pub asked-none : o .answer .count ≡ 0 → Written out out' at r (resultLine n (o .answer .code) 0 0 (o .answer .leaves)) → r ≤ at + 105
+        → Puts (Acted (question p k rowsLent) b n b) mostPrinted out out' at r
+    asked-none z w room = record {
+      text = resultLine n (o .answer .code) 0 0 (o .answer .leaves);
+      says = record {
+        code = o .answer .code;
+        answer = answer;
+        done = (a .first, refl, refl);
+        prints = ap (λ (x : ℕ). resultLine n (o .answer .code) 0 0 x) (a .leaves) ∙ lines-none n (o .answer .code) (answer .leaves) (answer .rows) (sym (a .count) ∙ z);
+      };
+      written = w;
+      room = omega arith;
+    }
+
+    pub asked-some : o .answer .count ≢ 0 → Puts (λ t. t ≡ rowLines n 0 (o .answer .leaves) (rowsIn (o .list .distances) (o .list .tags) (o .list .count))) mostPrinted out out' at r
+        → Puts (Acted (question p k rowsLent) b n b) mostPrinted out out' at r
+    asked-some z w =
+        let some : length (answer .rows) ≢ 0 = λ e. z (a .count ∙ e) in
+        let zero : o .answer .code ≡ 0 = rows-zero b p k (o .answer .code) some in
+        record {
+          text = w .text;
+          says = record {
+            code = o .answer .code;
+            answer = answer;
+            done = (a .first, refl, refl);
+            prints = w .says
+                ∙ ap (λ (x : ℕ). rowLines n x (o .answer .leaves) (rowsIn (o .list .distances) (o .list .tags) (o .list .count))) (sym zero)
+                ∙ ap (λ (x : ℕ). rowLines n (o .answer .code) x (rowsIn (o .list .distances) (o .list .tags) (o .list .count))) (a .leaves)
+                ∙ ap (rowLines n (o .answer .code) (answer .leaves)) (a .rows)
+                ∙ lines-some n (o .answer .code) (answer .leaves) (answer .rows) some;
+          };
+          written = w .written;
+          room = w .room;
+        }
+
+-- ---- THE ACT THAT A LINE ASKS FOR
+
+module _ (a : ActLine) where
+  is-insert : a .act ≡ 1 → insert (a .id) (pointOf a) ≡ askedBy a
+  is-insert e = rw (eq-eqb (a .act) 1 e)
+
+  is-delete : a .act ≡ 2 → delete (a .id) ≡ askedBy a
+  is-delete e = rw (ne-eqb (a .act) 1 (λ (z : a .act ≡ 1). omega arith), eq-eqb (a .act) 2 e)
+
+  is-question : a .act ≢ 2 → a .act ≢ 1 → question (pointOf a) (a .k) 64 ≡ askedBy a
+  is-question e f = rw (ne-eqb (a .act) 1 f, ne-eqb (a .act) 2 e)
+
+  module _ (b : List ℕ) (n : ℕ) (c out out' : List ℕ) (at r : ℕ) where
+    abbrev Does : Act → Type 0
+    Does x = Puts (Acted x b n c) mostPrinted out out' at r
+
+    pub does-insert : a .act ≡ 1 → Does (insert (a .id) (pointOf a)) → Does (askedBy a)
+    does-insert e w = subst Does (is-insert e) w
+
+    pub does-delete : a .act ≡ 2 → Does (delete (a .id)) → Does (askedBy a)
+    does-delete e w = subst Does (is-delete e) w
+
+    pub does-question : a .act ≢ 2 → a .act ≢ 1 → Does (question (pointOf a) (a .k) 64) → Does (askedBy a)
+    does-question e f w = subst Does (is-question e f) w

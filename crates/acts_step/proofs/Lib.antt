@@ -1,0 +1,4 @@
+pub mod PutLaws
+pub mod ActLaws
+pub mod StepLaws
+pub mod SessionLaws

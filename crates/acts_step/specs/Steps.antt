@@ -1,0 +1,67 @@
+-- What a line does to the index and prints (01, "The acts program").
+use mathlib.Core.Path.{_≡_}
+use mathlib.Core.Logic.{_≢_}
+use mathlib.Core.Bool.{Bool, true, false}
+use mathlib.Core.List.{List, [], _∷_, _++_}
+use Prim.Native.Nat.{ℕ, _+_, _*_, _≤_}
+use lib.Dec.{eqb}
+use lib.IntN.{ℤ}
+use lib.ListN.{length, take}
+use Rattle.lists.specs.Basics.{pick}
+use Rattle.pagestore.specs.Store.{newIndex}
+use Rattle.search.specs.Visit.{Answer as Found}
+use Rattle.index.specs.Acts.{Act, insert, delete, question, check, does}
+use Rattle.acts_text.specs.declared.ActLine.{ActLine}
+use Rattle.acts_text.specs.Bytes.{Written}
+use Rattle.acts_text.specs.Lines.{actOf}
+use Rattle.acts_text.specs.Names.{namesIn}
+use Rattle.acts_text.specs.Output.{heading, resultLine}
+use Rattle.acts_step.specs.Printed.{printed}
+use Rattle.acts_step.specs.declared.Begun.{Begun}
+
+-- a 64-page index
+abbrev pub indexBytes : ℕ
+indexBytes = 65536
+
+-- the rows lent to a question
+abbrev pub rowsLent : ℕ
+rowsLent = 64
+
+-- the most bytes that a line of input prints: a line of output has at most 105
+abbrev pub mostPrinted : ℕ
+mostPrinted = rowsLent * 105
+
+-- the coordinates that a line gives
+abbrev pub pointOf : ActLine → List ℤ
+pointOf a = take (a .d) (a .coords)
+
+-- act 1 inserts, 2 deletes, 3 questions
+abbrev pub askedBy : ActLine → Act
+askedBy a = pick (eqb (a .act) 1) (insert (a .id) (pointOf a)) (pick (eqb (a .act) 2) (delete (a .id)) (question (pointOf a) (a .k) rowsLent))
+
+-- the act x of line n is done on index b: it leaves index c and prints t
+pub record Acted (x : Act) (b : List ℕ) (n : ℕ) (c t : List ℕ) : Type 0 where
+  pub code : ℕ
+  pub answer : Found
+  pub done : does x b code answer c
+  pub prints : t ≡ printed n x code answer
+
+-- line n of values, l, on index b of d features: it leaves index c and prints t
+pub data Steps (d : ℕ) (b : List ℕ) (n : ℕ) (l c t : List ℕ) : Type 0 where
+  -- unreadable: it prints its line number, 13 and three zeros, and is passed over
+  passed : actOf d l .readable ≡ false → c ≡ b → t ≡ resultLine n 13 0 0 0 → Steps d b n l c t
+  acted : actOf d l .readable ≡ true → Acted (askedBy (actOf d l)) b n c t → Steps d b n l c t
+
+-- the first line, l: it leaves index c of d features and prints t; with d of 0 the program ends
+pub data Begins (b l : List ℕ) (d : ℕ) (c t : List ℕ) : Type 0 where
+  -- unreadable: the output's names and `1 13 0 0 0`
+  ends : namesIn l ≡ 0 → d ≡ 0 → c ≡ b → t ≡ heading ++ resultLine 1 13 0 0 0 → Begins b l d c t
+  -- readable: the output's names, and an empty index of the d features named
+  begins : d ≢ 0 → d ≡ namesIn l → c ≡ newIndex b d → t ≡ heading → Begins b l d c t
+
+-- a text of which P holds is written in out from index at on, up to index r, and leaves out'; it has at most m bytes
+pub record Puts (P : List ℕ → Type 0) (m : ℕ) (out out' : List ℕ) (at r : ℕ) : Type 0 where
+  pub text : List ℕ
+  pub says : P text
+  pub written : Written out out' at r text
+  pub room : r ≤ at + m

@@ -1,0 +1,117 @@
+// The acts, each with what it prints.
+ghost use mathlib.Core.Path.{_≡_};
+ghost use mathlib.Core.Bool.{true};
+ghost use Prim.Native.Nat.{_+_, _≤_};
+ghost use lib.ListN.{length};
+ghost use Rattle.index.specs.Acts.{insert, delete, question};
+ghost use Rattle.candidates.specs.Held.{rowsIn};
+ghost use Rattle.acts_step.specs.Printed.{rowLines};
+ghost use Rattle.acts_step.specs.Steps.{rowsLent, mostPrinted, askedBy, Acted, Puts};
+use acts_text::ActLine;
+use acts_text::output::put_result;
+use candidates::row_of;
+use lending::Candidates;
+use search::Query;
+
+// The rows lent to a question.
+const ROWS: usize = 64;
+
+fn insert_line(
+    index: &mut [u8],
+    id: u32,
+    point: &[i16],
+    number: u64,
+    out: &mut [u8],
+    at: usize,
+) -> usize
+    requires { ⌜ at + mostPrinted ≤ length (now out) ⌝ }
+    ensures { λ r. ⌜ Puts (Acted (insert id (now (point .entry))) (now (index .entry)) number (now (index .exit))) mostPrinted (now (out .entry)) (now (out .exit)) at r ⌝ }
+{
+    let code = index::insert(index, id, point);
+    put_result(out, at, number, code as u64, id as u64, 0, 0)
+}
+
+fn delete_line(index: &mut [u8], id: u32, number: u64, out: &mut [u8], at: usize) -> usize
+    requires { ⌜ at + mostPrinted ≤ length (now out) ⌝ }
+    ensures { λ r. ⌜ Puts (Acted (delete id) (now (index .entry)) number (now (index .exit))) mostPrinted (now (out .entry)) (now (out .exit)) at r ⌝ }
+{
+    let code = index::delete(index, id);
+    put_result(out, at, number, code as u64, id as u64, 0, 0)
+}
+
+// A line for each of the first rows of distances and tags.
+fn put_rows(
+    out: &mut [u8],
+    at: usize,
+    number: u64,
+    leaves: u64,
+    distances: &[u64],
+    tags: &[u64],
+    count: usize,
+) -> usize
+    requires { ⌜ (at + mostPrinted ≤ length (now out)) × (count ≤ rowsLent) × (count ≤ length (now distances)) × (count ≤ length (now tags)) ⌝ }
+    ensures { λ r. ⌜ Puts (λ t. t ≡ rowLines number 0 leaves (rowsIn (now (distances .entry)) (now (tags .entry)) count)) mostPrinted (now (out .entry)) (now (out .exit)) at r ⌝ }
+{
+    let mut end = at;
+    let mut i = 0;
+    while i < count {
+        let row = row_of(distances[i], tags[i]);
+        end = put_result(out, end, number, 0, row.id as u64, row.distance, leaves);
+        i += 1;
+    }
+    end
+}
+
+fn question_line(
+    index: &[u8],
+    point: &[i16],
+    k: u32,
+    number: u64,
+    out: &mut [u8],
+    at: usize,
+) -> usize
+    requires { ⌜ at + mostPrinted ≤ length (now out) ⌝ }
+    ensures { λ r. ⌜ Puts (Acted (question (now (point .entry)) k rowsLent) (now (index .entry)) number (now (index .entry))) mostPrinted (now (out .entry)) (now (out .exit)) at r ⌝ }
+{
+    let o = index::question_outcome(index, point, Query { k: k as usize }, ROWS);
+    let answer = o.answer;
+    if answer.count == 0 {
+        return put_result(
+            out,
+            at,
+            number,
+            answer.code as u64,
+            0,
+            0,
+            answer.leaves as u64,
+        );
+    }
+    let list = o.list;
+    let distances = list.distances;
+    let tags = list.tags;
+    put_rows(
+        out,
+        at,
+        number,
+        answer.leaves as u64,
+        &distances,
+        &tags,
+        list.count,
+    )
+}
+
+// The act that a readable line asks for.
+pub fn do_act(index: &mut [u8], a: ActLine, number: u64, out: &mut [u8], at: usize) -> usize
+    requires { ⌜ (a .d ≤ 16) × (at + mostPrinted ≤ length (now out)) ⌝ }
+    ensures { λ r. ⌜ Puts (Acted (askedBy a) (now (index .entry)) number (now (index .exit))) mostPrinted (now (out .entry)) (now (out .exit)) at r ⌝ }
+{
+    if a.act == 2 {
+        return delete_line(index, a.id, number, out, at);
+    }
+    let d = a.d;
+    let coords = a.coords;
+    if a.act == 1 {
+        return insert_line(index, a.id, &coords[..d], number, out, at);
+    }
+    question_line(index, &coords[..d], a.k, number, out, at)
+}

@@ -1,0 +1,28 @@
+// The acts program by the line (01, "The acts program"): what the first line and each line of values do to the index and print, and how a
+// session goes on from chunk to chunk of input.
+mod acting;
+mod input;
+mod lines;
+
+pub use input::end_input;
+pub use input::end_line;
+pub use input::take_line;
+pub use lines::first_line;
+pub use lines::step;
+
+// What the first line leaves: the features that it names, 0 where the program ends, and the index after what it printed.
+pub struct Begun {
+    pub d: usize,
+    pub at: usize,
+}
+
+// Where a session stands: whether it goes on, the features named, the number of the current line, how many of its bytes are held, where the chunk
+// goes on, and where the output goes on.
+pub struct Session {
+    pub going: bool,
+    pub d: usize,
+    pub number: u64,
+    pub held: usize,
+    pub at: usize,
+    pub end: usize,
+}
