@@ -1,0 +1,40 @@
+// The acts for programs in C and other languages (include/epoch_index.h). Each is the act of `index` and promises what that promises.
+ghost use mathlib.Core.Path.{_≡_};
+ghost use lib.ListN.{length};
+ghost use Rattle.index.specs.CheckAnswers.{CheckAnswer};
+ghost use Rattle.index.specs.Refusals.{First, makeRules, insertRules, deleteRules};
+ghost use Rattle.index.specs.Outcomes.{madeWith, insertedWith, deletedWith};
+
+// Makes an empty index of some features in the bytes lent.
+#[no_mangle]
+pub extern "C" fn epoch_index_make(index: &mut [u8], features: u8) -> u32
+    ensures { λ r. ⌜ First (makeRules (length (now (index .entry))) features) r × (now (index .exit) ≡ madeWith r (now (index .entry)) features) ⌝ }
+{
+    index::make(index, features)
+}
+
+// Inserts an identifier with its point.
+#[no_mangle]
+pub extern "C" fn epoch_index_insert(index: &mut [u8], id: u32, point: &[i16]) -> u32
+    ensures { λ r. ⌜ First (insertRules (now (index .entry)) id (now (point .entry))) r × (now (index .exit) ≡ insertedWith r (now (index .entry)) id (now (point .entry))) ⌝ }
+{
+    index::insert(index, id, point)
+}
+
+// Deletes an identifier with its point.
+#[no_mangle]
+pub extern "C" fn epoch_index_delete(index: &mut [u8], id: u32) -> u32
+    ensures { λ r. ⌜ First (deleteRules (now (index .entry)) id) r × (now (index .exit) ≡ deletedWith r (now (index .entry)) id) ⌝ }
+{
+    index::delete(index, id)
+}
+
+// Whether an index is sound. The page is written in each case: with 2 it is one at which soundness fails, else 0.
+#[no_mangle]
+pub extern "C" fn epoch_index_check(index: &[u8], page: &mut u32) -> u32
+    ensures { λ r. ⌜ CheckAnswer (now (index .entry)) (record { code = r; page = now (page .exit) }) ⌝ }
+{
+    let checked = index::check(index);
+    *page = checked.page;
+    checked.code as u32
+}
