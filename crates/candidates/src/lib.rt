@@ -7,6 +7,7 @@ ghost use Rattle.candidates.specs.Rows.{rowOrder, rowOf, tagOf};
 ghost use Rattle.candidates.specs.Held.{rowsIn, Held, Offered, Stops};
 
 // A row (01): the squared distance and the identifier of a record, and the position of the leaf that holds it.
+#[repr(C)]
 pub struct Row {
     pub distance: u64,
     pub id: u32,

@@ -9,6 +9,7 @@ use candidates::Row;
 use candidates::row_of;
 
 // A caller's tally (01): the questions carried out, and the leaves that they read.
+#[repr(C)]
 pub struct Tally {
     pub questions: u32,
     pub leaves: u32,
@@ -89,6 +90,7 @@ pub fn fill_rows(rows: &mut [Row], list: Candidates)
 }
 
 // What a question returns: its number, how many rows, and how many leaves were read.
+#[repr(C)]
 pub struct Answer {
     pub code: u32,
     pub count: usize,
