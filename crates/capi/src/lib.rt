@@ -4,6 +4,11 @@ ghost use lib.ListN.{length};
 ghost use Rattle.index.specs.CheckAnswers.{CheckAnswer};
 ghost use Rattle.index.specs.Refusals.{First, makeRules, insertRules, deleteRules};
 ghost use Rattle.index.specs.Outcomes.{madeWith, insertedWith, deletedWith};
+ghost use Rattle.index.specs.Questions.{Questioned};
+use candidates::Row;
+use lending::Answer;
+use lending::Tally;
+use search::Query;
 
 // Makes an empty index of some features in the bytes lent.
 #[no_mangle]
@@ -37,4 +42,19 @@ pub extern "C" fn epoch_index_check(index: &[u8], page: &mut u32) -> u32
     let checked = index::check(index);
     *page = checked.page;
     checked.code as u32
+}
+
+// The question for the k nearest records of a point: its rows go to those lent, and the caller's tally counts it.
+#[no_mangle]
+pub extern "C" fn epoch_index_question(
+    index: &[u8],
+    point: &[i16],
+    k: usize,
+    rows: &mut [Row],
+    tally: &mut Tally,
+) -> Answer
+    ensures { λ r. ⌜ Questioned (now (index .entry)) (now (point .entry)) k (now (rows .entry)) (now (tally .entry)) r (now (rows .exit)) (now (tally .exit)) ⌝ }
+{
+    let query = Query { k: k };
+    index::question(index, point, query, rows, tally)
 }
