@@ -1,0 +1,38 @@
+//! A session with an index in 64 pages: checked acts, then the bytes opened once for acts without the check.
+use epoch_index::{Found, Index, Refusal, Row, Tally, PAGE_BYTES};
+
+fn print(asked: Result<Found, Refusal>) {
+    match asked {
+        Ok(found) => {
+            println!("question: {} rows, {} leaves", found.rows.len(), found.leaves);
+            for Row { id, distance, position } in found.rows {
+                println!("  id {id} at squared distance {distance}, leaf {position}");
+            }
+        }
+        Err(refusal) => println!("question refused: {} ({refusal})", refusal.code()),
+    }
+}
+
+fn main() -> Result<(), Box<dyn std::error::Error>> {
+    let mut tally = Tally::default();
+    let mut index = Index::make(vec![0; 64 * PAGE_BYTES], 2)?;
+    index.insert(7, &[-300, 100])?;
+    index.insert(4, &[100, -300])?;
+    if let Err(refusal) = index.insert(4, &[5, 5]) {
+        println!("insert 4 again refused: {} ({refusal})", refusal.code());
+    }
+    print(index.question(&[-100, -100], 2, &mut tally));
+
+    let mut sound = Index::open(index.into_bytes())?;
+    sound.delete(7)?;
+    print(sound.question(&[-100, -100], 2, &mut tally));
+    print(sound.question(&[-100, -100], 65, &mut tally));
+    println!("tally: {} questions, {} leaves", tally.questions, tally.leaves);
+
+    let mut damaged = sound.into_bytes();
+    damaged[PAGE_BYTES + 9] = 0xff;
+    if let Err(fault) = Index::open(damaged) {
+        println!("open refused: {} ({fault})", fault.refusal.code());
+    }
+    Ok(())
+}

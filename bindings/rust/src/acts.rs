@@ -1,0 +1,34 @@
+//! The calls: slices in, results out. The only `unsafe` code of the crate.
+use crate::sys;
+use crate::{Fault, Refusal, Row, Tally};
+
+pub fn make(index: &mut [u8], features: u8) -> Result<(), Refusal> {
+    // SAFETY: pointer and length are those of one slice, lent for the call alone; any bytes and any number are allowed.
+    Refusal::of(unsafe { sys::epoch_index_make(index.as_mut_ptr(), index.len(), features) })
+}
+
+pub fn check(index: &[u8]) -> Result<(), Fault> {
+    let mut page = 0;
+    // SAFETY: pointer and length are those of one slice, which is only read, and `page` is a local of its own.
+    let code = unsafe { sys::epoch_index_check(index.as_ptr(), index.len(), &mut page) };
+    Refusal::of(code).map_err(|refusal| Fault { refusal, page })
+}
+
+pub fn insert(act: sys::Insert, index: &mut [u8], id: u32, point: &[i16]) -> Result<(), Refusal> {
+    // SAFETY: pointers and lengths are those of two slices that do not overlap, since `index` is borrowed alone. Either insert ends
+    // within them whatever they hold.
+    Refusal::of(unsafe { act(index.as_mut_ptr(), index.len(), id, point.as_ptr(), point.len()) })
+}
+
+pub fn delete(act: sys::Delete, index: &mut [u8], id: u32) -> Result<(), Refusal> {
+    // SAFETY: pointer and length are those of one slice. Either delete ends within it whatever it holds.
+    Refusal::of(unsafe { act(index.as_mut_ptr(), index.len(), id) })
+}
+
+/// The number of rows written, and the leaves read.
+pub fn question(act: sys::Question, index: &[u8], point: &[i16], k: usize, rows: &mut [Row], tally: &mut Tally) -> Result<(usize, u32), Refusal> {
+    // SAFETY: pointers and lengths are those of four borrows; `rows` and `tally` are borrowed alone, so they overlap nothing. `Row` and
+    // `Tally` have C's layout. Either question ends within them whatever the index holds.
+    let answer = unsafe { act(index.as_ptr(), index.len(), point.as_ptr(), point.len(), k, rows.as_mut_ptr(), rows.len(), tally) };
+    Refusal::of(answer.code).map(|()| (answer.count, answer.leaves))
+}

@@ -1,0 +1,175 @@
+//! The epoch index: an exact nearest-neighbour index over lent bytes.
+//!
+//! A point is 1 to 16 whole numbers from -1,000 to 1,000 with an identifier. An index is whole pages of 1,024 bytes, 2 to 16,384 of them,
+//! and lies in its bytes entirely: they may be stored and read back as they are. The work is done by libcapi.a, each function of which is
+//! proved to meet its contract; this crate is a thin safe layer over it.
+//!
+//! - [`Index`]: five acts, each of which checks the whole index first and so is right about any bytes.
+//! - [`SoundIndex`]: checked once, by [`Index::open`], and changed by nothing but its own methods, which therefore need no check.
+//!
+//! A checked act takes up to 1.5 MB of stack, which fits a thread of std's (2 MB), and one of a [`SoundIndex`] 256 kB.
+#![deny(unsafe_op_in_unsafe_fn)]
+#![warn(missing_docs)]
+
+mod acts;
+mod refusal;
+mod sys;
+
+pub use refusal::{Fault, Refusal};
+
+/// The bytes of a page.
+pub const PAGE_BYTES: usize = 1024;
+/// The most rows that a question returns.
+pub const MAX_K: usize = 64;
+/// The most features that a point has.
+pub const MAX_FEATURES: usize = 16;
+/// The most points that an index holds.
+pub const MAX_POINTS: usize = 65_535;
+
+/// A record that a question found.
+#[repr(C)]
+#[derive(Clone, Copy, Debug, Default, PartialEq, Eq, Hash)]
+pub struct Row {
+    /// Its squared distance from the asked point.
+    pub distance: u64,
+    /// Its identifier.
+    pub id: u32,
+    /// The position, in key order, of the leaf that holds it.
+    pub position: u32,
+}
+
+/// A caller's tally. Each count stays at 4,294,967,295 once it would pass it.
+#[repr(C)]
+#[derive(Clone, Copy, Debug, Default, PartialEq, Eq, Hash)]
+pub struct Tally {
+    /// The questions carried out.
+    pub questions: u32,
+    /// The leaves that they read.
+    pub leaves: u32,
+}
+
+/// What a question found.
+#[derive(Clone, Debug, Default, PartialEq, Eq)]
+pub struct Found {
+    /// The leaves that were read.
+    pub leaves: u32,
+    /// The nearest records, nearest first, equal distances by lower identifier: k of them, or all if fewer are live.
+    pub rows: Vec<Row>,
+}
+
+/// Asks with rows of its own. k above [`MAX_K`] is refused before the rows are counted.
+fn found(act: sys::Question, index: &[u8], point: &[i16], k: usize, tally: &mut Tally) -> Result<Found, Refusal> {
+    let mut rows = vec![Row::default(); k.min(MAX_K)];
+    let (count, leaves) = acts::question(act, index, point, k, &mut rows, tally)?;
+    rows.truncate(count);
+    Ok(Found { leaves, rows })
+}
+
+/// An index in bytes that are owned (`Vec<u8>`) or borrowed (`&[u8]` to ask and check, `&mut [u8]` to change it too).
+///
+/// Every act checks the index first: bytes that are no sound index are refused with [`Refusal::Unsound`].
+#[derive(Clone, Debug)]
+pub struct Index<B> {
+    bytes: B,
+}
+
+impl<B: AsRef<[u8]>> Index<B> {
+    /// The index that these bytes hold, if they hold one: each act finds out.
+    pub fn over(bytes: B) -> Index<B> {
+        Index { bytes }
+    }
+
+    /// Checks the bytes once. The bytes must stay those that `as_ref` gave, as they do for every type of std.
+    pub fn open(bytes: B) -> Result<SoundIndex<B>, Fault> {
+        acts::check(bytes.as_ref())?;
+        Ok(SoundIndex { bytes })
+    }
+
+    /// Whether the index is sound.
+    pub fn check(&self) -> Result<(), Fault> {
+        acts::check(self.as_bytes())
+    }
+
+    /// The k records nearest to a point. The tally counts the question and the leaves it read.
+    pub fn question(&self, point: &[i16], k: usize, tally: &mut Tally) -> Result<Found, Refusal> {
+        found(sys::epoch_index_question, self.as_bytes(), point, k, tally)
+    }
+
+    /// The same in lent rows: how many were written, and the leaves read. Rows past those keep their contents.
+    pub fn question_into(&self, point: &[i16], k: usize, rows: &mut [Row], tally: &mut Tally) -> Result<(usize, u32), Refusal> {
+        acts::question(sys::epoch_index_question, self.as_bytes(), point, k, rows, tally)
+    }
+
+    /// The bytes.
+    pub fn as_bytes(&self) -> &[u8] {
+        self.bytes.as_ref()
+    }
+
+    /// The bytes, given back.
+    pub fn into_bytes(self) -> B {
+        self.bytes
+    }
+}
+
+impl<B: AsRef<[u8]> + AsMut<[u8]>> Index<B> {
+    /// Makes an empty index of some features in bytes of any contents. To keep owned bytes where it is refused, lend them.
+    pub fn make(mut bytes: B, features: u8) -> Result<Index<B>, Refusal> {
+        acts::make(bytes.as_mut(), features)?;
+        Ok(Index { bytes })
+    }
+
+    /// Inserts an identifier with its point.
+    pub fn insert(&mut self, id: u32, point: &[i16]) -> Result<(), Refusal> {
+        acts::insert(sys::epoch_index_insert, self.bytes.as_mut(), id, point)
+    }
+
+    /// Deletes an identifier with its point.
+    pub fn delete(&mut self, id: u32) -> Result<(), Refusal> {
+        acts::delete(sys::epoch_index_delete, self.bytes.as_mut(), id)
+    }
+}
+
+/// A sound index: [`Index::open`] has checked it, and nothing but the methods here changes its bytes.
+///
+/// They do what those of [`Index`] do, without checking every page beforehand, and are never refused with [`Refusal::Unsound`].
+#[derive(Clone, Debug)]
+pub struct SoundIndex<B> {
+    bytes: B,
+}
+
+impl<B: AsRef<[u8]>> SoundIndex<B> {
+    /// The k records nearest to a point. The tally counts the question and the leaves it read.
+    pub fn question(&self, point: &[i16], k: usize, tally: &mut Tally) -> Result<Found, Refusal> {
+        found(sys::epoch_index_trusted_question, self.as_bytes(), point, k, tally)
+    }
+
+    /// The same in lent rows: how many were written, and the leaves read. Rows past those keep their contents.
+    pub fn question_into(&self, point: &[i16], k: usize, rows: &mut [Row], tally: &mut Tally) -> Result<(usize, u32), Refusal> {
+        acts::question(sys::epoch_index_trusted_question, self.as_bytes(), point, k, rows, tally)
+    }
+
+    /// The bytes, to read or store.
+    pub fn as_bytes(&self) -> &[u8] {
+        self.bytes.as_ref()
+    }
+
+    /// The bytes, given back: from here on they are the caller's to change.
+    pub fn into_bytes(self) -> B {
+        self.bytes
+    }
+}
+
+impl<B: AsRef<[u8]> + AsMut<[u8]>> SoundIndex<B> {
+    /// Inserts an identifier with its point.
+    pub fn insert(&mut self, id: u32, point: &[i16]) -> Result<(), Refusal> {
+        acts::insert(sys::epoch_index_trusted_insert, self.bytes.as_mut(), id, point)
+    }
+
+    /// Deletes an identifier with its point.
+    pub fn delete(&mut self, id: u32) -> Result<(), Refusal> {
+        acts::delete(sys::epoch_index_trusted_delete, self.bytes.as_mut(), id)
+    }
+}
+
+#[cfg(test)]
+mod tests;

@@ -1,0 +1,105 @@
+//! The refusal table.
+use std::error::Error;
+use std::fmt;
+
+/// Why an act was refused. A refusal changes nothing: index, rows and tally are as they were.
+#[derive(Clone, Copy, Debug, PartialEq, Eq, Hash)]
+#[repr(u32)]
+pub enum Refusal {
+    BadLength = 1,
+    Unsound = 2,
+    BadFeatures = 3,
+    BadCoordinate = 4,
+    ZeroIdentifier = 5,
+    AlreadyLive = 6,
+    NotLive = 7,
+    Full = 8,
+    NoPages = 9,
+    BadK = 10,
+    FewRows = 11,
+    NoPageToEven = 12,
+    /// The acts program alone gives it, to a line of its input.
+    UnreadableLine = 13,
+}
+
+impl Refusal {
+    /// Every refusal, in the order of their numbers from 1 on.
+    pub const ALL: [Refusal; 13] = [
+        Refusal::BadLength,
+        Refusal::Unsound,
+        Refusal::BadFeatures,
+        Refusal::BadCoordinate,
+        Refusal::ZeroIdentifier,
+        Refusal::AlreadyLive,
+        Refusal::NotLive,
+        Refusal::Full,
+        Refusal::NoPages,
+        Refusal::BadK,
+        Refusal::FewRows,
+        Refusal::NoPageToEven,
+        Refusal::UnreadableLine,
+    ];
+
+    /// The number in the table.
+    pub fn code(self) -> u32 {
+        self as u32
+    }
+
+    /// What an act's number says: 0 is success.
+    pub(crate) fn of(code: u32) -> Result<(), Refusal> {
+        if code == 0 {
+            return Ok(());
+        }
+        let row = Refusal::ALL.iter().find(|refusal| refusal.code() == code);
+        Err(*row.expect("an act returns 0 or a number of the table"))
+    }
+
+    fn words(self) -> &'static str {
+        match self {
+            Refusal::BadLength => "index length isn't a permitted number of whole pages",
+            Refusal::Unsound => "index isn't sound",
+            Refusal::BadFeatures => "d, or the number of coordinates, is wrong",
+            Refusal::BadCoordinate => "a coordinate is out of range",
+            Refusal::ZeroIdentifier => "identifier 0",
+            Refusal::AlreadyLive => "identifier already live",
+            Refusal::NotLive => "identifier not live",
+            Refusal::Full => "65,535 points live",
+            Refusal::NoPages => "insert wants more pages than are unused or freed",
+            Refusal::BadK => "k out of range",
+            Refusal::FewRows => "fewer than k rows lent",
+            Refusal::NoPageToEven => "delete finds no page for evening out two leaves",
+            Refusal::UnreadableLine => "line not readable",
+        }
+    }
+}
+
+impl fmt::Display for Refusal {
+    fn fmt(&self, f: &mut fmt::Formatter<'_>) -> fmt::Result {
+        f.write_str(self.words())
+    }
+}
+
+impl Error for Refusal {}
+
+/// What a check found: the refusal, and with [`Refusal::Unsound`] a page at which soundness fails.
+#[derive(Clone, Copy, Debug, PartialEq, Eq, Hash)]
+pub struct Fault {
+    pub refusal: Refusal,
+    /// 0 with any other refusal.
+    pub page: u32,
+}
+
+impl fmt::Display for Fault {
+    fn fmt(&self, f: &mut fmt::Formatter<'_>) -> fmt::Result {
+        match self.refusal {
+            Refusal::Unsound => write!(f, "{}: page {}", self.refusal, self.page),
+            other => other.fmt(f),
+        }
+    }
+}
+
+impl Error for Fault {
+    fn source(&self) -> Option<&(dyn Error + 'static)> {
+        Some(&self.refusal)
+    }
+}

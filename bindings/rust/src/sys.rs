@@ -1,0 +1,58 @@
+//! The functions of libcapi.a, as include/epoch_index.h declares them.
+use crate::{Row, Tally};
+
+/// What a question returns.
+#[repr(C)]
+#[derive(Clone, Copy)]
+pub struct Answer {
+    pub code: u32,
+    pub count: usize,
+    pub leaves: u32,
+}
+
+/// An insert: checked or trusted.
+pub type Insert = unsafe extern "C" fn(index: *mut u8, length: usize, id: u32, point: *const i16, coordinates: usize) -> u32;
+
+/// A delete: checked or trusted.
+pub type Delete = unsafe extern "C" fn(index: *mut u8, length: usize, id: u32) -> u32;
+
+/// A question: checked or trusted.
+pub type Question = unsafe extern "C" fn(
+    index: *const u8,
+    length: usize,
+    point: *const i16,
+    coordinates: usize,
+    k: usize,
+    rows: *mut Row,
+    lent: usize,
+    tally: *mut Tally,
+) -> Answer;
+
+extern "C" {
+    pub fn epoch_index_make(index: *mut u8, length: usize, features: u8) -> u32;
+    pub fn epoch_index_check(index: *const u8, length: usize, page: *mut u32) -> u32;
+    pub fn epoch_index_insert(index: *mut u8, length: usize, id: u32, point: *const i16, coordinates: usize) -> u32;
+    pub fn epoch_index_delete(index: *mut u8, length: usize, id: u32) -> u32;
+    pub fn epoch_index_question(
+        index: *const u8,
+        length: usize,
+        point: *const i16,
+        coordinates: usize,
+        k: usize,
+        rows: *mut Row,
+        lent: usize,
+        tally: *mut Tally,
+    ) -> Answer;
+    pub fn epoch_index_trusted_insert(index: *mut u8, length: usize, id: u32, point: *const i16, coordinates: usize) -> u32;
+    pub fn epoch_index_trusted_delete(index: *mut u8, length: usize, id: u32) -> u32;
+    pub fn epoch_index_trusted_question(
+        index: *const u8,
+        length: usize,
+        point: *const i16,
+        coordinates: usize,
+        k: usize,
+        rows: *mut Row,
+        lent: usize,
+        tally: *mut Tally,
+    ) -> Answer;
+}

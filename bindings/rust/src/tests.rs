@@ -1,0 +1,225 @@
+//! The specification's examples, every refusal that is quick to reach, and a series of acts against a full scan.
+use super::*;
+use std::collections::BTreeMap;
+use std::error::Error;
+use std::mem::{align_of, size_of};
+
+fn bytes(pages: usize) -> Vec<u8> {
+    vec![0xa5; pages * PAGE_BYTES]
+}
+
+/// d = 1, identifiers 1..=n at 1..=n, inserted upward.
+fn upward(pages: usize, n: u32) -> Index<Vec<u8>> {
+    let mut index = Index::make(bytes(pages), 1).unwrap();
+    for id in 1..=n {
+        index.insert(id, &[id as i16]).unwrap();
+    }
+    index
+}
+
+fn ids(found: &Found) -> Vec<u32> {
+    found.rows.iter().map(|row| row.id).collect()
+}
+
+#[test]
+fn layout_is_that_of_the_header() {
+    assert_eq!((size_of::<Row>(), align_of::<Row>()), (16, 8));
+    assert_eq!((size_of::<Tally>(), align_of::<Tally>()), (8, 4));
+    assert_eq!((size_of::<sys::Answer>(), align_of::<sys::Answer>()), (24, 8));
+}
+
+#[test]
+fn refusals_have_their_numbers_and_words() {
+    for (i, refusal) in Refusal::ALL.iter().enumerate() {
+        assert_eq!(refusal.code() as usize, i + 1);
+        assert_eq!(Refusal::of(refusal.code()), Err(*refusal));
+        assert!(!refusal.to_string().is_empty());
+    }
+    assert_eq!(Refusal::of(0), Ok(()));
+    let fault = Fault { refusal: Refusal::Unsound, page: 3 };
+    assert_eq!(fault.to_string(), "index isn't sound: page 3");
+    assert_eq!(fault.source().unwrap().to_string(), "index isn't sound");
+}
+
+#[test]
+fn lengths() {
+    for length in [0, 1, 1024, 2047, 2049, 16_778_240] {
+        assert_eq!(Index::make(vec![0; length], 1).unwrap_err(), Refusal::BadLength);
+        assert_eq!(Index::open(vec![0; length]).unwrap_err(), Fault { refusal: Refusal::BadLength, page: 0 });
+    }
+    for length in [2048, 16_777_216] {
+        Index::open(Index::make(vec![0; length], 1).unwrap().into_bytes()).unwrap();
+    }
+    assert_eq!(Index::make(bytes(2), 0).unwrap_err(), Refusal::BadFeatures);
+    assert_eq!(Index::make(bytes(2), 17).unwrap_err(), Refusal::BadFeatures);
+}
+
+#[test]
+fn leaves_read() {
+    let index = upward(4, 17);
+    let mut tally = Tally::default();
+    let cases: [(i16, usize, &[u32], u32); 3] = [(9, 1, &[9], 1), (9, 2, &[9, 8], 2), (1, 9, &[1, 2, 3, 4, 5, 6, 7, 8, 9], 1)];
+    for (from, k, rows, leaves) in cases {
+        let found = index.question(&[from], k, &mut tally).unwrap();
+        assert_eq!((ids(&found), found.leaves), (rows.to_vec(), leaves));
+    }
+    let all = index.question(&[1], 18, &mut tally).unwrap();
+    assert_eq!((all.rows.len(), all.leaves), (17, 2));
+    assert_eq!(all.rows[16], Row { distance: 256, id: 17, position: 1 });
+    assert_eq!(tally, Tally { questions: 4, leaves: 6 });
+}
+
+#[test]
+fn pages_run_out_and_come_back() {
+    let mut index = upward(3, 16);
+    assert_eq!(index.insert(17, &[17]), Err(Refusal::NoPages));
+    let mut index = upward(4, 17);
+    index.delete(17).unwrap();
+    let all = index.question(&[1], 16, &mut Tally::default()).unwrap();
+    assert_eq!(all.rows.iter().filter(|row| row.position == 0).count(), 8);
+    index.delete(16).unwrap();
+    assert_eq!(index.question(&[1], 16, &mut Tally::default()).unwrap().leaves, 1);
+    for id in 16..=17 {
+        index.insert(id, &[id as i16]).unwrap();
+    }
+    index.check().unwrap();
+}
+
+#[test]
+fn refused_acts_change_nothing() {
+    let mut index = upward(4, 17);
+    let before = index.as_bytes().to_vec();
+    let mut tally = Tally { questions: 5, leaves: 6 };
+    let mut rows = [Row { distance: 1, id: 2, position: 3 }; 2];
+    assert_eq!(index.insert(18, &[1, 2]), Err(Refusal::BadFeatures));
+    assert_eq!(index.insert(18, &[1001]), Err(Refusal::BadCoordinate));
+    assert_eq!(index.insert(0, &[1]), Err(Refusal::ZeroIdentifier));
+    assert_eq!(index.insert(17, &[1]), Err(Refusal::AlreadyLive));
+    assert_eq!(index.delete(0), Err(Refusal::ZeroIdentifier));
+    assert_eq!(index.delete(18), Err(Refusal::NotLive));
+    assert_eq!(index.question_into(&[], 1, &mut rows, &mut tally), Err(Refusal::BadFeatures));
+    assert_eq!(index.question_into(&[-1001], 1, &mut rows, &mut tally), Err(Refusal::BadCoordinate));
+    assert_eq!(index.question_into(&[1], 0, &mut rows, &mut tally), Err(Refusal::BadK));
+    assert_eq!(index.question_into(&[1], 65, &mut rows, &mut tally), Err(Refusal::BadK));
+    assert_eq!(index.question_into(&[1], usize::MAX, &mut [], &mut tally), Err(Refusal::BadK));
+    assert_eq!(index.question_into(&[1], 3, &mut rows, &mut tally), Err(Refusal::FewRows));
+    assert_eq!(index.question(&[1], 65, &mut tally), Err(Refusal::BadK));
+    assert_eq!(index.as_bytes(), before);
+    assert_eq!(rows, [Row { distance: 1, id: 2, position: 3 }; 2]);
+    assert_eq!(tally, Tally { questions: 5, leaves: 6 });
+}
+
+#[test]
+fn rows_past_those_returned_keep_their_contents() {
+    let index = upward(2, 1);
+    let mark = Row { distance: 7, id: 8, position: 9 };
+    let mut rows = [mark; 3];
+    let mut tally = Tally { questions: u32::MAX, leaves: u32::MAX - 1 };
+    assert_eq!(index.question_into(&[4], 2, &mut rows, &mut tally), Ok((1, 1)));
+    assert_eq!(rows, [Row { distance: 9, id: 1, position: 0 }, mark, mark]);
+    assert_eq!(tally, Tally { questions: u32::MAX, leaves: u32::MAX });
+}
+
+#[test]
+fn a_damaged_index_is_refused() {
+    let mut damaged = upward(4, 17).into_bytes();
+    damaged[2 * PAGE_BYTES + 5] ^= 0xff;
+    let copy = damaged.clone();
+    let mut index = Index::over(&mut damaged[..]);
+    let fault = index.check().unwrap_err();
+    assert_eq!(fault.refusal, Refusal::Unsound);
+    assert!((1..4).contains(&fault.page));
+    assert_eq!(index.insert(18, &[18]), Err(Refusal::Unsound));
+    assert_eq!(index.delete(1), Err(Refusal::Unsound));
+    assert_eq!(index.question(&[1], 1, &mut Tally::default()), Err(Refusal::Unsound));
+    assert_eq!(Index::open(&copy).unwrap_err(), fault);
+    assert_eq!(damaged, copy);
+}
+
+/// The rows that demand looking at every point.
+fn full_scan(points: &BTreeMap<u32, Vec<i16>>, asked: &[i16], k: usize) -> Vec<(u64, u32)> {
+    let squared = |p: &[i16]| p.iter().zip(asked).map(|(a, b)| (i64::from(*a) - i64::from(*b)).pow(2) as u64).sum();
+    let mut rows: Vec<(u64, u32)> = points.iter().map(|(id, p)| (squared(p), *id)).collect();
+    rows.sort_unstable();
+    rows.truncate(k);
+    rows
+}
+
+struct Random(u64);
+
+impl Random {
+    fn below(&mut self, n: u64) -> u64 {
+        self.0 = self.0.wrapping_mul(6_364_136_223_846_793_005).wrapping_add(1_442_695_040_888_963_407);
+        (self.0 >> 33) % n
+    }
+
+    fn point(&mut self, d: usize, reach: u64) -> Vec<i16> {
+        (0..d).map(|_| self.below(2 * reach + 1) as i16 - reach as i16).collect()
+    }
+}
+
+/// A series of acts: the sound index and the checked one give the same answers and hold the same bytes, and questions give a full scan's rows.
+fn series(d: usize, reach: u64, seed: u64) {
+    let mut random = Random(seed);
+    let mut checked = Index::make(bytes(40), d as u8).unwrap();
+    let mut sound = Index::open(checked.as_bytes().to_vec()).unwrap();
+    let mut points: BTreeMap<u32, Vec<i16>> = BTreeMap::new();
+    let (mut tally, mut sound_tally) = (Tally::default(), Tally::default());
+    for _ in 0..600 {
+        let id = random.below(400) as u32;
+        let point = random.point(d, reach);
+        match random.below(4) {
+            0 | 1 => {
+                let done = checked.insert(id, &point);
+                assert_eq!(sound.insert(id, &point), done);
+                let expected = if id == 0 {
+                    Err(Refusal::ZeroIdentifier)
+                } else if points.contains_key(&id) {
+                    Err(Refusal::AlreadyLive)
+                } else {
+                    Ok(())
+                };
+                if done != Err(Refusal::NoPages) {
+                    assert_eq!(done, expected);
+                }
+                if done.is_ok() {
+                    points.insert(id, point);
+                }
+            }
+            2 => {
+                let done = checked.delete(id);
+                assert_eq!(sound.delete(id), done);
+                assert_eq!(done.is_ok(), points.remove(&id).is_some());
+            }
+            _ => {
+                let k = 1 + random.below(MAX_K as u64) as usize;
+                let found = checked.question(&point, k, &mut tally).unwrap();
+                assert_eq!(sound.question(&point, k, &mut sound_tally), Ok(found.clone()));
+                let rows: Vec<(u64, u32)> = found.rows.iter().map(|row| (row.distance, row.id)).collect();
+                assert_eq!(rows, full_scan(&points, &point, k));
+            }
+        }
+        assert_eq!(sound.as_bytes(), checked.as_bytes());
+    }
+    assert_eq!(tally, sound_tally);
+    checked.check().unwrap();
+}
+
+#[test]
+fn series_agree_with_a_full_scan() {
+    for (d, reach) in [(1, 20), (2, 3), (2, 1000), (5, 1000), (16, 1000)] {
+        series(d, reach, 1 + d as u64 * reach);
+    }
+}
+
+#[test]
+fn a_sound_index_asks_borrowed_bytes() {
+    let stored = upward(4, 17).into_bytes();
+    let sound = Index::open(&stored[..]).unwrap();
+    let mut tally = Tally::default();
+    assert_eq!(ids(&sound.question(&[9], 2, &mut tally).unwrap()), [9, 8]);
+    let mut rows = [Row::default(); 1];
+    assert_eq!(sound.question_into(&[9], 2, &mut rows, &mut tally), Err(Refusal::FewRows));
+    assert_eq!(sound.question_into(&[9], 1, &mut rows, &mut tally), Ok((1, 1)));
+    assert_eq!(tally, Tally { questions: 2, leaves: 3 });
+}

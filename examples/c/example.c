@@ -1,0 +1,47 @@
+/* A session with an index in 64 pages of its own memory: the example of the acts' text, then the check of a damaged byte. */
+#include <inttypes.h>
+#include <stdio.h>
+#include <stdlib.h>
+
+#include "epoch_index.h"
+
+#define LENGTH ((size_t)64 * EPOCH_INDEX_PAGE_BYTES)
+#define K 2
+
+static void ask(const uint8_t *index, const int16_t *point, epoch_index_tally *tally)
+{
+    epoch_index_row rows[K];
+    epoch_index_answer answer = epoch_index_question(index, LENGTH, point, 2, K, rows, K, tally);
+    printf("question: code %" PRIu32 ", %zu rows, %" PRIu32 " leaves\n", answer.code, answer.count, answer.leaves);
+    for (size_t i = 0; i < answer.count; i++)
+        printf("  id %" PRIu32 " at squared distance %" PRIu64 ", leaf %" PRIu32 "\n", rows[i].id, rows[i].distance, rows[i].position);
+}
+
+int main(void)
+{
+    const int16_t first[2] = {-300, 100}, second[2] = {100, -300}, asked[2] = {-100, -100};
+    epoch_index_tally tally = {0, 0};
+    uint32_t page = 0, code;
+    uint8_t *index = malloc(LENGTH);
+    if (index == NULL)
+        return 1;
+
+    printf("make: code %" PRIu32 "\n", epoch_index_make(index, LENGTH, 2));
+    printf("insert 7: code %" PRIu32 "\n", epoch_index_insert(index, LENGTH, 7, first, 2));
+    printf("insert 4: code %" PRIu32 "\n", epoch_index_insert(index, LENGTH, 4, second, 2));
+    printf("insert 4 again: code %" PRIu32 "\n", epoch_index_insert(index, LENGTH, 4, first, 2));
+    ask(index, asked, &tally);
+    printf("delete 7: code %" PRIu32 "\n", epoch_index_delete(index, LENGTH, 7));
+    ask(index, asked, &tally);
+    printf("tally: %" PRIu32 " questions, %" PRIu32 " leaves\n", tally.questions, tally.leaves);
+
+    code = epoch_index_check(index, LENGTH, &page);
+    printf("check: code %" PRIu32 ", page %" PRIu32 "\n", code, page);
+    index[EPOCH_INDEX_PAGE_BYTES] ^= 0xff;
+    code = epoch_index_check(index, LENGTH, &page);
+    printf("check of a damaged page: code %" PRIu32 ", page %" PRIu32 "\n", code, page);
+    ask(index, asked, &tally);
+
+    free(index);
+    return 0;
+}

@@ -1,0 +1,120 @@
+/*
+ * The epoch index: an exact nearest-neighbour index over bytes that the caller lends.
+ *
+ * A point is 1 to 16 whole numbers from -1,000 to 1,000 with an identifier. An index is whole pages of 1,024 bytes, and all of it lies in
+ * those bytes: they may be stored, sent and mapped as they are. Link target/staticlib/libcapi.a (x86-64 Linux), which `rt staticlib capi`
+ * writes once every function in it is proved to meet its contract.
+ *
+ * What holds of every function here:
+ * - All memory is the caller's. Nothing is allocated, and no pointer is kept after the return. There is no other state, so threads may work
+ *   on different indexes, and ask or check the same index, at the same time; a change wants the index for itself.
+ * - A run of memory is a pointer and its length in elements. A pointer is not null, even where the length is 0, is aligned for its type
+ *   and leads to that many elements. What a function writes (a pointer without const) overlaps nothing else that the call is handed.
+ * - Every value of every parameter has a defined outcome; what cannot be done is refused with a number, and a refusal changes no byte.
+ * - The bytes of an index may be anything: a damaged index is refused (number 2), never followed astray.
+ * - Stack: up to 1.5 MB for a checked act, 256 kB for a trusted one.
+ */
+#ifndef EPOCH_INDEX_H
+#define EPOCH_INDEX_H
+
+#include <stddef.h>
+#include <stdint.h>
+
+#ifdef __cplusplus
+extern "C" {
+#endif
+
+/* Limits. A length in bytes is a multiple of the page, EPOCH_INDEX_MIN_PAGES to EPOCH_INDEX_MAX_PAGES of them. */
+#define EPOCH_INDEX_PAGE_BYTES 1024
+#define EPOCH_INDEX_MIN_PAGES 2
+#define EPOCH_INDEX_MAX_PAGES 16384
+#define EPOCH_INDEX_MIN_FEATURES 1
+#define EPOCH_INDEX_MAX_FEATURES 16
+#define EPOCH_INDEX_MIN_COORDINATE (-1000)
+#define EPOCH_INDEX_MAX_COORDINATE 1000
+#define EPOCH_INDEX_MIN_ID UINT32_C(1)
+#define EPOCH_INDEX_MAX_ID UINT32_C(4294967295)
+#define EPOCH_INDEX_MIN_K 1
+#define EPOCH_INDEX_MAX_K 64
+#define EPOCH_INDEX_MAX_POINTS 65535
+
+/* The number that an act returns: 0, or the first of its numbers that applies, in the order given with the act. */
+enum epoch_index_code {
+    EPOCH_INDEX_OK = 0,
+    EPOCH_INDEX_BAD_LENGTH = 1,      /* index length isn't a permitted number of whole pages */
+    EPOCH_INDEX_UNSOUND = 2,         /* index isn't sound */
+    EPOCH_INDEX_BAD_FEATURES = 3,    /* d, or the number of coordinates, is wrong */
+    EPOCH_INDEX_BAD_COORDINATE = 4,  /* a coordinate is out of range */
+    EPOCH_INDEX_ZERO_ID = 5,         /* identifier 0 */
+    EPOCH_INDEX_ALREADY_LIVE = 6,    /* identifier already live */
+    EPOCH_INDEX_NOT_LIVE = 7,        /* identifier not live */
+    EPOCH_INDEX_FULL = 8,            /* 65,535 points live */
+    EPOCH_INDEX_NO_PAGES = 9,        /* insert wants more pages than are unused or freed */
+    EPOCH_INDEX_BAD_K = 10,          /* k out of range */
+    EPOCH_INDEX_FEW_ROWS = 11,       /* fewer than k rows lent */
+    EPOCH_INDEX_NO_PAGE_TO_EVEN = 12 /* delete finds no page for evening out two leaves: never given, since evening out takes none */
+};
+
+/* A record that a question found: its squared distance from the asked point, its identifier, and the position (0, 1, 2 .. in key order) of
+ * the leaf that holds it. */
+typedef struct epoch_index_row {
+    uint64_t distance;
+    uint32_t id;
+    uint32_t position;
+} epoch_index_row;
+
+/* A caller's tally: the questions carried out and the leaves that they read. It begins as two zeros; each stays at 4,294,967,295 once it
+ * would pass it. */
+typedef struct epoch_index_tally {
+    uint32_t questions;
+    uint32_t leaves;
+} epoch_index_tally;
+
+/* What a question returns: its number, how many rows it wrote, and how many leaves it read; refused, 0 rows and 0 leaves. */
+typedef struct epoch_index_answer {
+    uint32_t code;
+    size_t count;
+    uint32_t leaves;
+} epoch_index_answer;
+
+/* Makes an empty index of `features` features in the `length` bytes lent, whatever they hold. Page 0 becomes its header and page 1 an empty
+ * leaf; the other pages keep their bytes until they are used. Numbers: 1, 3. */
+uint32_t epoch_index_make(uint8_t *index, size_t length, uint8_t features);
+
+/* Inserts the identifier `id` with the `coordinates` numbers of `point`. Numbers: 1, 2, 3, 4, 5, 6, 8, 9. */
+uint32_t epoch_index_insert(uint8_t *index, size_t length, uint32_t id, const int16_t *point, size_t coordinates);
+
+/* Deletes the identifier `id` with its point. Numbers: 1, 2, 5, 7. */
+uint32_t epoch_index_delete(uint8_t *index, size_t length, uint32_t id);
+
+/* Asks for the `k` records nearest to `point`. They are written to the first `count` of the `lent` rows, nearest first, equal distances by
+ * lower identifier: k of them, or all if fewer are live; rows past those keep their contents. The tally counts the question and the
+ * leaves it read. Refused, rows and tally stay as they are. Numbers: 1, 2, 3, 4, 10, 11. */
+epoch_index_answer epoch_index_question(const uint8_t *index, size_t length, const int16_t *point, size_t coordinates, size_t k,
+                                        epoch_index_row *rows, size_t lent, epoch_index_tally *tally);
+
+/* Checks whether an index is sound: it looks at every page. With 2, `*page` is a page at which soundness fails, else 0. Numbers: 1, 2. */
+uint32_t epoch_index_check(const uint8_t *index, size_t length, uint32_t *page);
+
+/*
+ * The same three acts without the check, which costs an act above far more than its own work.
+ *
+ * The caller's duty: this index was checked once with result 0 (epoch_index_check, or made by epoch_index_make), and since then nothing
+ * but the functions of this header has changed a byte of it.
+ *
+ * Where the duty is kept each returns and leaves exactly what the act of the same name does, and the index stays sound. Where it is
+ * broken no memory but the memory lent is touched and the call still ends, but rows, count and the bytes left of the index mean nothing.
+ * Each tests all else that the act tests; the numbers are the act's without 2.
+ */
+uint32_t epoch_index_trusted_insert(uint8_t *index, size_t length, uint32_t id, const int16_t *point, size_t coordinates);
+
+uint32_t epoch_index_trusted_delete(uint8_t *index, size_t length, uint32_t id);
+
+epoch_index_answer epoch_index_trusted_question(const uint8_t *index, size_t length, const int16_t *point, size_t coordinates, size_t k,
+                                                epoch_index_row *rows, size_t lent, epoch_index_tally *tally);
+
+#ifdef __cplusplus
+}
+#endif
+
+#endif
