@@ -5,9 +5,13 @@ ghost use Rattle.index.specs.CheckAnswers.{CheckAnswer};
 ghost use Rattle.index.specs.Refusals.{First, makeRules, insertRules, deleteRules};
 ghost use Rattle.index.specs.Outcomes.{madeWith, insertedWith, deletedWith};
 ghost use Rattle.index.specs.Questions.{Questioned};
+ghost use Rattle.index.specs.Trusted.{trustedInsert, trustedDelete, TrustedAsked, TrustedQuestioned};
 use candidates::Row;
+use index::trusted;
 use lending::Answer;
+use lending::Outcome;
 use lending::Tally;
+use lending::deliver;
 use search::Query;
 
 // Makes an empty index of some features in the bytes lent.
@@ -57,4 +61,42 @@ pub extern "C" fn epoch_index_question(
 {
     let query = Query { k: k };
     index::question(index, point, query, rows, tally)
+}
+
+// Inserts an identifier with its point, without the check.
+#[no_mangle]
+pub extern "C" fn epoch_index_trusted_insert(index: &mut [u8], id: u32, point: &[i16]) -> u32
+    ensures { λ r. ⌜ First (trustedInsert (now (index .entry)) id (now (point .entry))) r × (now (index .exit) ≡ insertedWith r (now (index .entry)) id (now (point .entry))) ⌝ }
+{
+    trusted::insert(index, id, point)
+}
+
+// Deletes an identifier with its point, without the check.
+#[no_mangle]
+pub extern "C" fn epoch_index_trusted_delete(index: &mut [u8], id: u32) -> u32
+    ensures { λ r. ⌜ First (trustedDelete (now (index .entry)) id) r × (now (index .exit) ≡ deletedWith r (now (index .entry)) id) ⌝ }
+{
+    trusted::delete(index, id)
+}
+
+// A question without the check, by value.
+fn trusted_outcome(index: &[u8], point: &[i16], k: usize, lent: usize) -> Outcome
+    ensures { λ o. ⌜ TrustedAsked (now (index .entry)) (now (point .entry)) k lent o ⌝ }
+{
+    trusted::question_outcome(index, point, Query { k: k }, lent)
+}
+
+// The question without the check.
+#[no_mangle]
+pub extern "C" fn epoch_index_trusted_question(
+    index: &[u8],
+    point: &[i16],
+    k: usize,
+    rows: &mut [Row],
+    tally: &mut Tally,
+) -> Answer
+    ensures { λ r. ⌜ TrustedQuestioned (now (index .entry)) (now (point .entry)) k (now (rows .entry)) (now (tally .entry)) r (now (rows .exit)) (now (tally .exit)) ⌝ }
+{
+    let o = trusted_outcome(index, point, k, rows.len());
+    deliver(rows, tally, o)
 }
