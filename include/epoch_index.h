@@ -11,8 +11,8 @@
  * - A run of memory is a pointer and its length in elements. A pointer is not null, even where the length is 0, is aligned for its type
  *   and leads to that many elements. What a function writes (a pointer without const) overlaps nothing else that the call is handed.
  * - Every value of every parameter has a defined outcome; what cannot be done is refused with a number, and a refusal changes no byte.
- * - The bytes of an index may be anything: a damaged index is refused (number 2), never followed astray.
- * - Stack: up to 1.5 MB for a checked act, 256 kB for a trusted one.
+ * - The bytes of an index may be anything: an act refuses a damaged index (number 2) and is never led astray by it.
+ * - Stack: up to 1.5 MB for an act, 512 kB for one without the check, whatever the bytes hold.
  */
 #ifndef EPOCH_INDEX_H
 #define EPOCH_INDEX_H
@@ -41,18 +41,19 @@ extern "C" {
 /* The number that an act returns: 0, or the first of its numbers that applies, in the order given with the act. */
 enum epoch_index_code {
     EPOCH_INDEX_OK = 0,
-    EPOCH_INDEX_BAD_LENGTH = 1,      /* index length isn't a permitted number of whole pages */
-    EPOCH_INDEX_UNSOUND = 2,         /* index isn't sound */
-    EPOCH_INDEX_BAD_FEATURES = 3,    /* d, or the number of coordinates, is wrong */
-    EPOCH_INDEX_BAD_COORDINATE = 4,  /* a coordinate is out of range */
-    EPOCH_INDEX_ZERO_ID = 5,         /* identifier 0 */
-    EPOCH_INDEX_ALREADY_LIVE = 6,    /* identifier already live */
-    EPOCH_INDEX_NOT_LIVE = 7,        /* identifier not live */
-    EPOCH_INDEX_FULL = 8,            /* 65,535 points live */
-    EPOCH_INDEX_NO_PAGES = 9,        /* insert wants more pages than are unused or freed */
-    EPOCH_INDEX_BAD_K = 10,          /* k out of range */
-    EPOCH_INDEX_FEW_ROWS = 11,       /* fewer than k rows lent */
-    EPOCH_INDEX_NO_PAGE_TO_EVEN = 12 /* delete finds no page for evening out two leaves: never given, since evening out takes none */
+    EPOCH_INDEX_BAD_LENGTH = 1,       /* index length isn't a permitted number of whole pages */
+    EPOCH_INDEX_UNSOUND = 2,          /* index isn't sound */
+    EPOCH_INDEX_BAD_FEATURES = 3,     /* d, or the number of coordinates, is wrong */
+    EPOCH_INDEX_BAD_COORDINATE = 4,   /* a coordinate is out of range */
+    EPOCH_INDEX_ZERO_ID = 5,          /* identifier 0 */
+    EPOCH_INDEX_ALREADY_LIVE = 6,     /* identifier already live */
+    EPOCH_INDEX_NOT_LIVE = 7,         /* identifier not live */
+    EPOCH_INDEX_FULL = 8,             /* 65,535 points live */
+    EPOCH_INDEX_NO_PAGES = 9,         /* insert wants more pages than are unused or freed */
+    EPOCH_INDEX_BAD_K = 10,           /* k out of range */
+    EPOCH_INDEX_FEW_ROWS = 11,        /* fewer than k rows lent */
+    EPOCH_INDEX_NO_PAGE_TO_EVEN = 12, /* delete finds no page for evening out two leaves (not given: evening out takes no page) */
+    EPOCH_INDEX_UNREADABLE_LINE = 13  /* program: line not readable (not given here) */
 };
 
 /* A record that a question found: its squared distance from the asked point, its identifier, and the position (0, 1, 2 .. in key order) of
@@ -97,19 +98,23 @@ epoch_index_answer epoch_index_question(const uint8_t *index, size_t length, con
 uint32_t epoch_index_check(const uint8_t *index, size_t length, uint32_t *page);
 
 /*
- * The same three acts without the check, which costs an act above far more than its own work.
+ * Three acts without the check, which looks at every page and so costs an act above far more than its own work.
  *
- * The caller's duty: this index was checked once with result 0 (epoch_index_check, or made by epoch_index_make), and since then nothing
- * but the functions of this header has changed a byte of it.
+ * The caller's duty: the index was checked once with code 0 (epoch_index_check), or made with code 0 (epoch_index_make), and since then
+ * has been changed by nothing but the functions of this header.
  *
- * Where the duty is kept each returns and leaves exactly what the act of the same name does, and the index stays sound. Where it is
- * broken no memory but the memory lent is touched and the call still ends, but rows, count and the bytes left of the index mean nothing.
- * Each tests all else that the act tests; the numbers are the act's without 2.
+ * Where the duty is kept each returns and leaves exactly what the act of the same name does, and the index stays sound. Where it is broken
+ * a call still ends and touches nothing but the memory lent, but its rows, its count and the bytes it leaves mean nothing, and an insert or
+ * a delete may take very long: it looks for its identifier along every path of the damaged tree. Check an index that comes from elsewhere.
+ * Everything else is tested as in the act: the numbers are the act's without 2.
  */
+/* Numbers: 1, 3, 4, 5, 6, 8, 9. */
 uint32_t epoch_index_trusted_insert(uint8_t *index, size_t length, uint32_t id, const int16_t *point, size_t coordinates);
 
+/* Numbers: 1, 5, 7. */
 uint32_t epoch_index_trusted_delete(uint8_t *index, size_t length, uint32_t id);
 
+/* Numbers: 1, 3, 4, 10, 11. */
 epoch_index_answer epoch_index_trusted_question(const uint8_t *index, size_t length, const int16_t *point, size_t coordinates, size_t k,
                                                 epoch_index_row *rows, size_t lent, epoch_index_tally *tally);
 

@@ -1,4 +1,4 @@
-/* A session with an index in 64 pages of its own memory: the example of the acts' text, then the check of a damaged byte. */
+/* A session with an index in 64 pages: acts that check the index each time, then one check and acts without it, then a damaged byte. */
 #include <inttypes.h>
 #include <stdio.h>
 #include <stdlib.h>
@@ -8,10 +8,8 @@
 #define LENGTH ((size_t)64 * EPOCH_INDEX_PAGE_BYTES)
 #define K 2
 
-static void ask(const uint8_t *index, const int16_t *point, epoch_index_tally *tally)
+static void print(epoch_index_answer answer, const epoch_index_row *rows)
 {
-    epoch_index_row rows[K];
-    epoch_index_answer answer = epoch_index_question(index, LENGTH, point, 2, K, rows, K, tally);
     printf("question: code %" PRIu32 ", %zu rows, %" PRIu32 " leaves\n", answer.code, answer.count, answer.leaves);
     for (size_t i = 0; i < answer.count; i++)
         printf("  id %" PRIu32 " at squared distance %" PRIu64 ", leaf %" PRIu32 "\n", rows[i].id, rows[i].distance, rows[i].position);
@@ -19,9 +17,10 @@ static void ask(const uint8_t *index, const int16_t *point, epoch_index_tally *t
 
 int main(void)
 {
-    const int16_t first[2] = {-300, 100}, second[2] = {100, -300}, asked[2] = {-100, -100};
+    const int16_t first[2] = {-300, 100}, second[2] = {100, -300}, third[2] = {-90, -90}, asked[2] = {-100, -100};
+    epoch_index_row rows[K];
     epoch_index_tally tally = {0, 0};
-    uint32_t page = 0, code;
+    uint32_t page, code;
     uint8_t *index = malloc(LENGTH);
     if (index == NULL)
         return 1;
@@ -30,17 +29,22 @@ int main(void)
     printf("insert 7: code %" PRIu32 "\n", epoch_index_insert(index, LENGTH, 7, first, 2));
     printf("insert 4: code %" PRIu32 "\n", epoch_index_insert(index, LENGTH, 4, second, 2));
     printf("insert 4 again: code %" PRIu32 "\n", epoch_index_insert(index, LENGTH, 4, first, 2));
-    ask(index, asked, &tally);
+    print(epoch_index_question(index, LENGTH, asked, 2, K, rows, K, &tally), rows);
     printf("delete 7: code %" PRIu32 "\n", epoch_index_delete(index, LENGTH, 7));
-    ask(index, asked, &tally);
-    printf("tally: %" PRIu32 " questions, %" PRIu32 " leaves\n", tally.questions, tally.leaves);
 
     code = epoch_index_check(index, LENGTH, &page);
     printf("check: code %" PRIu32 ", page %" PRIu32 "\n", code, page);
-    index[EPOCH_INDEX_PAGE_BYTES] ^= 0xff;
+    if (code == EPOCH_INDEX_OK) {
+        printf("insert 9: code %" PRIu32 "\n", epoch_index_trusted_insert(index, LENGTH, 9, third, 2));
+        print(epoch_index_trusted_question(index, LENGTH, asked, 2, K, rows, K, &tally), rows);
+        printf("delete 4: code %" PRIu32 "\n", epoch_index_trusted_delete(index, LENGTH, 4));
+    }
+    printf("tally: %" PRIu32 " questions, %" PRIu32 " leaves\n", tally.questions, tally.leaves);
+
+    index[EPOCH_INDEX_PAGE_BYTES + 9] = 0xff;
     code = epoch_index_check(index, LENGTH, &page);
     printf("check of a damaged page: code %" PRIu32 ", page %" PRIu32 "\n", code, page);
-    ask(index, asked, &tally);
+    print(epoch_index_question(index, LENGTH, asked, 2, K, rows, K, &tally), rows);
 
     free(index);
     return 0;

@@ -26,7 +26,14 @@ pub fn delete(act: sys::Delete, index: &mut [u8], id: u32) -> Result<(), Refusal
 }
 
 /// The number of rows written, and the leaves read.
-pub fn question(act: sys::Question, index: &[u8], point: &[i16], k: usize, rows: &mut [Row], tally: &mut Tally) -> Result<(usize, u32), Refusal> {
+pub fn question(
+    act: sys::Question,
+    index: &[u8],
+    point: &[i16],
+    k: usize,
+    rows: &mut [Row],
+    tally: &mut Tally,
+) -> Result<(usize, u32), Refusal> {
     // SAFETY: pointers and lengths are those of four borrows; `rows` and `tally` are borrowed alone, so they overlap nothing. `Row` and
     // `Tally` have C's layout. Either question ends within them whatever the index holds.
     let answer = unsafe { act(index.as_ptr(), index.len(), point.as_ptr(), point.len(), k, rows.as_mut_ptr(), rows.len(), tally) };

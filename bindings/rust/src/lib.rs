@@ -7,7 +7,7 @@
 //! - [`Index`]: five acts, each of which checks the whole index first and so is right about any bytes.
 //! - [`SoundIndex`]: checked once, by [`Index::open`], and changed by nothing but its own methods, which therefore need no check.
 //!
-//! A checked act takes up to 1.5 MB of stack, which fits a thread of std's (2 MB), and one of a [`SoundIndex`] 256 kB.
+//! An act takes up to 1.5 MB of stack, which fits a thread of std's (2 MB), and one of a [`SoundIndex`] up to 512 kB.
 #![deny(unsafe_op_in_unsafe_fn)]
 #![warn(missing_docs)]
 

@@ -6,19 +6,31 @@ use std::fmt;
 #[derive(Clone, Copy, Debug, PartialEq, Eq, Hash)]
 #[repr(u32)]
 pub enum Refusal {
+    /// Index length isn't a permitted number of whole pages.
     BadLength = 1,
+    /// Index isn't sound.
     Unsound = 2,
+    /// d, or the number of coordinates, is wrong.
     BadFeatures = 3,
+    /// A coordinate is out of range.
     BadCoordinate = 4,
+    /// Identifier 0.
     ZeroIdentifier = 5,
+    /// Identifier already live.
     AlreadyLive = 6,
+    /// Identifier not live.
     NotLive = 7,
+    /// 65,535 points live.
     Full = 8,
+    /// Insert wants more pages than are unused or freed.
     NoPages = 9,
+    /// k out of range.
     BadK = 10,
+    /// Fewer than k rows lent.
     FewRows = 11,
+    /// Delete finds no page for evening out two leaves.
     NoPageToEven = 12,
-    /// The acts program alone gives it, to a line of its input.
+    /// Line not readable: the acts program alone gives it.
     UnreadableLine = 13,
 }
 
@@ -84,8 +96,9 @@ impl Error for Refusal {}
 /// What a check found: the refusal, and with [`Refusal::Unsound`] a page at which soundness fails.
 #[derive(Clone, Copy, Debug, PartialEq, Eq, Hash)]
 pub struct Fault {
+    /// Its number.
     pub refusal: Refusal,
-    /// 0 with any other refusal.
+    /// The page; 0 with any other refusal.
     pub page: u32,
 }
 

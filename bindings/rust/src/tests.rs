@@ -136,7 +136,7 @@ fn a_damaged_index_is_refused() {
     assert_eq!(damaged, copy);
 }
 
-/// The rows that demand looking at every point.
+/// The nearest by a look at every point.
 fn full_scan(points: &BTreeMap<u32, Vec<i16>>, asked: &[i16], k: usize) -> Vec<(u64, u32)> {
     let squared = |p: &[i16]| p.iter().zip(asked).map(|(a, b)| (i64::from(*a) - i64::from(*b)).pow(2) as u64).sum();
     let mut rows: Vec<(u64, u32)> = points.iter().map(|(id, p)| (squared(p), *id)).collect();
@@ -222,4 +222,48 @@ fn a_sound_index_asks_borrowed_bytes() {
     assert_eq!(sound.question_into(&[9], 2, &mut rows, &mut tally), Err(Refusal::FewRows));
     assert_eq!(sound.question_into(&[9], 1, &mut rows, &mut tally), Ok((1, 1)));
     assert_eq!(tally, Tally { questions: 2, leaves: 3 });
+}
+
+/// A damaged index that leads 255 levels down, each page with some entries for the next: every recursion goes as deep as it can.
+fn deepest(entries: usize) -> Vec<u8> {
+    let mut index = upward(300, 1).into_bytes();
+    index[8..12].copy_from_slice(&1u32.to_le_bytes());
+    index[12] = 255;
+    index[24..28].copy_from_slice(&257u32.to_le_bytes());
+    for page in 1..=256u32 {
+        let at = page as usize * PAGE_BYTES;
+        index[at..at + PAGE_BYTES].fill(0);
+        index[at] = (256 - page) as u8;
+        index[at + 1] = entries as u8;
+        for entry in 0..entries * usize::from(page < 256) {
+            index[at + 4 + 20 * entry..][..4].copy_from_slice(&(page + 1).to_le_bytes());
+        }
+    }
+    index
+}
+
+fn on_stack<T: Send + 'static>(bytes: usize, run: impl FnOnce() -> T + Send + 'static) -> T {
+    std::thread::Builder::new().stack_size(bytes).spawn(run).unwrap().join().unwrap()
+}
+
+#[test]
+fn acts_keep_to_their_stack() {
+    on_stack(1536 * 1024, || {
+        let mut index = Index::over(deepest(8));
+        assert_eq!(index.check().unwrap_err().refusal, Refusal::Unsound);
+        assert_eq!(index.insert(2, &[2]), Err(Refusal::Unsound));
+        assert_eq!(index.delete(1), Err(Refusal::Unsound));
+        assert_eq!(index.question(&[1], 64, &mut Tally::default()), Err(Refusal::Unsound));
+        let mut sound = upward(4, 17);
+        sound.insert(18, &[18]).unwrap();
+        sound.delete(1).unwrap();
+        sound.question(&[1], 64, &mut Tally::default()).unwrap();
+    });
+    on_stack(512 * 1024, || {
+        let mut bytes = deepest(1);
+        // what they do to a damaged index means nothing; here they only have to end
+        let _ = acts::insert(sys::epoch_index_trusted_insert, &mut bytes, 2, &[2]);
+        let _ = acts::delete(sys::epoch_index_trusted_delete, &mut bytes, 2);
+        let _ = found(sys::epoch_index_trusted_question, &bytes, &[1], 64, &mut Tally::default());
+    });
 }
