@@ -5,13 +5,11 @@ ghost use Rattle.index.specs.CheckAnswers.{CheckAnswer};
 ghost use Rattle.index.specs.Refusals.{First, makeRules, insertRules, deleteRules};
 ghost use Rattle.index.specs.Outcomes.{madeWith, insertedWith, deletedWith};
 ghost use Rattle.index.specs.Questions.{Questioned};
-ghost use Rattle.index.specs.Trusted.{trustedInsert, trustedDelete, TrustedAsked, TrustedQuestioned};
+ghost use Rattle.index.specs.Trusted.{trustedInsert, trustedDelete, TrustedQuestioned};
 use candidates::Row;
 use index::trusted;
 use lending::Answer;
-use lending::Outcome;
 use lending::Tally;
-use lending::deliver;
 use search::Query;
 
 // Makes an empty index of some features in the bytes lent.
@@ -79,13 +77,6 @@ pub extern "C" fn epoch_index_trusted_delete(index: &mut [u8], id: u32) -> u32
     trusted::delete(index, id)
 }
 
-// A question without the check, by value.
-fn trusted_outcome(index: &[u8], point: &[i16], k: usize, lent: usize) -> Outcome
-    ensures { λ o. ⌜ TrustedAsked (now (index .entry)) (now (point .entry)) k lent o ⌝ }
-{
-    trusted::question_outcome(index, point, Query { k: k }, lent)
-}
-
 // The question without the check.
 #[no_mangle]
 pub extern "C" fn epoch_index_trusted_question(
@@ -97,6 +88,6 @@ pub extern "C" fn epoch_index_trusted_question(
 ) -> Answer
     ensures { λ r. ⌜ TrustedQuestioned (now (index .entry)) (now (point .entry)) k (now (rows .entry)) (now (tally .entry)) r (now (rows .exit)) (now (tally .exit)) ⌝ }
 {
-    let o = trusted_outcome(index, point, k, rows.len());
-    deliver(rows, tally, o)
+    let query = Query { k: k };
+    trusted::question(index, point, query, rows, tally)
 }
