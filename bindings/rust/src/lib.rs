@@ -7,6 +7,17 @@
 //! - [`Index`]: five acts, each of which checks the whole index first and so is right about any bytes.
 //! - [`SoundIndex`]: checked once, by [`Index::open`], and changed by nothing but its own methods, which therefore need no check.
 //!
+//! ```
+//! use epoch_index::{Index, Refusal, Tally, PAGE_BYTES};
+//!
+//! let mut index = Index::make(vec![0; 64 * PAGE_BYTES], 2)?;
+//! index.insert(7, &[-300, 100])?;
+//! index.insert(4, &[100, -300])?;
+//! let found = index.question(&[-100, -90], 1, &mut Tally::default())?;
+//! assert_eq!((found.rows[0].id, found.rows[0].distance, found.leaves), (7, 76_100, 1));
+//! # Ok::<(), Refusal>(())
+//! ```
+//!
 //! An act takes up to 1.5 MB of stack, which fits a thread of std's (2 MB), and one of a [`SoundIndex`] up to 512 kB.
 #![deny(unsafe_op_in_unsafe_fn)]
 #![warn(missing_docs)]
@@ -132,6 +143,15 @@ impl<B: AsRef<[u8]> + AsMut<[u8]>> Index<B> {
 /// A sound index: [`Index::open`] has checked it, and nothing but the methods here changes its bytes.
 ///
 /// They do what those of [`Index`] do, without checking every page beforehand, and are never refused with [`Refusal::Unsound`].
+/// Bytes that it borrows cannot be changed beside it:
+///
+/// ```compile_fail
+/// # use epoch_index::{Index, Tally};
+/// let mut bytes = Index::make(vec![0; 2048], 1).unwrap().into_bytes();
+/// let sound = Index::open(&mut bytes[..]).unwrap();
+/// bytes[4] = 2;
+/// sound.question(&[0], 1, &mut Tally::default()).unwrap();
+/// ```
 #[derive(Clone, Debug)]
 pub struct SoundIndex<B> {
     bytes: B,
