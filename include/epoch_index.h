@@ -98,7 +98,7 @@ epoch_index_answer epoch_index_question(const uint8_t *index, size_t length, con
 uint32_t epoch_index_check(const uint8_t *index, size_t length, uint32_t *page);
 
 /*
- * Three acts without the check, which looks at every page and so costs an act above far more than its own work.
+ * Three acts without the check, which looks at every page and in a large index costs far more than the act itself.
  *
  * The caller's duty: the index was checked once with code 0 (epoch_index_check), or made with code 0 (epoch_index_make), and since then
  * has been changed by nothing but the functions of this header.
@@ -108,6 +108,7 @@ uint32_t epoch_index_check(const uint8_t *index, size_t length, uint32_t *page);
  * a delete may take very long: it looks for its identifier along every path of the damaged tree. Check an index that comes from elsewhere.
  * Everything else is tested as in the act: the numbers are the act's without 2.
  */
+
 /* Numbers: 1, 3, 4, 5, 6, 8, 9. */
 uint32_t epoch_index_trusted_insert(uint8_t *index, size_t length, uint32_t id, const int16_t *point, size_t coordinates);
 
