@@ -2,9 +2,9 @@
 -- Nothing is known of the bytes here, so 3 asks for d too (01: "d, or the number of coordinates, is wrong"), and 6, 7 and 8 go by what finding an
 -- identifier gives and by the header's total. On a sound index each rule is the act's (TrustedLaws).
 use mathlib.Core.Path.{_≡_}
-use mathlib.Core.Bool.{Bool, true, not}
+use mathlib.Core.Bool.{true, not}
 use mathlib.Core.Logic.{_≢_}
-use mathlib.Core.List.{List, [], _∷_, map}
+use mathlib.Core.List.{List, [], _∷_}
 use Prim.Native.Nat.{ℕ, _≤_, _<_}
 use lib.IntN.{ℤ}
 use lib.Dec.{eqb}

@@ -9,9 +9,9 @@ use crate::trusted;
 pub fn insert(index: &mut [u8], id: u32, point: &[i16]) -> u32
     ensures { λ r. ⌜ First (insertRules (now (index .entry)) id (now (point .entry))) r × (now (index .exit) ≡ insertedWith r (now (index .entry)) id (now (point .entry))) ⌝ }
 {
-    let code = refuse_index(index);
-    if code != 0 {
-        return code;
+    let checked = refuse_index(index);
+    if checked != 0 {
+        return checked;
     }
     trusted::insert(index, id, point)
 }
