@@ -98,7 +98,7 @@ epoch_index_answer epoch_index_question(const uint8_t *index, size_t length, con
 uint32_t epoch_index_check(const uint8_t *index, size_t length, uint32_t *page);
 
 /*
- * Three acts without the check, which looks at every page and in a large index costs far more than the act itself.
+ * Three acts without the check, which looks at every page and in a large index costs several times what the act itself does.
  *
  * The caller's duty: the index was checked once with code 0 (epoch_index_check), or made with code 0 (epoch_index_make), and since then
  * has been changed by nothing but the functions of this header.
