@@ -19,7 +19,7 @@ use Rattle.lending.specs.declared.Outcome.{Outcome}
 use Rattle.index.specs.Refusals.{First, insertRules, deleteRules, questionRules}
 use Rattle.index.specs.Outcomes.{insertedWith, deletedWith, foundWith, nothingFound, unlessRefused}
 use Rattle.index.specs.Acts.{Act, insert, delete, question}
-use Rattle.index.specs.Questions.{Asked}
+use Rattle.index.specs.Questions.{QuestionOutcome}
 use Rattle.acts_text.specs.declared.ActLine.{ActLine}
 use Rattle.acts_text.specs.Bytes.{Written}
 use Rattle.acts_text.specs.Output.{resultLine}
@@ -65,7 +65,7 @@ length-rows [] ts = omega arith
 length-rows (d ∷ ds) [] = omega arith
 length-rows (d ∷ ds) (t ∷ ts) = omega (arith, length-rows ds ts)
 
-module _ (b : List ℕ) (p : List ℤ) (k : ℕ) (o : Outcome) (a : Asked b p k 64 o) where
+module _ (b : List ℕ) (p : List ℤ) (k : ℕ) (o : Outcome) (a : QuestionOutcome b p k 64 o) where
   abbrev answer : Found
   answer = foundWith (o .answer .code) b p k
 
