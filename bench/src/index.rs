@@ -35,7 +35,13 @@ type Question = unsafe extern "C" fn(
 
 extern "C" {
     fn epoch_index_make(index: *mut u8, length: usize, features: u8) -> u32;
-    fn epoch_index_insert(index: *mut u8, length: usize, id: u32, point: *const i16, d: usize) -> u32;
+    fn epoch_index_insert(
+        index: *mut u8,
+        length: usize,
+        id: u32,
+        point: *const i16,
+        d: usize,
+    ) -> u32;
     fn epoch_index_delete(index: *mut u8, length: usize, id: u32) -> u32;
     fn epoch_index_check(index: *const u8, length: usize, page: *mut u32) -> u32;
     fn epoch_index_question(
@@ -58,7 +64,13 @@ extern "C" {
         lent: usize,
         tally: *mut Tally,
     ) -> Answer;
-    fn epoch_index_trusted_insert(index: *mut u8, length: usize, id: u32, point: *const i16, d: usize) -> u32;
+    fn epoch_index_trusted_insert(
+        index: *mut u8,
+        length: usize,
+        id: u32,
+        point: *const i16,
+        d: usize,
+    ) -> u32;
     fn epoch_index_trusted_delete(index: *mut u8, length: usize, id: u32) -> u32;
 }
 
@@ -80,17 +92,37 @@ impl Index {
         let mut bytes = vec![0; pages * 1024];
         let code = unsafe { epoch_index_make(bytes.as_mut_ptr(), bytes.len(), d as u8) };
         assert_eq!(code, 0);
-        Index { bytes, d, tally: Tally::default() }
+        Index {
+            bytes,
+            d,
+            tally: Tally::default(),
+        }
     }
 
     pub fn insert(&mut self, mode: Mode, id: u32, point: &[i16]) {
-        let act = if mode == Mode::Act { epoch_index_insert } else { epoch_index_trusted_insert };
-        let code = unsafe { act(self.bytes.as_mut_ptr(), self.bytes.len(), id, point.as_ptr(), point.len()) };
+        let act = if mode == Mode::Act {
+            epoch_index_insert
+        } else {
+            epoch_index_trusted_insert
+        };
+        let code = unsafe {
+            act(
+                self.bytes.as_mut_ptr(),
+                self.bytes.len(),
+                id,
+                point.as_ptr(),
+                point.len(),
+            )
+        };
         assert_eq!(code, 0);
     }
 
     pub fn delete(&mut self, mode: Mode, id: u32) {
-        let act = if mode == Mode::Act { epoch_index_delete } else { epoch_index_trusted_delete };
+        let act = if mode == Mode::Act {
+            epoch_index_delete
+        } else {
+            epoch_index_trusted_delete
+        };
         let code = unsafe { act(self.bytes.as_mut_ptr(), self.bytes.len(), id) };
         assert_eq!(code, 0);
     }
@@ -103,8 +135,11 @@ impl Index {
 
     /// The rows go to `rows`; the answer has their number and that of the leaves read.
     pub fn question(&mut self, mode: Mode, q: &[i16], k: usize, rows: &mut [Row; 64]) -> Answer {
-        let act: Question =
-            if mode == Mode::Act { epoch_index_question } else { epoch_index_trusted_question };
+        let act: Question = if mode == Mode::Act {
+            epoch_index_question
+        } else {
+            epoch_index_trusted_question
+        };
         let answer = unsafe {
             act(
                 self.bytes.as_ptr(),

@@ -45,11 +45,16 @@ fn compare(index: &mut Index, scan: &Scan, q: &[i16], k: usize) {
     let answer = index.question(Mode::Trusted, q, k, &mut rows);
     let mut kept = Vec::new();
     scan.ask(q, k, &mut kept);
-    let found: Vec<(u32, u32)> = rows[..answer.count].iter().map(|r| (r.distance as u32, r.id)).collect();
+    let found: Vec<(u32, u32)> = rows[..answer.count]
+        .iter()
+        .map(|r| (r.distance as u32, r.id))
+        .collect();
     assert_eq!(found, kept);
 }
 
+/// Some points in an index, and in what it is compared with.
 struct Case {
+    points: Vec<i16>,
     index: Index,
     scan: Scan,
     questions: Vec<i16>,
@@ -74,6 +79,7 @@ impl Case {
             leaves,
             #[cfg(others)]
             others: others::Other::all(&points, d),
+            points,
         }
     }
 
@@ -124,13 +130,24 @@ impl Case {
             compare(&mut self.index, &self.scan, &q, k);
         }
         let scan = best(ROUNDS, || self.scan_all(k, false));
-        let wide = if is_x86_feature_detected!("avx2") { best(ROUNDS, || self.scan_all(k, true)) } else { f64::NAN };
+        let wide = if is_x86_feature_detected!("avx2") {
+            best(ROUNDS, || self.scan_all(k, true))
+        } else {
+            f64::NAN
+        };
         let mut read = 0;
         let search = best(ROUNDS, || read = self.ask_all(Mode::Trusted, k, asked));
         let act = best(2, || {
             self.ask_all(Mode::Act, k, 5);
-        }) * asked as f64 / 5.0;
-        print!("| {} | {} | {n} | {k} | {} | {:.1} ", kind.name(), self.d, self.leaves, read as f64 / asked as f64);
+        }) * asked as f64
+            / 5.0;
+        print!(
+            "| {} | {} | {n} | {k} | {} | {:.1} ",
+            kind.name(),
+            self.d,
+            self.leaves,
+            read as f64 / asked as f64
+        );
         for time in [search, act, wide].into_iter().chain(self.others_all(k)) {
             print!("| {:.2} ", time / scan);
         }
@@ -140,7 +157,12 @@ impl Case {
 
 /// The number of leaves: the pages of level 0 that hold records (docs/LAYOUT.md).
 fn leaf_total(index: &Index) -> usize {
-    index.bytes.chunks(1024).skip(1).filter(|page| page[0] == 0 && page[1] > 0).count()
+    index
+        .bytes
+        .chunks(1024)
+        .skip(1)
+        .filter(|page| page[0] == 0 && page[1] > 0)
+        .count()
 }
 
 /// Seconds to touch every cache line of the index once.
@@ -155,9 +177,12 @@ fn upkeep(index: &mut Index, mode: Mode, points: &[i16], some: usize) -> (f64, f
     let (d, n) = (index.d, points.len() / index.d);
     let (mut taken, mut put) = (f64::MAX, f64::MAX);
     for _ in 0..ROUNDS {
-        taken = taken.min(best(1, || (n - some..n).for_each(|i| index.delete(mode, i as u32 + 1))));
+        taken = taken.min(best(1, || {
+            (n - some..n).for_each(|i| index.delete(mode, i as u32 + 1))
+        }));
         put = put.min(best(1, || {
-            (n - some..n).for_each(|i| index.insert(mode, i as u32 + 1, &points[i * d..(i + 1) * d]))
+            (n - some..n)
+                .for_each(|i| index.insert(mode, i as u32 + 1, &points[i * d..(i + 1) * d]))
         }));
     }
     (put / some as f64, taken / some as f64)
@@ -180,59 +205,65 @@ fn map_upkeep(points: &[i16], d: usize, some: usize) -> (f64, f64) {
     let mut map: BTreeMap<_, _> = (0..n).map(|i| (key(i), value(i))).collect();
     let (mut taken, mut put) = (f64::MAX, f64::MAX);
     for _ in 0..ROUNDS {
-        taken = taken.min(best(1, || (n - some..n).for_each(|i| assert!(map.remove(&key(i)).is_some()))));
-        put = put.min(best(1, || (n - some..n).for_each(|i| assert!(map.insert(key(i), value(i)).is_none()))));
+        taken = taken.min(best(1, || {
+            (n - some..n).for_each(|i| assert!(map.remove(&key(i)).is_some()))
+        }));
+        put = put.min(best(1, || {
+            (n - some..n).for_each(|i| assert!(map.insert(key(i), value(i)).is_none()))
+        }));
     }
     (put / some as f64, taken / some as f64)
 }
 
 /// A line of the second table.
-fn upkeep_line(d: usize, n: usize) {
-    let mut source = Source::new(Kind::Clustered, d);
-    let points = source.points(n);
-    let mut index = filled(&points, d);
-    let touched = touch(&index);
-    let check = best(ROUNDS, || index.check());
-    let (put, taken) = upkeep(&mut index, Mode::Trusted, &points, 200);
-    let (act_put, act_taken) = upkeep(&mut index, Mode::Act, &points, 5);
-    let (map_put, map_taken) = map_upkeep(&points, d, 200);
-    println!(
+fn upkeep_line(case: &mut Case, n: usize) -> String {
+    let d = case.d;
+    let touched = touch(&case.index);
+    let check = best(ROUNDS, || case.index.check());
+    let (put, taken) = upkeep(&mut case.index, Mode::Trusted, &case.points, 200);
+    let (act_put, act_taken) = upkeep(&mut case.index, Mode::Act, &case.points, 5);
+    let (map_put, map_taken) = map_upkeep(&case.points, d, 200);
+    format!(
         "| {d} | {n} | {:.1} | {:.1} | {:.1} | {:.2} | {:.2} |",
         check / touched,
         put / map_put,
         taken / map_taken,
         act_put / check,
         act_taken / check
-    );
+    )
 }
 
-fn searches() {
+/// The first table; the lines of the second are kept for later.
+fn questions(changes: &mut Vec<String>) {
     println!("## Questions, as multiples of the linear scan\n");
     print!("| points | d | n | k | leaves | leaves read | search | act | scan, AVX2 |");
-    println!("{}", if cfg!(others) { " k-d tree | flat | R*-tree |" } else { "" });
+    println!(
+        "{}",
+        if cfg!(others) {
+            " k-d tree | flat | R*-tree |"
+        } else {
+            ""
+        }
+    );
     println!("|---|{}", "---|".repeat(if cfg!(others) { 11 } else { 8 }));
     for kind in Kind::ALL {
         for d in FEATURES {
             for n in SIZES {
                 let mut case = Case::new(kind, d, n);
                 ROWS.iter().for_each(|&k| case.line(kind, n, k));
+                if kind == Kind::Clustered {
+                    changes.push(upkeep_line(&mut case, n));
+                }
             }
         }
     }
 }
 
-fn changes() {
+fn main() {
+    let mut changes = Vec::new();
+    questions(&mut changes);
     println!("\n## Check, insert and delete, clustered points\n");
     println!("| d | n | check / touch | insert / map | delete / map | insert act / check | delete act / check |");
     println!("|---|---|---|---|---|---|---|");
-    for d in FEATURES {
-        for n in SIZES {
-            upkeep_line(d, n);
-        }
-    }
-}
-
-fn main() {
-    searches();
-    changes();
+    changes.iter().for_each(|line| println!("{line}"));
 }
