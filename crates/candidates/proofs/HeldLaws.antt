@@ -1,15 +1,15 @@
 -- Laws of rows in two arrays: comparing tags, the place of a row, putting in, and what an offer leaves.
 use mathlib.Core.Path.{_≡_, refl, sym, ap, ap₂, _∙_}
 use mathlib.Core.Logic.{_≢_}
-use mathlib.Core.Bool.{true, false}
+use mathlib.Core.Bool.{Bool, true, false}
 use mathlib.Core.List.{List, [], _∷_, map}
 use Prim.Native.Nat.{ℕ, zero, suc, _+_, _*_, _-_, _/_, _%_, _≤_, _<_, min}
 use native.Mathlib.Omega.{arith}
 use lib.ListN.{length, take, drop, getD, length-take, drop-of-length-le}
 use lib.Seq.{length-take-le, getD-take}
-use lib.Dec.{ltb}
-use borrow.Author.Tests.{lt-ltb, le-ltb, le-leb, lt-leb}
-use Rattle.lists.specs.Basics.{All, none}
+use lib.Dec.{ltb, eqb}
+use borrow.Author.Tests.{lt-ltb, le-ltb, le-leb, lt-leb, ltb-true, ltb-false, eqb-false}
+use Rattle.lists.specs.Basics.{pick, tick, All, none}
 use Rattle.lists.specs.Tests.{three}
 use Rattle.lists.specs.Sorting.{count, splice, putIn, ins, offer}
 use Rattle.lists.specs.Sorting as sorting
@@ -20,7 +20,7 @@ use Rattle.bestfirst.specs.Nearest.{kth}
 use Rattle.bestfirst.specs.Nearest as nearest
 use Rattle.candidates.specs.declared.Row.{Row}
 use Rattle.candidates.specs.Rows.{rowOrder, tieOrder, tagOf, rowOf}
-use Rattle.candidates.specs.Held.{rowsOf, rowsIn, Held, Offered, Stops}
+use Rattle.candidates.specs.Held.{rowsOf, rowsIn, behindAll, Held, Offered, Stops}
 use Rattle.candidates.specs.RowLaws.{row-order}
 
 -- ---- comparing
@@ -176,6 +176,27 @@ module _ (ds ts : List ℕ) (n k : ℕ) (x : Row) (h : Held ds ts n k) where
         rows = rows;
         past = (ap (drop (m + 1)) ed ∙ drop-putIn p m d ds (omega (arith, g)), ap (drop (m + 1)) et ∙ drop-putIn p m t ts (omega (arith, g)));
       }
+
+-- a row behind the last of k rows
+chosen : (a b c : Bool) → pick a false (pick b false c) ≡ true → (a ≡ false) × (b ≡ false) × (c ≡ true)
+chosen true b c h = absurd (let z : _≡_ {A = ℕ} 0 1 = ap tick h in omega arith)
+chosen false true c h = absurd (let z : _≡_ {A = ℕ} 0 1 = ap tick h in omega arith)
+chosen false false c h = (refl, refl, h)
+
+pub offered-behind : (ds ts : List ℕ) (n k : ℕ) (x : Row) → Held ds ts n k → behindAll ds n k (x .distance) ≡ true → Offered ds ts n k x n ds ts
+unfolding before
+offered-behind ds ts n k x h b =
+    let c = chosen (ltb n k) (eqb k 0) (ltb (getD ds (k - 1) 0) (x .distance)) b in
+    let all : k ≤ n = ltb-false n k (c .0) in
+    let some : k ≢ 0 = eqb-false k 0 (c .1) in
+    let near : getD ds (k - 1) 0 < x .distance = ltb-true (getD ds (k - 1) 0) (x .distance) (c .2) in
+    let f = h .few in let r = h .room in let u = h .roomTags in
+    let w : n ≡ k = omega arith in
+    let near′ : getD ds (n - 1) 0 < x .distance = rw w near in
+    let g : Held ds ts n n = record { few = omega arith; room = omega arith; roomTags = omega arith; sorted = h .sorted } in
+    let e : n ≡ count (λ y. rowOrder y x) (rowsIn ds ts n) =
+    place-found ds ts n x g n (omega (arith, some)) (omega arith) (by-lower distance tieOrder (rowOf (getD ds (n - 1) 0) (getD ts (n - 1) 0)) x near′) (place-start ds ts n x g) in
+    none-offered ds ts n k x h (sym e ∙ w)
 
 -- a row is that of its distance and its tag
 pub row-again : (x : Row) → x .position < 4294967296 → rowOf (x .distance) (tagOf x) ≡ x

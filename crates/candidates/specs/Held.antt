@@ -1,9 +1,11 @@
 -- Rows held in two arrays: the distances, and the tags.
 use mathlib.Core.Path.{_≡_}
-use mathlib.Core.Bool.{Bool}
+use mathlib.Core.Bool.{Bool, false}
 use mathlib.Core.List.{List, [], _∷_}
-use Prim.Native.Nat.{ℕ, _≤_}
-use lib.ListN.{length, take, drop}
+use Prim.Native.Nat.{ℕ, _-_, _≤_}
+use lib.Dec.{ltb, eqb}
+use lib.ListN.{length, getD, take, drop}
+use Rattle.lists.specs.Basics.{pick}
 use Rattle.lists.specs.Sorting.{Sorted}
 use Rattle.lists.specs.Sorting as sorting
 use Rattle.bestfirst.specs.Nearest as nearest
@@ -32,6 +34,10 @@ pub record Offered (distances tags : List ℕ) (n k : ℕ) (x : Row) (r : ℕ) (
   pub held : Held distances' tags' r k
   pub rows : rowsIn distances' tags' r ≡ sorting.offer rowOrder k x (rowsIn distances tags n)
   pub past : (drop r distances' ≡ drop r distances) × (drop r tags' ≡ drop r tags)
+
+-- there are k rows, and the k-th is nearer than a distance
+abbrev pub behindAll : List ℕ → ℕ → ℕ → ℕ → Bool
+behindAll distances n k distance = pick (ltb n k) false (pick (eqb k 0) false (ltb (getD distances (k - 1) 0) distance))
 
 -- the stop test of the visit, whatever the tags and the choice of candidates
 pub record Stops (distances : List ℕ) (n k bound : ℕ) (r : Bool) : Type 0 where

@@ -4,7 +4,7 @@ ghost use Prim.Native.Nat.{_≤_, _<_, min};
 ghost use lib.ListN.{length};
 ghost use Rattle.lists.specs.Sorting.{count, putIn};
 ghost use Rattle.candidates.specs.Rows.{rowOrder, rowOf, tagOf};
-ghost use Rattle.candidates.specs.Held.{rowsIn, Held, Offered, Stops};
+ghost use Rattle.candidates.specs.Held.{rowsIn, behindAll, Held, Offered, Stops};
 
 // A row (01): the squared distance and the identifier of a record, and the position of the leaf that holds it.
 #[repr(C)]
@@ -90,12 +90,29 @@ fn lesser(a: usize, b: usize) -> usize
     if a < b { a } else { b }
 }
 
+// Whether there are k rows, the k-th of them nearer than a distance: a row that far is behind all of them.
+fn behind(distances: &[u64], n: usize, k: usize, distance: u64) -> bool
+    requires { ⌜ k ≤ length (now distances) ⌝ }
+    ensures { λ r. ⌜ r ≡ behindAll (now (distances .entry)) n k distance ⌝ }
+{
+    if n < k {
+        return false;
+    }
+    if k == 0 {
+        return false;
+    }
+    distances[k - 1] < distance
+}
+
 // Offers a row to the n rows: it is put in in row order, and the first k are kept. Returns the number of rows then.
 pub fn offer(distances: &mut [u64], tags: &mut [u64], n: usize, k: usize, row: Row) -> usize
     requires { ⌜ Held (now distances) (now tags) n k ⌝ }
     ensures { λ r. ⌜ Offered (now (distances .entry)) (now (tags .entry)) n k row r (now (distances .exit)) (now (tags .exit)) ⌝ }
 {
     let distance = row.distance;
+    if behind(distances, n, k, distance) {
+        return n;
+    }
     let tag = tag(row);
     let at = place(distances, tags, n, distance, tag);
     if at == k {

@@ -66,6 +66,13 @@ pub entry-none : (i : ℕ) → i < 16 → entryAt [] 0 ≡ getD (innerOf [] .ent
 unfolding entryAt keyAt leAt
 entry-none i h = entry-read [] i h
 
+-- a page of which each entry was read by itself
+pub inner-whole : (x : Inner) (v n : ℕ) (es : List Entry) → length (x .entries) ≡ 16 → v ≡ x .level → n ≡ x .count → es ≡ run 16 (λ k. getD (x .entries) k noEntry)
+    → _≡_ {A = Inner} (record { level = v; count = n; entries = es }) x
+inner-whole x v n es l p q e =
+    let f : es ≡ x .entries = e ∙ run-take (x .entries) noEntry 16 (omega arith) ∙ take-all 16 (x .entries) (omega arith) in
+    λ i. record { level = p i; count = q i; entries = f i }
+
 -- ---- what the writers leave: one store behind another
 
 behind : (l s t : List ℕ) (at : ℕ) (xs : List ℕ) (j : ℕ) (ys : List ℕ) → s ≡ put l at xs → t ≡ put s j ys → j ≡ at + length xs → t ≡ put l at (xs ++ ys)

@@ -217,17 +217,6 @@ pub fn empty_leaf() -> Leaf
     }
 }
 
-pub fn empty_inner() -> Inner
-    ensures { λ r. ⌜ r ≡ innerOf [] ⌝ }
-{
-    let entries = [no_entry(); 16];
-    Inner {
-        level: 0,
-        count: 0,
-        entries: entries,
-    }
-}
-
 // The leaf at a page; out of range an empty one.
 pub fn leaf_at(index: &[u8], page: u32) -> Leaf
     ensures { λ r. ⌜ r ≡ leafAt (now (index .entry)) page ⌝ }
@@ -245,12 +234,18 @@ pub fn leaf_at(index: &[u8], page: u32) -> Leaf
 pub fn inner_at(index: &[u8], page: u32) -> Inner
     ensures { λ r. ⌜ r ≡ innerAt (now (index .entry)) page ⌝ }
 {
-    if in_range(index, page) {
-        let at = page as usize * 1024;
-        let end = at + 1024;
-        read_inner(&index[at..end])
-    } else {
-        empty_inner()
+    let level = level_at(index, page);
+    let count = count_at(index, page) as usize;
+    let mut entries = [no_entry(); 16];
+    let mut i = 0;
+    while i < 16 {
+        entries[i] = entry_at(index, page, i);
+        i += 1;
+    }
+    Inner {
+        level: level,
+        count: count,
+        entries: entries,
     }
 }
 

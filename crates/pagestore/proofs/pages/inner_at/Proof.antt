@@ -1,58 +1,77 @@
-use mathlib.Core.Path.{sym, ap, _∙_}
-use native.Mathlib.Omega.{arith}
-use Rattle.pagestore.specs.Layout.{innerOf}
-use Rattle.pagestore.specs.Store.StretchLaws.{stretch-out, inner-opens}
-use Rattle.pagestore.proofs.CodeLaws.{held, part-is, part-whole}
+use mathlib.Core.Path.{_≡_, sym, _∙_}
+use Prim.Native.Nat.{_≤_, _<_, _-_}
+use lib.ListN.{length, getD, take}
+use Rattle.lists.specs.Basics.{run}
+use Rattle.lists.specs.Runs.{run-more, run-done}
+use Rattle.pagestore.specs.LayoutLaws.{noEntry}
+use Rattle.pagestore.specs.Store.{innerAt}
+use Rattle.pagestore.specs.Store.PageLaws.{inner-levels, inner-counts, entries-slots}
+use Rattle.pagestore.proofs.CodeLaws.{inner-whole}
 use borrow.Author.Needs.{needs}
 use Rattle.pagestore.proofs.pages.inner_at.Statement.{statement}
 use Rattle.pagestore.proofs.pages.inner_at.Tie as tie
 
-in-range-requires : tie.Need-in-range-requires
-in-range-requires c κs = search needs
+abbrev Inv-loop : tie.InvT-loop
+Inv-loop index page level count entries₀ i₀ entries i = (i ≤ 16) × (length entries ≡ 16) × (take i entries ≡ run i (λ k. getD (innerAt index page .entries) k noEntry))
 
-mul-at : tie.Need-mul-at
-mul-at c = search needs
+abbrev μ-loop : tie.MeasureT-loop
+μ-loop index page level count entries₀ i₀ entries i = 16 - i
 
-add-end : tie.Need-add-end
-add-end c = search needs
+level-at-requires : tie.Need-level-at-requires Inv-loop μ-loop
+level-at-requires c κs = search needs
 
-sub-read-inner : tie.Need-sub-read-inner
-sub-read-inner c = search needs
+count-at-requires : tie.Need-count-at-requires Inv-loop μ-loop
+count-at-requires c κs = search needs
 
-part-read-inner-start : tie.Need-part-read-inner-start
-part-read-inner-start c = search needs
+cast-count : tie.Need-cast-count Inv-loop μ-loop
+cast-count c = search needs
 
-part-read-inner-end : tie.Need-part-read-inner-end
-part-read-inner-end c = omega (arith, part-whole _ _ (held _ _ _ (c .before .in-range .ensures) (c .if1 .taken)))
+no-entry-requires : tie.Need-no-entry-requires Inv-loop μ-loop
+no-entry-requires c κs = search needs
 
-read-inner-requires : tie.Need-read-inner-requires
-read-inner-requires c κs = search needs
+loop-holds : tie.Need-loop-holds Inv-loop μ-loop
+unfolding run
+loop-holds c = search needs
 
-empty-inner-requires : tie.Need-empty-inner-requires
-empty-inner-requires c κs = search needs
+entry-at-requires : tie.Need-entry-at-requires Inv-loop μ-loop
+entry-at-requires c κs = search needs
 
-returns : tie.Need-returns
+mul-entries : tie.Need-mul-entries Inv-loop μ-loop
+mul-entries c = search needs
+
+array-set-from-entries : tie.Need-array-set-from-entries Inv-loop μ-loop
+array-set-from-entries c = search needs
+
+add-i : tie.Need-add-i Inv-loop μ-loop
+add-i c = search needs
+
+loop-less : tie.Need-loop-less Inv-loop μ-loop
+loop-less c = search needs
+
+loop-again : tie.Need-loop-again Inv-loop μ-loop
+loop-again c = let L = c .before .before .loop in let h : L .i < length (L .entries) = search needs in (search needs, search needs, run-more _ (L .entries) (L .i) _ h (L .inv .2) (c .entry-at .ensures))
+
+returns : tie.Need-returns Inv-loop μ-loop
 returns c =
-    c .read-inner .ensures ∙ ap innerOf
-    (part-is _ _ (held _ _ _ (c .before .before .before .in-range .ensures) (c .before .before .if1 .taken))) ∙ sym
-    (inner-opens _ _)
-
-returns-2 : tie.Need-returns-2
-returns-2 c =
-    c .empty-inner .ensures ∙ sym
-    (inner-opens _ _ ∙ ap innerOf (stretch-out _ _ (held _ _ _ (c .before .before .in-range .ensures) (c .before .if1 .left))))
+    let L = c .before .loop in let b = c .before .before .before .before .before .before .args .index .now in let p = c .before .before .before .before .before .before .args .page in
+    inner-whole (innerAt b p) _ _ _ (entries-slots b p) (c .before .before .before .before .level-at .ensures ∙ sym (inner-levels b p)) (c .before .before .before .count-at .ensures ∙ sym (inner-counts b p))
+    (run-done _ 16 (L .entries) (L .i) (L .inv .0) (c .loop-test .left) (L .inv .1) (L .inv .2))
 
 pub inner-at-spec : {M : Type 1} → statement M
 inner-at-spec =
     tie.close
     (tie.spec
-    in-range-requires
-    mul-at
-    add-end
-    sub-read-inner
-    part-read-inner-start
-    part-read-inner-end
-    read-inner-requires
-    empty-inner-requires
-    returns
-    returns-2)
+    Inv-loop
+    μ-loop
+    level-at-requires
+    count-at-requires
+    cast-count
+    no-entry-requires
+    loop-holds
+    entry-at-requires
+    mul-entries
+    array-set-from-entries
+    add-i
+    loop-less
+    loop-again
+    returns)
