@@ -104,18 +104,21 @@ uint32_t epoch_index_check(const uint8_t *index, size_t length, uint32_t *page);
  * has been changed by nothing but the functions of this header.
  *
  * Where the duty is kept each returns and leaves exactly what the act of the same name does, and the index stays sound. Where it is broken
- * a call still ends and touches nothing but the memory lent, but its rows, its count and the bytes it leaves mean nothing, and an insert or
- * a delete may take very long: it looks for its identifier along every path of the damaged tree. Check an index that comes from elsewhere.
- * Everything else is tested as in the act: the numbers are the act's without 2.
+ * a call still ends and touches nothing but the memory lent, but its rows, its count and the bytes it leaves mean nothing. Its time stays
+ * bounded: it follows no more than 65,536 paths of a damaged tree, and no more freed pages than there are pages. Check an index that comes
+ * from elsewhere.
+ *
+ * The numbers are the act's, in its order. Of soundness the header's level alone is tested: 2 is given where it is above 4, which no sound
+ * index has. So a code other than 2 does not say that the index is sound.
  */
 
-/* Numbers: 1, 3, 4, 5, 6, 8, 9. */
+/* Numbers: 1, 2, 3, 4, 5, 6, 8, 9. */
 uint32_t epoch_index_trusted_insert(uint8_t *index, size_t length, uint32_t id, const int16_t *point, size_t coordinates);
 
-/* Numbers: 1, 5, 7. */
+/* Numbers: 1, 2, 5, 7. */
 uint32_t epoch_index_trusted_delete(uint8_t *index, size_t length, uint32_t id);
 
-/* Numbers: 1, 3, 4, 10, 11. */
+/* Numbers: 1, 2, 3, 4, 10, 11. */
 epoch_index_answer epoch_index_trusted_question(const uint8_t *index, size_t length, const int16_t *point, size_t coordinates, size_t k,
                                                 epoch_index_row *rows, size_t lent, epoch_index_tally *tally);
 

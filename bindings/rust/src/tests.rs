@@ -261,7 +261,12 @@ fn acts_keep_to_their_stack() {
     });
     on_stack(512 * 1024, || {
         let mut bytes = deepest(1);
-        // what they do to a damaged index means nothing; here they only have to end
+        assert_eq!(acts::insert(sys::epoch_index_trusted_insert, &mut bytes, 2, &[2]), Err(Refusal::Unsound));
+        assert_eq!(acts::delete(sys::epoch_index_trusted_delete, &mut bytes, 2), Err(Refusal::Unsound));
+        assert_eq!(found(sys::epoch_index_trusted_question, &bytes, &[1], 64, &mut Tally::default()), Err(Refusal::Unsound));
+        // level 4 is the highest that they follow; what they do to a damaged index means nothing, here they only have to end
+        bytes[8..12].copy_from_slice(&252u32.to_le_bytes());
+        bytes[12] = 4;
         let _ = acts::insert(sys::epoch_index_trusted_insert, &mut bytes, 2, &[2]);
         let _ = acts::delete(sys::epoch_index_trusted_delete, &mut bytes, 2);
         let _ = found(sys::epoch_index_trusted_question, &bytes, &[1], 64, &mut Tally::default());

@@ -59,7 +59,7 @@ module _ (b : List ℕ) (p : List ℤ) (n : ℕ) (f : First (trustedPoint b p) n
 
   module _ (i : ℕ) where
     abbrev ofInsert : List Rule
-    ofInsert = later (later (later (trustedInsert b i p)))
+    ofInsert = later (later (later (later (trustedInsert b i p))))
 
     pub insert-point : n ≢ 0 → First (trustedInsert b i p) n
     insert-point w = refused-before (trustedPoint b p) ofInsert n w f
@@ -75,7 +75,7 @@ module _ (b : List ℕ) (p : List ℤ) (n : ℕ) (f : First (trustedPoint b p) n
 
   module _ (k lent : ℕ) where
     abbrev ofQuestion : List Rule
-    ofQuestion = later (later (later (trustedQuestion b p k lent)))
+    ofQuestion = later (later (later (later (trustedQuestion b p k lent))))
 
     pub question-point : n ≢ 0 → First (trustedQuestion b p k lent) n
     question-point w = refused-before (trustedPoint b p) ofQuestion n w f
@@ -85,12 +85,12 @@ module _ (b : List ℕ) (p : List ℤ) (n : ℕ) (f : First (trustedPoint b p) n
 
 -- a point that is not refused has a record
 pub point-fits : (b : List ℕ) (p : List ℤ) → First (trustedPoint b p) 0 → (length p ≤ 16) × (inRange p ≡ true)
-point-fits b p f = let h = all-hold (trustedPoint b p) refl f in (h .1 .0 .1, h .1 .1 .0)
+point-fits b p f = let h = all-hold (trustedPoint b p) refl f in (h .1 .1 .0 .1, h .1 .1 .1 .0)
 
 pub insert-fits : (b : List ℕ) (i : ℕ) (p : List ℤ) (n : ℕ) → First (trustedInsert b i p) n → n ≡ 0 → (length p ≤ 16) × (inRange p ≡ true)
-insert-fits b i p n f e = let h = none-refuses (trustedInsert b i p) n refl f e in (h .1 .0 .1, h .1 .1 .0)
+insert-fits b i p n f e = let h = none-refuses (trustedInsert b i p) n refl f e in (h .1 .1 .0 .1, h .1 .1 .1 .0)
 
 -- what the search asks for
 pub may-search : (b : List ℕ) (p : List ℤ) (k lent n : ℕ) → First (trustedQuestion b p k lent) n → n ≡ 0
     → (1 ≤ length p) × (length p ≤ 16) × (inRange p ≡ true) × (1 ≤ k) × (k ≤ 64)
-may-search b p k lent n f e = let h = none-refuses (trustedQuestion b p k lent) n refl f e in (h .1 .0 .0, h .1 .0 .1, h .1 .1 .0, h .1 .1 .1 .0 .0, h .1 .1 .1 .0 .1)
+may-search b p k lent n f e = let h = none-refuses (trustedQuestion b p k lent) n refl f e in (h .1 .1 .0 .0, h .1 .1 .0 .1, h .1 .1 .1 .0, h .1 .1 .1 .1 .0 .0, h .1 .1 .1 .1 .0 .1)

@@ -1,18 +1,18 @@
--- The acts without the check, for an index that the caller knows to be sound: the table's rules with number 2 left out.
--- Nothing is known of the bytes here, so 3 asks for d too (01: "d, or the number of coordinates, is wrong"), and 6, 7 and 8 go by what finding an
--- identifier gives and by the header's total. On a sound index each rule is the act's (TrustedLaws).
+-- The acts without the check, for an index that the caller knows to be sound: the act's numbers in its order.
+-- Nothing is known of the bytes here, so some conditions are other ones. 2 asks for the part of soundness that is tested without a look at the pages:
+-- the header's level is one that a sound index can have, and an identifier is looked for along at most 16 ^ 4 paths. 3 asks for d too (01: "d, or the
+-- number of coordinates, is wrong"), and 6, 7 and 8 go by what finding an identifier gives and by the header's total.
+-- On a sound index each rule is the act's (TrustedLaws).
 use mathlib.Core.Path.{_≡_}
-use mathlib.Core.Bool.{true, not}
+use mathlib.Core.Bool.{true}
 use mathlib.Core.Logic.{_≢_}
 use mathlib.Core.List.{List, [], _∷_}
 use Prim.Native.Nat.{ℕ, _≤_, _<_}
 use lib.IntN.{ℤ}
-use lib.Dec.{eqb}
 use lib.ListN.{length}
-use Rattle.lists.specs.Sorting.{keep}
 use Rattle.geometry.specs.Stored.{inRange}
 use Rattle.pagestore.specs.declared.Record.{Record}
-use Rattle.pagestore.specs.Store.{View, viewOf, freeAt}
+use Rattle.pagestore.specs.Store.{View, viewOf, fieldAt, level, freeAt}
 use Rattle.trees.specs.Sound.{Permitted}
 use Rattle.tree.specs.Insertion.{pagesWanted}
 use Rattle.tree.specs.Lookup.{findIn}
@@ -30,6 +30,7 @@ Suits b p = (1 ≤ length p) × (length p ≤ 16) × (length p ≡ viewOf b .d)
 abbrev pub trustedInsert : List ℕ → ℕ → List ℤ → List Rule
 trustedInsert b i p =
     (1, Permitted (length b))
+    ∷ (2, fieldAt level b ≤ 4)
     ∷ (3, Suits b p)
     ∷ (4, inRange p ≡ true)
     ∷ (5, 1 ≤ i)
@@ -41,6 +42,7 @@ trustedInsert b i p =
 abbrev pub trustedDelete : List ℕ → ℕ → List Rule
 trustedDelete b i =
     (1, Permitted (length b))
+    ∷ (2, fieldAt level b ≤ 4)
     ∷ (5, 1 ≤ i)
     ∷ (7, findIn b i .id ≢ 0)
     ∷ (12, pagesToEven ≤ length (freeAt b))
@@ -49,6 +51,7 @@ trustedDelete b i =
 abbrev pub trustedQuestion : List ℕ → List ℤ → ℕ → ℕ → List Rule
 trustedQuestion b p k n =
     (1, Permitted (length b))
+    ∷ (2, fieldAt level b ≤ 4)
     ∷ (3, Suits b p)
     ∷ (4, inRange p ≡ true)
     ∷ (10, (1 ≤ k) × (k ≤ 64))
@@ -59,17 +62,15 @@ trustedQuestion b p k n =
 abbrev pub trustedPoint : List ℕ → List ℤ → List Rule
 trustedPoint b p =
     (1, Permitted (length b))
+    ∷ (2, fieldAt level b ≤ 4)
     ∷ (3, Suits b p)
     ∷ (4, inRange p ≡ true)
     ∷ []
 
--- the numbers of rules, in their order, and those without number 2
+-- the numbers of rules, in their order
 abbrev pub numbers : List Rule → List ℕ
 numbers [] = []
 numbers (rule ∷ rules) = rule .0 ∷ numbers rules
-
-abbrev pub withoutCheck : List ℕ → List ℕ
-withoutCheck ns = keep (λ n. not (eqb n 2)) ns
 
 -- a question without the check, by value and as it is handed over
 abbrev pub TrustedOutcome : List ℕ → List ℤ → ℕ → ℕ → Outcome → Type 0

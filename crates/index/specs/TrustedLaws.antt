@@ -1,21 +1,19 @@
 -- On a sound index an act without the check gives the act's number.
 use mathlib.Core.Path.{_≡_, refl, sym, ap, _∙_, subst}
-use mathlib.Core.Bool.{Bool, true, not}
 use mathlib.Core.Logic.{_≢_, inl, inr}
 use mathlib.Core.List.{List, [], _∷_}
 use Prim.Native.Nat.{ℕ, _≤_, _<_}
 use native.Mathlib.Omega.{arith}
 use lib.IntN.{ℤ}
-use lib.Dec.{eqb}
 use lib.ListN.{length}
-use Rattle.lists.specs.Sorting.{keep}
 use Rattle.lists.specs.Tests.{decide}
 use Rattle.pagestore.specs.declared.Record.{Record}
-use Rattle.pagestore.specs.Store.{View, viewOf}
+use Rattle.pagestore.specs.Store.{View, viewOf, fieldAt, level}
 use Rattle.trees.specs.Trees.{live}
 use Rattle.trees.specs.Sound.{SoundIndex}
 use Rattle.tree.specs.Lookup.{findIn}
 use Rattle.tree_laws.specs.LookupPromises.{find-ident, find-none}
+use Rattle.search.proofs.SoundLaws.{tree-level}
 use Rattle.candidates.specs.declared.Row.{Row}
 use Rattle.lending.specs.declared.Answer.{Answer}
 use Rattle.lending.specs.declared.Candidates.{Candidates}
@@ -26,20 +24,17 @@ use Rattle.index.specs.Refusals.{Rule, First, liveTimes, insertRules, de
 use Rattle.index.specs.RefusalLaws.{all-hold, later}
 use Rattle.index.specs.Questions.{QuestionOutcome, Questioned}
 use Rattle.index.specs.QuestionLaws.{handed-over}
-use Rattle.index.specs.Trusted.{Suits, trustedInsert, trustedDelete, trustedQuestion, numbers, withoutCheck, TrustedOutcome, TrustedQuestioned}
+use Rattle.index.specs.Trusted.{Suits, trustedInsert, trustedDelete, trustedQuestion, numbers, TrustedOutcome, TrustedQuestioned}
 
--- ---- THE NUMBERS: THE ACT'S, IN ITS ORDER, WITHOUT 2
+-- ---- THE NUMBERS: THE ACT'S, IN ITS ORDER
 
-pub insert-numbers : (b : List ℕ) (i : ℕ) (p : List ℤ) → numbers (trustedInsert b i p) ≡ withoutCheck (numbers (insertRules b i p))
-unfolding keep
+pub insert-numbers : (b : List ℕ) (i : ℕ) (p : List ℤ) → numbers (trustedInsert b i p) ≡ numbers (insertRules b i p)
 insert-numbers b i p = refl
 
-pub delete-numbers : (b : List ℕ) (i : ℕ) → numbers (trustedDelete b i) ≡ withoutCheck (numbers (deleteRules b i))
-unfolding keep
+pub delete-numbers : (b : List ℕ) (i : ℕ) → numbers (trustedDelete b i) ≡ numbers (deleteRules b i)
 delete-numbers b i = refl
 
-pub question-numbers : (b : List ℕ) (p : List ℤ) (k n : ℕ) → numbers (trustedQuestion b p k n) ≡ withoutCheck (numbers (questionRules b p k n))
-unfolding keep
+pub question-numbers : (b : List ℕ) (p : List ℤ) (k n : ℕ) → numbers (trustedQuestion b p k n) ≡ numbers (questionRules b p k n)
 question-numbers b p k n = refl
 
 -- ---- RULES THAT AGREE
@@ -61,6 +56,11 @@ first-alike (x ∷ xs) (y ∷ ys) a n (inr f) = inr (a .1 (f .0), first-alike xs
 -- ---- ON A SOUND INDEX
 
 module _ (b : List ℕ) (s : SoundIndex b) where
+  -- rule 2 holds: 65,535 records fill no more levels
+  level-low : fieldAt level b ≤ 4
+  unfolding viewOf
+  level-low = tree-level b s
+
   suits : (p : List ℤ) → length p ≡ viewOf b .d → Suits b p
   suits p e = let low : 1 ≤ viewOf b .d = s .d .0 in let high : viewOf b .d ≤ 16 = s .d .1 in (omega arith, omega arith, e)
 
@@ -72,12 +72,13 @@ module _ (b : List ℕ) (s : SoundIndex b) where
 
   pub insert-same : (i : ℕ) (p : List ℤ) (n : ℕ) → First (trustedInsert b i p) n → First (insertRules b i p) n
   insert-same i p n (inl e) = inl e
-  insert-same i p n (inr f) =
+  insert-same i p n (inr (h, inl e)) = absurd (e .1 level-low)
+  insert-same i p n (inr (h, inr f)) =
       inr (
-        f .0,
+        h,
         inr (
           s,
-          first-alike (later (trustedInsert b i p)) (later (later (insertRules b i p)))
+          first-alike (later (later (trustedInsert b i p))) (later (later (insertRules b i p)))
               (refl, λ h. h .2, suits p, λ w. (refl, λ h. h, λ h. h, λ w. (refl, λ h. h, λ h. h, λ l. (refl, not-live i l, not-found i, λ w. (refl, λ h. few h, λ h. total h, λ w. (refl, λ h. h, λ h. h, λ w. tt)))))) n (f .1),
         ),
       )
@@ -90,12 +91,13 @@ module _ (b : List ℕ) (s : SoundIndex b) where
 
   pub delete-same : (i n : ℕ) → First (trustedDelete b i) n → First (deleteRules b i) n
   delete-same i n (inl e) = inl e
-  delete-same i n (inr f) =
+  delete-same i n (inr (h, inl e)) = absurd (e .1 level-low)
+  delete-same i n (inr (h, inr f)) =
       inr (
-        f .0,
+        h,
         inr (
           s,
-          first-alike (later (trustedDelete b i)) (later (later (deleteRules b i)))
+          first-alike (later (later (trustedDelete b i))) (later (later (deleteRules b i)))
               (refl, λ h. h, λ h. h, λ l. (refl, λ h. is-live h, λ h. is-found l h, λ w. (refl, λ h. h, λ h. h, λ w. tt))) n (f .1),
         ),
       )
@@ -108,12 +110,13 @@ module _ (b : List ℕ) (s : SoundIndex b) where
 
   pub question-same : (p : List ℤ) (k m n : ℕ) → First (trustedQuestion b p k m) n → First (questionRules b p k m) n
   question-same p k m n (inl e) = inl e
-  question-same p k m n (inr f) =
+  question-same p k m n (inr (h, inl e)) = absurd (e .1 level-low)
+  question-same p k m n (inr (h, inr f)) =
       inr (
-        f .0,
+        h,
         inr (
           s,
-          first-alike (later (trustedQuestion b p k m)) (later (later (questionRules b p k m)))
+          first-alike (later (later (trustedQuestion b p k m))) (later (later (questionRules b p k m)))
               (refl, λ h. h .2, suits p, λ w. (refl, λ h. h, λ h. h, λ w. (refl, λ h. h, λ h. h, λ w. (refl, λ h. h, λ h. h, λ w. tt)))) n (f .1),
         ),
       )
@@ -128,7 +131,7 @@ module _ (b : List ℕ) (s : SoundIndex b) where
 module _ (b : List ℕ) (p : List ℤ) (k : ℕ) (lent : List Row) (tally : Tally) (o : Outcome) where
   room : First (trustedQuestion b p k (length lent)) (o .answer .code) → o .answer .code ≡ 0 → (k ≤ 64) × (k ≤ length lent)
   room f z =
-      let w = all-hold (trustedQuestion b p k (length lent)) refl (subst (First (trustedQuestion b p k (length lent))) z f) in (w .1 .1 .1 .0 .1, w .1 .1 .1 .1 .0)
+      let w = all-hold (trustedQuestion b p k (length lent)) refl (subst (First (trustedQuestion b p k (length lent))) z f) in (w .1 .1 .1 .1 .0 .1, w .1 .1 .1 .1 .1 .0)
 
   pub trusted-hands : TrustedOutcome b p k (length lent) o → (r : Answer) (lent' : List Row) (tally' : Tally) → Delivered o lent tally r lent' tally' → TrustedQuestioned b p k lent tally r lent' tally'
   trusted-hands a = handed-over (trustedQuestion b p k (length lent)) b p k lent tally o a (room (a .first))

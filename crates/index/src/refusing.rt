@@ -1,4 +1,4 @@
-// The numbers of the refusal table, tested in each act's order, but for number 2: of the bytes nothing is known here.
+// The numbers of the refusal table, tested in each act's order. Of the bytes nothing is known here, and number 2 goes by the header's level alone.
 ghost use mathlib.Core.Path.{_≡_};
 ghost use mathlib.Core.Bool.{true};
 ghost use Prim.Native.Nat.{_≤_, _<_};
@@ -17,6 +17,7 @@ use lending::Outcome;
 use pagestore::Record;
 use pagestore::features_of;
 use pagestore::free_count;
+use pagestore::root_level;
 use pagestore::total_records;
 use tree::find;
 use tree::pages_wanted;
@@ -34,12 +35,15 @@ fn suits(coordinates: usize, features: u8) -> bool
     coordinates == features as usize
 }
 
-// The first of 1, 3 and 4 that applies to a point.
+// The first of 1 to 4 that applies to a point.
 fn refuse_point(index: &[u8], point: &[i16]) -> u32
     ensures { λ r. ⌜ First (trustedPoint (now (index .entry)) (now (point .entry))) r ⌝ }
 {
     if !permitted(index.len()) {
         return 1;
+    }
+    if 4 < root_level(index) {
+        return 2;
     }
     if !suits(point.len(), features_of(index)) {
         return 3;

@@ -1,5 +1,6 @@
 // The acts without the check, for a caller that holds its index alone and has checked it once. On a sound index each does what the act does
-// (`trusted-same`), and leaves a sound one. On any other bytes it ends without a fault, and what it returns and leaves is stated too.
+// (`trusted-same`), and leaves a sound one. On any other bytes it ends without a fault, and what it returns and leaves is stated too:
+// a level that no sound index has is refused with 2.
 ghost use mathlib.Core.Path.{_≡_};
 ghost use mathlib.Core.Bool.{true};
 ghost use Prim.Native.Nat.{_≤_};
@@ -21,6 +22,7 @@ use lending::Candidates;
 use lending::Outcome;
 use lending::Tally;
 use lending::deliver;
+use pagestore::root_level;
 use search::Query;
 use search::search;
 use tree::find;
@@ -43,6 +45,9 @@ pub fn delete(index: &mut [u8], id: u32) -> u32
 {
     if !permitted(index.len()) {
         return 1;
+    }
+    if 4 < root_level(index) {
+        return 2;
     }
     if id == 0 {
         return 5;

@@ -8,11 +8,12 @@ use lib.IntN.{ℤ}
 use lib.ListN.{length, length-map}
 use Rattle.geometry.specs.Stored.{stored}
 use Rattle.pagestore.specs.declared.Record.{Record}
-use Rattle.pagestore.specs.Store.{View, viewOf, features, newIndex}
+use Rattle.pagestore.specs.Store.{View, viewOf, Field, fieldAt, features, level, newIndex}
 use Rattle.trees.specs.Trees.{live}
 use Rattle.trees.specs.Sound.{Permitted, SoundIndex}
 use Rattle.search.specs.Visit.{Answer as Found}
 use Rattle.search.specs.Questions.{unreadPages, AgreeBut}
+use Rattle.search.proofs.SoundLaws.{tree-level}
 use Rattle.search.proofs.Promises.{agree-field, unread-header, unread-bytes}
 use Rattle.index.specs.Refusals.{First, insertRules, deleteRules, questionRules, checkRules}
 use Rattle.index.specs.RefusalLaws.{first-one, all-hold, none-fails}
@@ -83,9 +84,17 @@ trusted-stands b d lent low high h = series b d lent low high (trusted-series (n
 -- Demand 3's last sentence for the trusted question: whatever bytes the pages of the unread leaves hold, it is carried out on them with the
 -- rows and the count of the question on the sound index.
 module _ (b : List ℕ) (p : List ℤ) (k n : ℕ) (h : First (questionRules b p k n) 0) (c : List ℕ) (agree : AgreeBut (unreadPages (viewOf b) (map stored p) k) b c) where
-  header-same : SoundIndex b → length (map stored p) ≡ viewOf b .d → 1 ≤ k → viewOf c .d ≡ viewOf b .d
-  unfolding viewOf
-  header-same s same one = agree-field (unreadPages (viewOf b) (map stored p) k) b c agree (unread-header b s (map stored p) same k one) features
+  module _ (s : SoundIndex b) (same : length (map stored p) ≡ viewOf b .d) (one : 1 ≤ k) where
+    field-same : (f : Field) → fieldAt f c ≡ fieldAt f b
+    field-same = agree-field (unreadPages (viewOf b) (map stored p) k) b c agree (unread-header b s (map stored p) same k one)
+
+    features-same : viewOf c .d ≡ viewOf b .d
+    unfolding viewOf
+    features-same = field-same features
+
+    level-low : fieldAt level c ≤ 4
+    unfolding viewOf
+    level-low = rw (field-same level) (tree-level b s)
 
   pub trusted-unread : First (trustedQuestion c p k n) 0 × (foundWith 0 c p k ≡ foundWith 0 b p k)
   trusted-unread =
@@ -96,5 +105,5 @@ module _ (b : List ℕ) (p : List ℤ) (k n : ℕ) (h : First (questionRules b p
       let same : length (map stored p) ≡ viewOf b .d = length-map p stored ∙ as-many in
       let low : 1 ≤ viewOf b .d = s .d .0 in
       let high : viewOf b .d ≤ 16 = s .d .1 in
-      let suits : Suits c p = (omega arith, omega arith, as-many ∙ sym (header-same s same one)) in
-      (none-fails (trustedQuestion c p k n) (subst Permitted (sym (agree .lent)) (w .0), (suits, (w .1 .1 .1 .0, (w .1 .1 .1 .1 .0, (w .1 .1 .1 .1 .1 .0, tt))))), unread-bytes b s (map stored p) same k one c agree)
+      let suits : Suits c p = (omega arith, omega arith, as-many ∙ sym (features-same s same one)) in
+      (none-fails (trustedQuestion c p k n) (subst Permitted (sym (agree .lent)) (w .0), (level-low s same one, (suits, (w .1 .1 .1 .0, (w .1 .1 .1 .1 .0, (w .1 .1 .1 .1 .1 .0, tt)))))), unread-bytes b s (map stored p) same k one c agree)

@@ -60,9 +60,11 @@ fn judged(run: &mut Run, lib: &mut Lent, bytes: &[u8], given: &Given) {
     run.expect(lib.intact(), || "bytes before the index changed".into());
 }
 
-/// The acts without the check: they end soon, and the question changes nothing.
+/// The acts without the check: they end soon, the question changes nothing, and a level above 4 is refused with 2.
 fn unchecked(run: &mut Run, lib: &mut Lent, bytes: &[u8], given: &Given) {
     let start = Instant::now();
+    let high = bytes[LEVEL] > 4;
+    run.counts.high += high as u64;
     for k in [1, 64] {
         let mut rows = lent_rows();
         let got = ffi::search(lib, &given.x, k, &mut rows, k);
@@ -70,16 +72,22 @@ fn unchecked(run: &mut Run, lib: &mut Lent, bytes: &[u8], given: &Given) {
         run.expect(got.rows <= k && rows[got.rows..] == lent_rows()[got.rows..], || {
             format!("search: {got:?}, or rows past those returned")
         });
+        run.expect((got.code == 2) == high && (got.code == 0 || got.rows == 0 && got.leaves == 0), || {
+            format!("search at level {}: {got:?}", bytes[LEVEL])
+        });
     }
     run.equal("search", lib, bytes);
-    if bytes[LEVEL] <= 4 || ffi::BOUNDED {
-        ffi::insert(lib, given.new, &given.x, true);
+    let first = ffi::insert(lib, given.new, &given.x, true);
+    run.expect((first == 2) == high, || format!("insert at level {}: {first}", bytes[LEVEL]));
+    if high {
+        let codes = [given.old, given.new].map(|id| ffi::delete(lib, id, true));
+        run.expect(codes == [2, 2], || format!("delete at level {}: {codes:?}", bytes[LEVEL]));
+        run.equal("refused for the level", lib, bytes);
+    } else {
         ffi::delete(lib, given.old, true);
         ffi::delete(lib, given.new, true);
-        lib.copy_from_slice(bytes);
-    } else {
-        run.counts.spared += 1;
     }
+    lib.copy_from_slice(bytes);
     run.counts.longest = run.counts.longest.max(start.elapsed());
 }
 

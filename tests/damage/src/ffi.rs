@@ -2,9 +2,6 @@
 
 use crate::model::{Answer, Row, Tally};
 
-/// Whether insert and delete without the check are quick on a damaged index of any level.
-pub const BOUNDED: bool = false;
-
 /// As the C interface has a row.
 #[repr(C)]
 #[derive(Clone, Copy)]

@@ -297,11 +297,10 @@ fn ring(run: &mut Run, level: u8) {
     let got = ffi::search(&lib, &[3, 4], 64, &mut lent_rows(), 64);
     run.expect(got.rows <= 64, || format!("ring of level {level}: {got:?}"));
     run.counts.searches += 1;
-    if level <= 4 || ffi::BOUNDED {
-        ffi::delete(&mut lib, 5, true);
-        lib.copy_from_slice(&b);
-        ffi::insert(&mut lib, 5, &[3, 4], true);
-    }
+    let deleted = ffi::delete(&mut lib, 5, true);
+    lib.copy_from_slice(&b);
+    let codes = [got.code, deleted, ffi::insert(&mut lib, 5, &[3, 4], true)];
+    run.expect(codes.iter().all(|&code| (code == 2) == (level > 4)), || format!("ring of level {level}: {codes:?}"));
     run.expect(lib.intact(), || format!("ring of level {level}: bytes before the index changed"));
 }
 

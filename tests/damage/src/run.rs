@@ -17,8 +17,8 @@ pub struct Counts {
     pub unsound: u64,
     /// Of the unsound, those that fail at the header.
     pub header: u64,
-    /// Damaged indexes of a level above 4 that insert and delete without the check were not given.
-    pub spared: u64,
+    /// Damaged indexes of a level above 4, which the acts without the check refuse.
+    pub high: u64,
     /// The longest time of the acts without the check on one damaged index.
     pub longest: Duration,
     pub searches: u64,
@@ -95,7 +95,7 @@ impl Run {
         println!("acts compared: {} ({} without the check), codes 0 to 13: {:?}", c.acts, c.trusted, c.codes);
         println!("rows compared: {}, bytes compared: {}", c.rows, c.bytes);
         println!("damaged indexes: {} (not sound: {}, of these failing at the header: {})", c.damaged, c.unsound, c.header);
-        println!("acts without the check on damaged indexes: at most {:?} each; not given to {} of a level above 4", c.longest, c.spared);
+        println!("acts without the check on damaged indexes: at most {:?} each; {} of a level above 4, refused", c.longest, c.high);
         println!("searches by themselves: {}, with {} pages of unread leaves overwritten or exchanged", c.searches, c.unread);
         println!("damage: {} passed, {} failed", self.passed, self.failed);
         self.failed == 0

@@ -7,6 +7,7 @@ use mathlib.Core.Logic.{inl, inr}
 use Prim.Native.Nat.{_≤_, zero-le}
 use native.Mathlib.Omega.{arith}
 use Rattle.pagestore.specs.declared.Record.{Record}
+use Rattle.pagestore.specs.Store.{fieldAt, level}
 use Rattle.tree.specs.Deletion.{deleteFrom}
 use Rattle.index.specs.OutcomeLaws.{when, unless}
 use Rattle.index.proofs.trusted.delete.Statement.{statement}
@@ -18,32 +19,58 @@ permitted-requires c κs = search needs
 returns : tie.Need-returns
 returns c = (inl (refl, unless (c .before .permitted .ensures) (not-true _ (c .if1 .taken))), refl)
 
-returns-2 : tie.Need-returns-2
-returns-2 c =
-    let i = c .before .before .before .before .args .id in
-    (inr (when (c .before .before .permitted .ensures) (not-false _ (c .before .if1 .left)), inl (refl, λ (l : 1 ≤ i). omega (arith, c .if2 .taken))), refl)
-
-find-requires : tie.Need-find-requires
-find-requires c κs = let i = c .before .before .before .before .before .args .id in omega (arith, c .before .if2 .left)
+root-level-requires : tie.Need-root-level-requires
+root-level-requires c κs = search needs
 
 same-length : tie.Need-same-length
 same-length c = search needs
 
-returns-3 : tie.Need-returns-3
-returns-3 c =
-    let some : 1 ≤ c .before .before .before .before .before .before .before .before .args .id = omega (arith, c .before .before .before .before .if2 .left) in
-    (inr (when (c .before .before .before .before .before .before .permitted .ensures) (not-false _ (c .before .before .before .before .before .if1 .left)), inr (some, inl (refl, λ w. w (sym (ap (λ (r : Record). r .id) (c .before .before .find .ensures)) ∙ c .if3 .taken)))), refl)
-
-delete-requires : tie.Need-delete-requires
-delete-requires c κs = search needs
+returns-2 : tie.Need-returns-2
+returns-2 c =
+    let a = c .before .before .before .before .before .before .args in (
+      inr (when (c .before .before .before .before .permitted .ensures) (not-false _ (c .before .before .before .if1 .left)), inl (refl, λ (l : fieldAt level (now (a .index)) ≤ 4). omega (arith, c .if2 .taken, c .before .root-level .ensures))),
+      refl,
+    )
 
 same-length-2 : tie.Need-same-length-2
 same-length-2 c = search needs
 
+returns-3 : tie.Need-returns-3
+returns-3 c =
+    let a = c .before .before .before .before .before .before .before .args in
+    let low : fieldAt level (now (a .index)) ≤ 4 = omega (arith, c .before .if2 .left, c .before .before .root-level .ensures) in
+    (inr (when (c .before .before .before .before .before .permitted .ensures) (not-false _ (c .before .before .before .before .if1 .left)), inr (low, inl (refl, λ (l : 1 ≤ a .id). omega (arith, c .if3 .taken)))), refl)
+
+find-requires : tie.Need-find-requires
+find-requires c κs = let i = c .before .before .before .before .before .before .before .before .args .id in omega (arith, c .before .if3 .left)
+
+same-length-3 : tie.Need-same-length-3
+same-length-3 c = search needs
+
 returns-4 : tie.Need-returns-4
 returns-4 c =
-    let some : 1 ≤ c .before .before .before .before .before .before .before .before .before .before .before .before .args .id = omega (arith, c .before .before .before .before .before .before .before .before .if2 .left) in (
-      inr (when (c .before .before .before .before .before .before .before .before .before .before .permitted .ensures) (not-false _ (c .before .before .before .before .before .before .before .before .before .if1 .left)), inr (some, inr (λ z. c .before .before .before .before .if3 .left (ap (λ (r : Record). r .id) (c .before .before .before .before .before .before .find .ensures) ∙ z), inr (zero-le, refl)))),
+    let a = c .before .before .before .before .before .before .before .before .before .before .before .args in
+    let low : fieldAt level (now (a .index)) ≤ 4 = omega (arith, c .before .before .before .before .before .if2 .left, c .before .before .before .before .before .before .root-level .ensures) in
+    let some : 1 ≤ a .id = omega (arith, c .before .before .before .before .if3 .left) in (
+      inr (when (c .before .before .before .before .before .before .before .before .before .permitted .ensures) (not-false _ (c .before .before .before .before .before .before .before .before .if1 .left)), inr (low, inr (some, inl (refl, λ w. w (sym (ap (λ (r : Record). r .id) (c .before .before .find .ensures)) ∙ c .if4 .taken))))),
+      refl,
+    )
+
+delete-requires : tie.Need-delete-requires
+delete-requires c κs = search needs
+
+same-length-4 : tie.Need-same-length-4
+same-length-4 c = search needs
+
+returns-5 : tie.Need-returns-5
+returns-5 c =
+    let a = c .before .before .before .before .before .before .before .before .before .before .before .before .before .before .before .args in
+    let low : fieldAt level (now (a .index)) ≤ 4 = omega (arith, c .before .before .before .before .before .before .before .before .before .if2 .left, c .before .before .before .before .before .before .before .before .before .before .root-level .ensures) in
+    let some : 1 ≤ a .id = omega (arith, c .before .before .before .before .before .before .before .before .if3 .left) in (
+      inr (
+        when (c .before .before .before .before .before .before .before .before .before .before .before .before .before .permitted .ensures) (not-false _ (c .before .before .before .before .before .before .before .before .before .before .before .before .if1 .left)),
+        inr (low, inr (some, inr (λ z. c .before .before .before .before .if4 .left (ap (λ (r : Record). r .id) (c .before .before .before .before .before .before .find .ensures) ∙ z), inr (zero-le, refl)))),
+      ),
       c .before .before .delete .ensures ∙ ap (deleteFrom _) (c .before .before .before .before .before .before .find .ensures),
     )
 
@@ -53,10 +80,14 @@ delete-spec =
     (tie.spec
     permitted-requires
     returns
-    returns-2
-    find-requires
+    root-level-requires
     same-length
-    returns-3
-    delete-requires
+    returns-2
     same-length-2
-    returns-4)
+    returns-3
+    find-requires
+    same-length-3
+    returns-4
+    delete-requires
+    same-length-4
+    returns-5)
