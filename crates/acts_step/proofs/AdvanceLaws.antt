@@ -88,7 +88,7 @@ module _ (b held chunk out : List ℕ) (s : Session) (on : s .going ≡ true) (c
 -- ---- CHUNK AFTER CHUNK
 
 -- more input j behind i changes nothing of what was done, and is left
-pub advances-more : (b held i : List ℕ) (s : Session) (c held' i' : List ℕ) (r : Session) (j : List ℕ) → Advances b held i s c held' i' r → Advances b held (i ++ j) s c held' (i' ++ j) r
+unfoldable pub advances-more : (b held i : List ℕ) (s : Session) (c held' i' : List ℕ) (r : Session) (j : List ℕ) → Advances b held i s c held' i' r → Advances b held (i ++ j) s c held' (i' ++ j) r
 advances-more b held i s c held' i' r j p = record {
   lines = p .lines;
   text = p .text;

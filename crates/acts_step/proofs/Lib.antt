@@ -4,3 +4,4 @@ pub mod StepLaws
 pub mod SessionLaws
 pub mod AdvanceLaws
 pub mod TextLaws
+pub mod PrintLaws
