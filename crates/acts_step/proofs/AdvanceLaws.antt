@@ -1,15 +1,14 @@
 -- Turns one after the other do the lines of what they take. `advances-none`, `advances-then`, `takes-advances`; `advances-more`: input that comes behind.
 use mathlib.Core.Path.{_≡_, refl, sym, ap, _∙_, subst}
 use mathlib.Core.Logic.{_⊎_, inl, inr}
-use mathlib.Core.Bool.{Bool, true, false}
-use mathlib.Core.List.{List, [], _∷_, _++_, append-assoc, append-nil}
+use mathlib.Core.Bool.{Bool, true}
+use mathlib.Core.List.{List, [], _∷_, _++_, append-assoc}
 use Prim.Native.Nat.{ℕ, _+_}
-use lib.ListN.{length, take, drop}
+use lib.ListN.{take, drop}
 use lib.Seq.{drop-length}
 use Rattle.acts_text.specs.Input.{ended, current}
 use Rattle.acts_text.proofs.InputLaws.{ended-append, current-append}
-use Rattle.acts_step.specs.Steps.{Puts}
-use Rattle.acts_step.specs.Sessions.{Does, Ended, Waits, Goes, Takes, Goings, Advances}
+use Rattle.acts_step.specs.Sessions.{Does, Waits, Goes, Takes, Goings, Advances}
 use Rattle.acts_step.specs.Sessions as sessions
 use Rattle.acts_step.specs.declared.Session.{Session}
 

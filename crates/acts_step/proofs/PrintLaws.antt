@@ -17,7 +17,7 @@ use Rattle.acts_text.specs.Input.{linesOf, kept, ended, current, lastLine}
 use Rattle.acts_text.proofs.InputLaws.{lines-kept}
 use Rattle.acts_text.proofs.NameLaws.{names-kept}
 use Rattle.acts_step.specs.Steps.{indexBytes, Steps, Begins, ends, begins}
-use Rattle.acts_step.specs.Sessions.{Does, first, later, Ended, Closes, closed, last, Goings, Advances}
+use Rattle.acts_step.specs.Sessions.{Does, first, later, Closes, closed, last, Goings, Advances}
 use Rattle.acts_step.specs.Sessions as sessions
 use Rattle.acts_step.specs.Texts.{Runs, firstOf, laterOf, Prints}
 use Rattle.acts_step.specs.Texts as texts

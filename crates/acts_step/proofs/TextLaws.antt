@@ -1,10 +1,8 @@
 -- Texts of acts. `runs-append`, `runs-split`: lines one after the other. `runs-kept`: what is kept of each line says the same. `text-stands`: after any text the
 -- index is sound and holds the records inserted and not deleted since. `text-question`: a question's lines are the k nearest of them.
 use mathlib.Core.Path.{_≡_, refl, sym, ap, _∙_, subst}
-use mathlib.Core.Bool.{Bool, true, false}
-use mathlib.Core.Logic.{_≢_}
 use mathlib.Core.List.{List, [], _∷_, _++_, map, append-assoc}
-use Prim.Native.Nat.{ℕ, zero, suc, _+_, _≤_}
+use Prim.Native.Nat.{ℕ, suc, _+_, _≤_}
 use native.Mathlib.Omega.{arith}
 use lib.IntN.{ℤ}
 use lib.ListN.{length}
@@ -16,10 +14,9 @@ use Rattle.index.specs.Acts as acts
 use Rattle.promises.specs.Series.{Stands, series}
 use Rattle.promises.specs.Answers.{Answers, question-answers}
 use Rattle.acts_text.specs.declared.ActLine.{ActLine}
-use Rattle.acts_text.specs.Lines.{actOf}
 use Rattle.acts_text.specs.Input.{kept}
 use Rattle.acts_text.proofs.LineLaws.{act-kept}
-use Rattle.acts_step.specs.Printed.{printed, answerLines}
+use Rattle.acts_step.specs.Printed.{answerLines}
 use Rattle.acts_step.specs.Steps.{askedBy, Acted, Steps, passed, acted}
 use Rattle.acts_step.specs.Texts.{Runs}
 use Rattle.acts_step.specs.Texts as texts
