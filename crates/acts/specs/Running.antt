@@ -1,9 +1,11 @@
 -- What holds while the program runs: its buffers are large enough, and the session stays within them.
 use mathlib.Core.Path.{_≡_}
+use mathlib.Core.Bool.{true}
 use mathlib.Core.List.{List}
 use Prim.Native.Nat.{ℕ, _+_, _≤_, _<_}
-use lib.ListN.{length}
+use lib.ListN.{length, drop}
 use Rattle.acts_step.specs.Steps.{indexBytes, mostPrinted}
+use Rattle.acts_step.specs.Sessions.{Advances}
 use Rattle.acts_step.specs.declared.Session.{Session}
 
 -- between two turns: a 64-page index, at most 257 bytes held of the current line, and an output buffer that has room for what a line prints
@@ -16,13 +18,21 @@ pub record Fits (index held out : List ℕ) (s : Session) : Type 0 where
 
 -- r is the session s with room for what a line prints
 pub record Roomy (out : List ℕ) (s r : Session) : Type 0 where
+  pub d : r .d ≡ s .d
+  pub number : r .number ≡ s .number
   pub held : r .held ≡ s .held
   pub at : r .at ≡ s .at
-  pub number : r .number ≡ s .number
   pub room : r .end + mostPrinted ≤ length out
 
--- a turn goes on in the chunk
-pub record Turned (index held chunk out : List ℕ) (s r : Session) : Type 0 where
-  pub fits : Fits index held out r
+-- a turn does the lines of what it takes of the chunk, and takes some if the session goes on; b, held: index and line before it
+pub record Turned (b held chunk : List ℕ) (s : Session) (index held' out : List ℕ) (r : Session) : Type 0 where
+  pub fits : Fits index held' out r
   pub within : r .at ≤ length chunk
-  pub onward : s .at < length chunk → s .at < r .at
+  pub onward : r .going ≡ true → s .at < length chunk → s .at < r .at
+  pub advance : s .going ≡ true → Advances b held (drop (s .at) chunk) s index held' (drop (r .at) chunk) r
+
+-- a chunk's lines are done, all of them if the session goes on
+pub record Ran (b held chunk : List ℕ) (s : Session) (index held' out : List ℕ) (r : Session) : Type 0 where
+  pub fits : Fits index held' out r
+  pub advance : Advances b held chunk s index held' (drop (r .at) chunk) r
+  pub used : r .going ≡ true → r .at ≡ length chunk

@@ -1,10 +1,11 @@
 // The acts program (01): runs the acts of a text, read from standard input, on a 64-page index, and writes what they print to standard output.
 ghost use mathlib.Core.Path.{_≡_};
+ghost use mathlib.Core.Bool.{true};
 ghost use Prim.Native.Nat.{_≤_};
 ghost use lib.ListN.{length};
 ghost use Rattle.io.specs.Counts.{Counts};
 ghost use Rattle.acts_step.specs.Steps.{indexBytes, mostPrinted};
-ghost use Rattle.acts.specs.Running.{Fits, Roomy, Turned};
+ghost use Rattle.acts.specs.Running.{Fits, Roomy, Turned, Ran};
 use acts_step::Session;
 use acts_step::end_input;
 use acts_step::take_line;
@@ -19,7 +20,7 @@ const LAST: u64 = 18446744073709551614;
 
 // The session at other places of chunk and output.
 fn placed(s: Session, going: bool, at: usize, end: usize) -> Session
-    ensures { λ r. ⌜ (r .held ≡ s .held) × (r .at ≡ at) × (r .number ≡ s .number) × (r .end ≡ end) ⌝ }
+    ensures { λ r. ⌜ (r .d ≡ s .d) × (r .number ≡ s .number) × (r .held ≡ s .held) × (r .at ≡ at) × (r .end ≡ end) × (r .going ≡ going) ⌝ }
 {
     Session {
         going: going,
@@ -34,7 +35,7 @@ fn placed(s: Session, going: bool, at: usize, end: usize) -> Session
 // Writes what is printed. Where that fails the session does not go on.
 fn flush(out: &[u8], s: Session) -> Session
     requires { ⌜ s .end ≤ length (now out) ⌝ }
-    ensures { λ r. ⌜ (r .held ≡ s .held) × (r .at ≡ s .at) × (r .number ≡ s .number) × (r .end ≡ 0) ⌝ }
+    ensures { λ r. ⌜ (r .d ≡ s .d) × (r .number ≡ s .number) × (r .held ≡ s .held) × (r .at ≡ s .at) × (r .end ≡ 0) ⌝ }
 {
     let end = s.end;
     let is_written = io::write_all(STDOUT_FILENO, &out[..end]);
@@ -55,18 +56,22 @@ fn make_room(out: &[u8], s: Session) -> Session
 // The chunk up to the end of a line.
 fn turn(index: &mut [u8], held: &mut [u8], chunk: &[u8], out: &mut [u8], s: Session) -> Session
     requires { ⌜ Fits (now index) (now held) (now out) s × (s .at ≤ length (now chunk)) ⌝ }
-    ensures { λ r. ⌜ Turned (now (index .exit)) (now (held .exit)) (now (chunk .entry)) (now (out .exit)) s r ⌝ }
+    ensures { λ r. ⌜ Turned (now (index .entry)) (now (held .entry)) (now (chunk .entry)) s (now (index .exit)) (now (held .exit)) (now (out .exit)) r ⌝ }
 {
     if LAST < s.number {
-        return placed(s, false, chunk.len(), s.end);
+        return placed(s, false, s.at, s.end);
     }
     let t = make_room(out, s);
+    if !t.going {
+        return t;
+    }
     take_line(index, held, chunk, out, t)
 }
 
+// Does the lines that end in a chunk.
 fn run_chunk(index: &mut [u8], held: &mut [u8], chunk: &[u8], out: &mut [u8], s: Session) -> Session
-    requires { ⌜ Fits (now index) (now held) (now out) s ⌝ }
-    ensures { λ r. ⌜ Fits (now (index .exit)) (now (held .exit)) (now (out .exit)) r ⌝ }
+    requires { ⌜ Fits (now index) (now held) (now out) s × (s .going ≡ true) ⌝ }
+    ensures { λ r. ⌜ Ran (now (index .entry)) (now (held .entry)) (now (chunk .entry)) s (now (index .exit)) (now (held .exit)) (now (out .exit)) r ⌝ }
 {
     let mut t = placed(s, s.going, 0, s.end);
     while t.going && t.at < chunk.len() {

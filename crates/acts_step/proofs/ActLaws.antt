@@ -1,23 +1,18 @@
 -- What an act does and prints, from what its function and the writer of a line ensure.
 use mathlib.Core.Path.{_≡_, refl, sym, ap, _∙_, subst}
 use mathlib.Core.Logic.{_≢_}
-use mathlib.Core.Bool.{Bool, true, false}
-use mathlib.Core.List.{List, [], _∷_, _++_}
-use Prim.Native.Nat.{ℕ, zero, suc, _+_, _^_, _≤_, _<_, min}
+use mathlib.Core.List.{List, [], _∷_}
+use Prim.Native.Nat.{ℕ, zero, suc, _+_, _^_, _≤_, _<_}
 use native.Mathlib.Omega.{arith}
-use lib.Dec.{eqb}
 use lib.IntN.{ℤ}
-use lib.ListN.{length, take, length-take}
+use lib.ListN.{length, length-take}
 use borrow.Author.Tests.{eq-eqb, ne-eqb}
 use Rattle.candidates.specs.declared.Row.{Row}
 use Rattle.candidates.specs.Held.{rowsOf, rowsIn}
-use Rattle.lists.specs.Basics.{pick}
 use Rattle.search.specs.Visit.{Answer as Found}
-use Rattle.lending.specs.declared.Answer.{Answer}
-use Rattle.lending.specs.declared.Candidates.{Candidates}
 use Rattle.lending.specs.declared.Outcome.{Outcome}
-use Rattle.index.specs.Refusals.{First, insertRules, deleteRules, questionRules}
-use Rattle.index.specs.Outcomes.{insertedWith, deletedWith, foundWith, nothingFound, unlessRefused}
+use Rattle.index.specs.Refusals.{First, insertRules, deleteRules}
+use Rattle.index.specs.Outcomes.{insertedWith, deletedWith, foundWith, nothingFound}
 use Rattle.index.specs.Acts.{Act, insert, delete, question}
 use Rattle.index.specs.Questions.{QuestionOutcome}
 use Rattle.acts_text.specs.declared.ActLine.{ActLine}

@@ -1,11 +1,11 @@
 -- Lines written one behind the other.
 use mathlib.Core.Path.{_≡_, refl, sym, ap, _∙_, subst}
 use mathlib.Core.List.{List, [], _∷_, _++_, append-assoc, append-nil}
-use Prim.Native.Nat.{ℕ, zero, suc, _+_, _*_, _≤_, _<_}
+use Prim.Native.Nat.{ℕ, suc, _+_, _*_, _≤_, _<_}
 use native.Mathlib.Numerals.{add-one}
 use native.Mathlib.Omega.{arith}
-use lib.ListN.{length, take, getD}
-use lib.Seq.{sets, sets-eq, take-suc}
+use lib.ListN.{length, getD}
+use lib.Seq.{sets-eq, take-suc}
 use Rattle.candidates.specs.declared.Row.{Row}
 use Rattle.candidates.specs.Rows.{rowOf}
 use Rattle.candidates.specs.Held.{rowsOf, rowsIn}

@@ -1,18 +1,17 @@
 -- How a session goes on, from what its functions do.
-use mathlib.Core.Path.{_≡_, refl, sym, ap, _∙_, subst}
-use mathlib.Core.Logic.{_≢_, _⊎_, inl, inr}
+use mathlib.Core.Path.{_≡_, refl, sym, ap, _∙_}
+use mathlib.Core.Logic.{_≢_, inl, inr}
 use mathlib.Core.Bool.{Bool, true, false, not}
-use mathlib.Core.List.{List, [], _∷_, _++_}
-use Prim.Native.Nat.{ℕ, suc, _+_, _-_, _≤_, _<_, min}
+use mathlib.Core.List.{List, [], _∷_}
+use Prim.Native.Nat.{ℕ, _+_, _-_, _≤_, _<_, min}
 use native.Mathlib.Omega.{arith}
-use lib.Dec.{eqb, ltb}
+use lib.Dec.{eqb}
 use lib.ListN.{length, take, drop, length-take}
 use Rattle.acts_text.specs.declared.Fed.{Fed}
-use Rattle.acts_text.specs.Bytes.{newline, until}
 use Rattle.acts_text.specs.Input.{Feeds, piece, ended, current}
 use Rattle.acts_text.proofs.InputLaws.{feeds-line, feeds-on}
 use Rattle.acts_step.specs.Steps.{mostPrinted, Steps, Begins, Puts}
-use Rattle.acts_step.specs.Sessions.{Ready, Does, first, later, Ended, Within, Waits, Goes, Takes}
+use Rattle.acts_step.specs.Sessions.{Does, first, later, Ended, Within, Takes}
 use Rattle.acts_step.specs.declared.Session.{Session}
 
 -- a text that says P says Q, where P gives Q

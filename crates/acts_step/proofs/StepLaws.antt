@@ -1,9 +1,9 @@
 -- What a line does and prints.
 use mathlib.Core.Path.{_≡_, refl, sym, ap, _∙_, subst}
-use mathlib.Core.Logic.{_≢_, inl, inr}
-use mathlib.Core.Bool.{Bool, true, false}
-use mathlib.Core.List.{List, [], _∷_, _++_}
-use Prim.Native.Nat.{ℕ, zero, suc, _+_, _≤_, _<_}
+use mathlib.Core.Logic.{_≢_}
+use mathlib.Core.Bool.{true, false}
+use mathlib.Core.List.{List, _++_}
+use Prim.Native.Nat.{ℕ, _+_, _≤_}
 use native.Mathlib.Omega.{arith}
 use lib.ListN.{length}
 use Rattle.pagestore.specs.Store.{newIndex}
@@ -50,11 +50,14 @@ module _ (d : ℕ) (l : List ℕ) (a : ActLine) (e : a ≡ actOf d l) where
 
 -- ---- THE FIRST LINE
 
+-- 64 pages are a permitted number
+pub lent : (b : List ℕ) → length b ≡ indexBytes → Permitted (length b)
+lent b len = subst Permitted (sym len) (record { whole = refl; low = omega arith; high = omega arith })
+
 -- a 64-page index is made
 pub makes : (b c : List ℕ) (d code : ℕ) → length b ≡ indexBytes → 1 ≤ d → d ≤ 16 → First (makeRules (length b) d) code → c ≡ madeWith code b d → c ≡ newIndex b d
 makes b c d code len low high first e =
-    let ok : Permitted (length b) = subst Permitted (sym len) (record { whole = refl; low = omega arith; high = omega arith }) in
-    let z : code ≡ 0 = first-one (makeRules (length b) d) code 0 first (none-fails (makeRules (length b) d) (ok, ((low, high), tt))) in
+    let z : code ≡ 0 = first-one (makeRules (length b) d) code 0 first (none-fails (makeRules (length b) d) (lent b len, ((low, high), tt))) in
     e ∙ ap (λ (x : ℕ). madeWith x b d) z
 
 pub few-features : (l : List ℕ) (d : ℕ) → d ≡ namesIn l → d ≢ 0 → (1 ≤ d) × (d ≤ 16)

@@ -1,3 +1,4 @@
 pub mod Printed
 pub mod Steps
 pub mod Sessions
+pub mod Texts

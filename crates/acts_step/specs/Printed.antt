@@ -1,7 +1,6 @@
 -- What the acts program prints for an act (01, "The acts program").
 use mathlib.Core.List.{List, [], _∷_, _++_}
 use Prim.Native.Nat.{ℕ}
-use lib.IntN.{ℤ}
 use Rattle.candidates.specs.declared.Row.{Row}
 use Rattle.search.specs.Visit.{Answer as Found}
 use Rattle.index.specs.Acts.{Act, insert, delete, question, check}

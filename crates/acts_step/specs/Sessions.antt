@@ -1,7 +1,7 @@
 -- How a session goes on: the first line, lines of values, and input that comes in chunks.
 use mathlib.Core.Path.{_≡_}
 use mathlib.Core.Logic.{_≢_, _⊎_}
-use mathlib.Core.Bool.{Bool, true, false, not}
+use mathlib.Core.Bool.{Bool, true, not}
 use mathlib.Core.List.{List, [], _∷_, _++_}
 use Prim.Native.Nat.{ℕ, suc, _+_, _≤_, _<_}
 use lib.Dec.{eqb}
@@ -61,3 +61,20 @@ pub record Takes (b held chunk out : List ℕ) (s : Session) (c held' out' : Lis
 pub data Closes (b held out : List ℕ) (s : Session) (c out' : List ℕ) (r : Session) : Type 0 where
   closed : s .number ≢ 1 → s .held ≡ 0 → r ≡ s → c ≡ b → out' ≡ out → Closes b held out s c out' r
   last : (s .number ≡ 1) ⊎ (s .held ≢ 0) → Ended b (take (s .held) held) out s c out' r → Closes b held out s c out' r
+
+-- lines done one after the other while the session goes on, from line n on: d' features, line n' and index c are left, and t is printed
+pub data Goings : (d n : ℕ) → List ℕ → Bool → List (List ℕ) → (d' n' : ℕ) → List ℕ → Bool → List ℕ → Type 0 where
+  end : {d n : ℕ} {b : List ℕ} {g : Bool} → Goings d n b g [] d n b g []
+  next : {d n d₁ d' n' : ℕ} {b l m s c t : List ℕ} {g₁ g' : Bool} {ls : List (List ℕ)}
+      → Does d n b l true d₁ g₁ m s → Goings d₁ (n + 1) m g₁ ls d' n' c g' t → Goings d n b true (l ∷ ls) d' n' c g' (s ++ t)
+
+-- from session s to session r on the input i, of which i' is left: the lines that ended in it, as kept, are done. A session that has ended otherwise,
+-- since what it prints could not be written, is told by r alone.
+pub record Advances (b held i : List ℕ) (s : Session) (c held' i' : List ℕ) (r : Session) : Type 0 where
+  pub lines : List (List ℕ)
+  pub text : List ℕ
+  pub going : Bool
+  pub ends : ended (take (s .held) held) i ≡ lines ++ ended (take (r .held) held') i'
+  pub rest : current (take (s .held) held) i ≡ current (take (r .held) held') i'
+  pub does : Goings (s .d) (s .number) b true lines (r .d) (r .number) c going text
+  pub goes : r .going ≡ true → going ≡ true

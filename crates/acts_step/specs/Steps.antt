@@ -1,23 +1,22 @@
 -- What a line does to the index and prints (01, "The acts program").
 use mathlib.Core.Path.{_≡_}
 use mathlib.Core.Logic.{_≢_}
-use mathlib.Core.Bool.{Bool, true, false}
-use mathlib.Core.List.{List, [], _∷_, _++_}
+use mathlib.Core.Bool.{true, false}
+use mathlib.Core.List.{List, _++_}
 use Prim.Native.Nat.{ℕ, _+_, _*_, _≤_}
 use lib.Dec.{eqb}
 use lib.IntN.{ℤ}
-use lib.ListN.{length, take}
+use lib.ListN.{take}
 use Rattle.lists.specs.Basics.{pick}
 use Rattle.pagestore.specs.Store.{newIndex}
 use Rattle.search.specs.Visit.{Answer as Found}
-use Rattle.index.specs.Acts.{Act, insert, delete, question, check, does}
+use Rattle.index.specs.Acts.{Act, insert, delete, question, does}
 use Rattle.acts_text.specs.declared.ActLine.{ActLine}
 use Rattle.acts_text.specs.Bytes.{Written}
 use Rattle.acts_text.specs.Lines.{actOf}
 use Rattle.acts_text.specs.Names.{namesIn}
 use Rattle.acts_text.specs.Output.{heading, resultLine}
 use Rattle.acts_step.specs.Printed.{printed}
-use Rattle.acts_step.specs.declared.Begun.{Begun}
 
 -- a 64-page index
 abbrev pub indexBytes : ℕ

@@ -40,7 +40,7 @@ slice-aggregate-run-chunk : tie.Need-slice-aggregate-run-chunk Inv-loop μ-loop
 slice-aggregate-run-chunk c = c .before .before .before .before .before .before .read-chunk .ensures .1
 
 run-chunk-requires : tie.Need-run-chunk-requires Inv-loop μ-loop
-run-chunk-requires c κs = c .before .before .before .before .before .before .before .before .before .before .before .loop .inv .fits
+run-chunk-requires c κs = (c .before .before .before .before .before .before .before .before .before .before .before .loop .inv .fits, c .before .before .before .before .before .before .before .before .before .if1 .taken)
 
 sub-turns : tie.Need-sub-turns Inv-loop μ-loop
 sub-turns c = omega arith
@@ -51,7 +51,7 @@ loop-less c = omega arith
 loop-again : tie.Need-loop-again Inv-loop μ-loop
 loop-again c =
     let C = c .before .before .before .before .before .before .run-chunk in let L = c .before .before .before .before .before .before .before .before .before .before .before .before .before .before .before .before .before .before .loop in
-    input-turn _ _ _ _ (L .index) (L .held) (L .chunk) (L .out) _ _ _ _ (L .t) (C .result) (L .inv) (C .kept .0) (C .kept .1 .0) (c .before .before .before .before .before .before .before .before .before .before .before .before .before .before .read-chunk .kept .0) (C .kept .1 .1 .1 .0) (C .ensures)
+    input-turn _ _ _ _ (L .index) (L .held) (L .chunk) (L .out) _ _ _ _ (L .t) (C .result) (L .inv) (C .kept .0) (C .kept .1 .0) (c .before .before .before .before .before .before .before .before .before .before .before .before .before .before .read-chunk .kept .0) (C .kept .1 .1 .1 .0) (C .ensures .fits)
 
 same-length-5 : tie.Need-same-length-5 Inv-loop μ-loop
 same-length-5 c = c .before .before .loop .inv .pages

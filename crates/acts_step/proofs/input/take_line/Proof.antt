@@ -1,8 +1,6 @@
 -- `input::take_line` meets its contract. Assumes nothing.
-use mathlib.Core.Path.{_≡_, sym}
-use Prim.Native.Nat.{_≤_}
+use mathlib.Core.Path.{sym}
 use native.Mathlib.Omega.{arith}
-use lib.ListN.{length}
 use lib.Seq.{length-take-le}
 use borrow.Author.Tests.{not-true, not-false}
 use Rattle.acts_step.proofs.SessionLaws.{fed-few, takes-on, takes-line}

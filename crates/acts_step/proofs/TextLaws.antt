@@ -1,0 +1,97 @@
+-- Texts of acts. `runs-append`, `runs-split`: lines one after the other. `runs-kept`: what is kept of each line says the same. `text-stands`: after any text the
+-- index is sound and holds the records inserted and not deleted since. `text-question`: a question's lines are the k nearest of them.
+use mathlib.Core.Path.{_≡_, refl, sym, ap, _∙_, subst}
+use mathlib.Core.List.{List, [], _∷_, _++_, map, append-assoc}
+use Prim.Native.Nat.{ℕ, suc, _+_, _≤_}
+use native.Mathlib.Omega.{arith}
+use lib.IntN.{ℤ}
+use lib.ListN.{length}
+use Rattle.pagestore.specs.Store.{newIndex}
+use Rattle.search.specs.Visit.{Answer as Found}
+use Rattle.trees.specs.Sound.{Permitted}
+use Rattle.index.specs.Acts.{Act, question, Done, Series, end, next, heldBy}
+use Rattle.index.specs.Acts as acts
+use Rattle.promises.specs.Series.{Stands, series}
+use Rattle.promises.specs.Answers.{Answers, question-answers}
+use Rattle.acts_text.specs.declared.ActLine.{ActLine}
+use Rattle.acts_text.specs.Input.{kept}
+use Rattle.acts_text.proofs.LineLaws.{act-kept}
+use Rattle.acts_step.specs.Printed.{answerLines}
+use Rattle.acts_step.specs.Steps.{askedBy, Acted, Steps, passed, acted}
+use Rattle.acts_step.specs.Texts.{Runs}
+use Rattle.acts_step.specs.Texts as texts
+
+-- ---- LINES ONE AFTER THE OTHER
+
+number-on : (n k : ℕ) → n + 1 + k ≡ n + suc k
+number-on n k = omega arith
+
+pub runs-append : {d n : ℕ} {b m c s t : List ℕ} {xs ys : List (List ℕ)} → Runs d b n xs m s → Runs d m (n + length xs) ys c t → Runs d b n (xs ++ ys) c (s ++ t)
+runs-append {d = d} {n = n} {m = m} {c = c} {t = t} {ys = ys} texts.end q = subst (λ (k : ℕ). Runs d m k ys c t) (let e : n + 0 ≡ n = omega arith in e) q
+runs-append {d = d} {n = n} {m = m} {c = c} {t = t} {ys = ys} (texts.next {s = s} {t = u} {l = l} {ls = ls} h r) q =
+    subst (Runs d _ n (l ∷ (ls ++ ys)) c) (sym (append-assoc s u t))
+    (texts.next h (runs-append r (subst (λ (k : ℕ). Runs d m k ys c t) (sym (number-on n (length ls))) q)))
+
+-- what a text comes to behind its first lines: the index met, and what has been printed
+pub record Met (d n : ℕ) (b : List ℕ) (xs ys : List (List ℕ)) (c t : List ℕ) : Type 0 where
+  pub met : List ℕ
+  pub text : List ℕ
+  pub more : List ℕ
+  pub before : Runs d b n xs met text
+  pub after : Runs d met (n + length xs) ys c more
+  pub prints : t ≡ text ++ more
+
+pub runs-split : {d n : ℕ} {b c t : List ℕ} (xs ys : List (List ℕ)) → Runs d b n (xs ++ ys) c t → Met d n b xs ys c t
+runs-split {d = d} {n = n} {b = b} {c = c} {t = t} [] ys r =
+    record { met = b; text = []; more = t; before = texts.end; after = subst (λ (k : ℕ). Runs d b k ys c t) (let e : n ≡ n + 0 = omega arith in e) r; prints = refl }
+runs-split {d = d} {n = n} {c = c} (x ∷ xs) ys (texts.next {s = s} h r) =
+    let w = runs-split xs ys r in
+    record {
+      met = w .met;
+      text = s ++ w .text;
+      more = w .more;
+      before = texts.next h (w .before);
+      after = subst (λ (k : ℕ). Runs d (w .met) k ys c (w .more)) (number-on n (length xs)) (w .after);
+      prints = ap (λ (u : List ℕ). s ++ u) (w .prints) ∙ sym (append-assoc s (w .text) (w .more));
+    }
+
+-- ---- WHAT IS KEPT OF A LINE
+
+pub step-kept : {d n : ℕ} {b l c t : List ℕ} → Steps d b n (kept l) c t → Steps d b n l c t
+step-kept {d = d} {l = l} (passed e f g) = passed (ap (λ (a : ActLine). a .readable) (sym (act-kept d l)) ∙ e) f g
+step-kept {d = d} {n = n} {b = b} {l = l} {c = c} {t = t} (acted e w) =
+    acted (ap (λ (a : ActLine). a .readable) (sym (act-kept d l)) ∙ e) (subst (λ (a : ActLine). Acted (askedBy a) b n c t) (act-kept d l) w)
+
+pub runs-kept : {d n : ℕ} {b c t : List ℕ} (ls : List (List ℕ)) → Runs d b n (map kept ls) c t → Runs d b n ls c t
+runs-kept [] texts.end = texts.end
+runs-kept (l ∷ ls) (texts.next h r) = texts.next (step-kept h) (runs-kept ls r)
+
+-- ---- A TEXT IS A SERIES OF ACTS
+
+abbrev doneIn : {x : Act} {b : List ℕ} {n : ℕ} {c t : List ℕ} → Acted x b n c t → Done
+doneIn {x = x} w = record { act = x; code = w .code; answer = w .answer }
+
+pub runs-series : {d n : ℕ} {b c t : List ℕ} {ls : List (List ℕ)} → Runs d b n ls c t → (os : List Done) × Series b os c
+runs-series texts.end = ([], end)
+runs-series {b = b} {c = c} (texts.next (passed e f g) r) = let w = runs-series r in (w .0, subst (λ (x : List ℕ). Series x (w .0) c) f (w .1))
+runs-series (texts.next (acted e a) r) = let w = runs-series r in (doneIn a ∷ w .0, next (a .done) (w .1))
+
+module _ (b : List ℕ) (d : ℕ) (lent : Permitted (length b)) (low : 1 ≤ d) (high : d ≤ 16) where
+  -- after the lines of any text the index is sound, and its live records are those inserted and not deleted since
+  pub text-stands : {n : ℕ} {c t : List ℕ} {ls : List (List ℕ)} → (r : Runs d (newIndex b d) n ls c t) → Stands d (heldBy d (runs-series r .0) []) c
+  text-stands r = series b d lent low high (runs-series r .1)
+
+-- a question that is carried out on index m prints the k nearest of the records held, and the exact number of leaves
+pub record Told (p : List ℤ) (k n : ℕ) (m t : List ℕ) : Type 0 where
+  pub found : Found
+  pub nearest : Answers m p k found
+  pub lines : t ≡ answerLines n 0 (found .leaves) (found .rows)
+
+pub text-question : {n : ℕ} {m c t : List ℕ} (p : List ℤ) (k j : ℕ) (w : Acted (question p k j) m n c t) → w .code ≡ 0 → Told p k n m t
+text-question {n = n} {m = m} {c = c} p k j w z =
+    let h : acts.does (question p k j) m 0 (w .answer) c = subst (λ (x : ℕ). acts.does (question p k j) m x (w .answer) c) z (w .done) in
+    record {
+      found = w .answer;
+      nearest = subst (Answers m p k) (sym (h .1)) (question-answers m p k j (h .0));
+      lines = w .prints ∙ ap (λ (x : ℕ). answerLines n x (w .answer .leaves) (w .answer .rows)) z;
+    }
