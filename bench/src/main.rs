@@ -215,26 +215,68 @@ fn map_upkeep(points: &[i16], d: usize, some: usize) -> (f64, f64) {
     (put / some as f64, taken / some as f64)
 }
 
-/// A line of the second table.
-fn upkeep_line(case: &mut Case, n: usize) -> String {
-    let d = case.d;
-    let touched = touch(&case.index);
-    let check = best(ROUNDS, || case.index.check());
-    let (put, taken) = upkeep(&mut case.index, Mode::Trusted, &case.points, 200);
-    let (act_put, act_taken) = upkeep(&mut case.index, Mode::Act, &case.points, 5);
-    let (map_put, map_taken) = map_upkeep(&case.points, d, 200);
-    format!(
-        "| {d} | {n} | {:.1} | {:.1} | {:.1} | {:.2} | {:.2} |",
-        check / touched,
-        put / map_put,
-        taken / map_taken,
-        act_put / check,
-        act_taken / check
-    )
+/// Seconds that clustered points take, for the second table and for the growth with n.
+struct Times {
+    d: usize,
+    n: usize,
+    touch: f64,
+    check: f64,
+    search: f64,
+    scan: f64,
+    /// insert and delete without the check, as acts, and of the map
+    trusted: (f64, f64),
+    acts: (f64, f64),
+    map: (f64, f64),
 }
 
-/// The first table; the lines of the second are kept for later.
-fn questions(changes: &mut Vec<String>) {
+impl Times {
+    fn of(case: &mut Case, n: usize) -> Times {
+        let asked = case.questions.len() / case.d;
+        Times {
+            d: case.d,
+            n,
+            touch: touch(&case.index),
+            check: best(ROUNDS, || case.index.check()),
+            search: best(ROUNDS, || {
+                case.ask_all(Mode::Trusted, 10, asked);
+            }),
+            scan: best(ROUNDS, || case.scan_all(10, false)),
+            trusted: upkeep(&mut case.index, Mode::Trusted, &case.points, 200),
+            acts: upkeep(&mut case.index, Mode::Act, &case.points, 5),
+            map: map_upkeep(&case.points, case.d, 200),
+        }
+    }
+
+    /// A line of the second table.
+    fn line(&self) {
+        println!(
+            "| {} | {} | {:.1} | {:.1} | {:.1} | {:.2} | {:.2} |",
+            self.d,
+            self.n,
+            self.check / self.touch,
+            self.trusted.0 / self.map.0,
+            self.trusted.1 / self.map.1,
+            self.acts.0 / self.check,
+            self.acts.1 / self.check
+        );
+    }
+
+    /// A line of the third table: these times over those of fewer points.
+    fn growth(&self, few: &Times) {
+        println!(
+            "| {} | {} | {:.1} | {:.1} | {:.1} | {:.1} |",
+            self.d,
+            self.n,
+            self.search / few.search,
+            self.scan / few.scan,
+            self.check / few.check,
+            self.trusted.0 / few.trusted.0
+        );
+    }
+}
+
+/// The first table; what the others need is kept.
+fn questions(times: &mut Vec<Times>) {
     println!("## Questions, as multiples of the linear scan\n");
     print!("| points | d | n | k | leaves | leaves read | search | act | scan, AVX2 |");
     println!(
@@ -252,7 +294,7 @@ fn questions(changes: &mut Vec<String>) {
                 let mut case = Case::new(kind, d, n);
                 ROWS.iter().for_each(|&k| case.line(kind, n, k));
                 if kind == Kind::Clustered {
-                    changes.push(upkeep_line(&mut case, n));
+                    times.push(Times::of(&mut case, n));
                 }
             }
         }
@@ -260,10 +302,16 @@ fn questions(changes: &mut Vec<String>) {
 }
 
 fn main() {
-    let mut changes = Vec::new();
-    questions(&mut changes);
+    let mut times = Vec::new();
+    questions(&mut times);
     println!("\n## Check, insert and delete, clustered points\n");
     println!("| d | n | check / touch | insert / map | delete / map | insert act / check | delete act / check |");
     println!("|---|---|---|---|---|---|---|");
-    changes.iter().for_each(|line| println!("{line}"));
+    times.iter().for_each(Times::line);
+    println!("\n## Growth with n: times over those of 1,000 points, clustered, k = 10\n");
+    println!("| d | n | search | scan | check | insert |");
+    println!("|---|---|---|---|---|---|");
+    for of_d in times.chunks(SIZES.len()) {
+        of_d[1..].iter().for_each(|more| more.growth(&of_d[0]));
+    }
 }
