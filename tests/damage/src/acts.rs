@@ -89,7 +89,7 @@ impl Run {
             self.expect(page == 0, || format!("check of a sound index: page {page}"));
             return (code, 0);
         }
-        let fails = judge::fails(&model.b);
+        let fails = model.fails();
         self.expect(fails.contains(&page), || format!("check: page {page}, judge {fails:?}"));
         (code, 2)
     }

@@ -4,7 +4,6 @@ use crate::acts::{lent_rows, Act};
 use crate::built::{built, Plan, Shape};
 use crate::data::{Kind, Rng};
 use crate::ffi;
-use crate::judge;
 use crate::layout::*;
 use crate::lent::Lent;
 use crate::model::{Model, Tally};
@@ -37,27 +36,52 @@ fn given(s: &mut Series) -> Given {
     Given { acts, new, old, x }
 }
 
-/// All acts on a damaged index, held in both; `bytes` is what it was damaged to.
-fn judged(run: &mut Run, lib: &mut Lent, bytes: &[u8], given: &Given) {
+/// Counts a damaged index; whether it is still sound, by the judge.
+fn counted(run: &mut Run, model: &mut Model) -> bool {
+    let fails = model.fails();
     run.counts.damaged += 1;
-    let mut model = Model::over(bytes.to_vec());
-    let sound = model.sound();
-    run.counts.unsound += !sound as u64;
-    if sound {
+    run.counts.unsound += !fails.is_empty() as u64;
+    run.counts.header += fails.contains(&0) as u64;
+    fails.is_empty()
+}
+
+/// All acts on a damaged index, held in both.
+fn judged(run: &mut Run, lib: &mut Lent, model: &mut Model, given: &Given) {
+    if counted(run, model) {
         // A byte that no rule names: the check, and the acts in turn.
-        run.act(lib, &mut model, &Act::Check, true);
+        run.act(lib, model, &Act::Check, true);
         let turn = run.counts.damaged as usize % given.acts.len();
-        run.act(lib, &mut model, &given.acts[turn], false);
-        lib.copy_from_slice(bytes);
+        carried_out(run, lib, model, &given.acts[turn]);
     } else {
-        let fails = judge::fails(bytes);
-        run.counts.header += fails.contains(&0) as u64;
         for act in &given.acts {
-            run.act(lib, &mut model, act, true);
+            run.act(lib, model, act, true);
         }
     }
-    unchecked(run, lib, bytes, given);
+    unchecked(run, lib, &model.b, given);
     run.expect(lib.intact(), || "bytes before the index changed".into());
+}
+
+/// The check of a damaged index, and one act more: they take turns.
+fn glanced(run: &mut Run, lib: &mut Lent, model: &mut Model, given: &Given) {
+    let sound = counted(run, model);
+    run.act(lib, model, &Act::Check, true);
+    let turn = run.counts.damaged as usize % given.acts.len();
+    if turn == 0 {
+        unchecked(run, lib, &model.b, given);
+    } else if sound {
+        carried_out(run, lib, model, &given.acts[turn]);
+    } else {
+        run.act(lib, model, &given.acts[turn], true);
+    }
+    run.expect(lib.intact(), || "bytes before the index changed".into());
+}
+
+/// An act on a sound index, which is afterwards as it was.
+fn carried_out(run: &mut Run, lib: &mut Lent, model: &mut Model, act: &Act) {
+    let bytes = model.b.clone();
+    run.act(lib, model, act, false);
+    model.touch().copy_from_slice(&bytes);
+    lib.copy_from_slice(&bytes);
 }
 
 /// The acts without the check: they end soon, the question changes nothing, and a level above 4 is refused with 2.
@@ -91,25 +115,57 @@ fn unchecked(run: &mut Run, lib: &mut Lent, bytes: &[u8], given: &Given) {
     run.counts.longest = run.counts.longest.max(start.elapsed());
 }
 
-/// Every byte of the used pages, and of the first never used, to several values.
-fn each_byte(run: &mut Run, mut s: Series) {
+/// The values that a byte is given all the acts at; at every other value they take turns.
+fn thorough(old: u8) -> [u8; 5] {
+    [old ^ 1, old ^ 0x80, 0, 255, old.wrapping_add(1)]
+}
+
+/// Every byte of the used pages, and of the first never used, to every other value, or to those of `thorough` alone. The bytes are shared out
+/// among threads, each with an index of its own.
+fn each_byte(run: &mut Run, mut s: Series, all: bool) {
     let given = given(&mut s);
-    let used = (u32_at(&s.model.b, FRESH) as usize + 1) * PAGE;
-    let mut bytes = s.model.b.clone();
-    for at in 0..used.min(bytes.len()) {
-        let old = bytes[at];
-        let mut values = vec![old ^ 1, old ^ 0x80, 0, 255, old.wrapping_add(1)];
-        values.sort();
-        values.dedup();
-        for v in values.into_iter().filter(|&v| v != old) {
-            bytes[at] = v;
-            s.lib[at] = v;
-            judged(run, &mut s.lib, &bytes, &given);
+    let sound = &s.model.b;
+    let used = (u32_at(sound, FRESH) as usize + 1) * PAGE;
+    let threads = std::thread::available_parallelism().map_or(1, |n| n.get());
+    let shares = (0..threads).map(|t| (t, run.fork())).collect::<Vec<_>>();
+    let given = &given;
+    let done = std::thread::scope(|scope| {
+        let start = |(t, mut run): (usize, Run)| {
+            let places = (t..used.min(sound.len())).step_by(threads);
+            scope.spawn(move || {
+                each_value(&mut run, sound, places, all, given);
+                run
+            })
+        };
+        let running = shares.into_iter().map(start).collect::<Vec<_>>();
+        running.into_iter().map(|r| r.join().expect("no share panics")).collect::<Vec<_>>()
+    });
+    done.into_iter().for_each(|share| run.join(share));
+}
+
+/// The bytes at some places, one at a time, to every other value.
+fn each_value(run: &mut Run, sound: &[u8], places: impl Iterator<Item = usize>, all: bool, given: &Given) {
+    let mut lib = Lent::new(sound);
+    let mut model = Model::over(sound.to_vec());
+    for at in places {
+        let old = sound[at];
+        for v in (0..=255).filter(|&v| v != old) {
+            let thorough = thorough(old).contains(&v);
+            if !thorough && !all {
+                continue;
+            }
+            model.touch()[at] = v;
+            lib[at] = v;
+            if thorough {
+                judged(run, &mut lib, &mut model, given);
+            } else {
+                glanced(run, &mut lib, &mut model, given);
+            }
         }
-        bytes[at] = old;
-        s.lib[at] = old;
+        model.touch()[at] = old;
+        lib[at] = old;
     }
-    run.equal("restored", &s.lib, &bytes);
+    run.equal("restored", &lib, sound);
 }
 
 /// A change somewhere in an index, of the kinds that a rule speaks of.
@@ -151,7 +207,7 @@ fn struck(run: &mut Run, mut s: Series, times: usize, seed: u64) {
             strike(&mut rng, &mut bytes);
         }
         s.lib.copy_from_slice(&bytes);
-        judged(run, &mut s.lib, &bytes, &given);
+        judged(run, &mut s.lib, &mut Model::over(bytes), &given);
     }
 }
 
@@ -176,7 +232,7 @@ fn meaningless(run: &mut Run, pages: usize, times: usize, seed: u64) {
             }
         }
         s.lib.copy_from_slice(&bytes);
-        judged(run, &mut s.lib, &bytes, &given);
+        judged(run, &mut s.lib, &mut Model::over(bytes), &given);
     }
 }
 
@@ -189,16 +245,17 @@ pub fn all(run: &mut Run) {
     run.case("each byte: two levels, with freed pages, d 3", |run| {
         let s = shrunk(run, 12, 3, Kind::Uniform, 90, 36);
         assert!(u32_at(&s.model.b, FREED) != 0);
-        each_byte(run, s);
+        each_byte(run, s, true);
     });
     run.case("each byte: one leaf, all other pages freed, d 2", |run| {
         let s = shrunk(run, 6, 2, Kind::Clustered, 40, 9);
-        each_byte(run, s);
+        each_byte(run, s, true);
     });
     run.case("each byte: three levels, d 2", |run| {
         let s = grown(run, 40, 2, Kind::Uniform, 190, 0);
         assert_eq!(2, s.model.b[LEVEL]);
-        each_byte(run, s);
+        let all = run.long;
+        each_byte(run, s, all);
     });
     let times = if run.long { 60_000 } else { 8_000 };
     for (pages, d, points, drop) in [(16, 2, 60, 3), (40, 1, 200, 0), (64, 3, 350, 4), (64, 16, 350, 2), (256, 8, 1800, 5)] {
@@ -225,5 +282,5 @@ pub fn all(run: &mut Run) {
 
 fn each_byte_of(run: &mut Run, pages: usize, d: usize, points: usize) {
     let s = grown(run, pages, d, Kind::Uniform, points, 0);
-    each_byte(run, s);
+    each_byte(run, s, true);
 }

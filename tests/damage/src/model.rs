@@ -3,6 +3,7 @@
 use crate::geometry::{squared, Key, Slices};
 use crate::judge;
 use crate::layout::*;
+use std::collections::BTreeSet;
 
 #[derive(Clone, Copy, PartialEq, Eq, Debug, Default)]
 pub struct Row {
@@ -33,11 +34,11 @@ pub struct Found {
     pub unread: Vec<u32>,
 }
 
-/// An index with what the model knows of it: whether it is sound is judged anew after `touch`.
+/// An index with the pages at which it fails, which are judged anew after `touch`.
 #[derive(Clone)]
 pub struct Model {
     pub b: Vec<u8>,
-    known: Option<bool>,
+    known: Option<BTreeSet<u32>>,
 }
 
 fn wide(x: &[i16]) -> Vec<i64> {
@@ -71,11 +72,13 @@ impl Model {
         (self.b.len() / PAGE) as u32
     }
 
+    /// The pages at which the index fails, by the judge.
+    pub fn fails(&mut self) -> &BTreeSet<u32> {
+        self.known.get_or_insert_with(|| judge::fails(&self.b))
+    }
+
     pub fn sound(&mut self) -> bool {
-        if self.known.is_none() {
-            self.known = Some(judge::sound(&self.b));
-        }
-        self.known.unwrap()
+        self.fails().is_empty()
     }
 
     /// 1 or 2 where the length or the index is refused.
@@ -101,7 +104,7 @@ impl Model {
         for (field, value) in [(SIZE, n), (FEATURES, d), (ROOT, 1), (FRESH, 2)] {
             put_u32(&mut self.b, field, value);
         }
-        self.known = Some(true);
+        self.known = Some(BTreeSet::new());
         0
     }
 

@@ -25,6 +25,23 @@ pub struct Counts {
     pub unread: u64,
 }
 
+impl Counts {
+    fn add(&mut self, other: &Counts) {
+        self.acts += other.acts;
+        self.trusted += other.trusted;
+        self.codes.iter_mut().zip(other.codes).for_each(|(sum, n)| *sum += n);
+        self.rows += other.rows;
+        self.bytes += other.bytes;
+        self.damaged += other.damaged;
+        self.unsound += other.unsound;
+        self.header += other.header;
+        self.high += other.high;
+        self.longest = self.longest.max(other.longest);
+        self.searches += other.searches;
+        self.unread += other.unread;
+    }
+}
+
 pub struct Run {
     pub long: bool,
     /// Acts on sound indexes go without the check.
@@ -52,6 +69,25 @@ impl Run {
             failures: 0,
             name: String::new(),
         }
+    }
+
+    /// A run for a thread that shares in this case; `join` adds what it found.
+    pub fn fork(&self) -> Run {
+        Run {
+            long: self.long,
+            trusted: self.trusted,
+            only: String::new(),
+            counts: Counts::default(),
+            passed: 0,
+            failed: 0,
+            failures: 0,
+            name: self.name.clone(),
+        }
+    }
+
+    pub fn join(&mut self, share: Run) {
+        self.counts.add(&share.counts);
+        self.failures += share.failures;
     }
 
     pub fn case(&mut self, name: &str, test: impl FnOnce(&mut Run)) {
