@@ -1,158 +1,70 @@
-// The proved library, as include/epoch_index.h declares it.
+// What inserts and deletes: the index in three ways, and the standard library's ordered map.
+use epoch_index::{Index, SoundIndex, PAGE_BYTES};
+use std::collections::BTreeMap;
 
-#[repr(C)]
-#[derive(Clone, Copy, Default)]
-pub struct Row {
-    pub distance: u64,
-    pub id: u32,
-    pub position: u32,
+/// Something that points with identifiers are put into and taken from.
+pub trait Keeps {
+    fn put(&mut self, id: u32, point: &[i16]);
+    fn take(&mut self, id: u32, point: &[i16]);
 }
 
-#[repr(C)]
+/// The acts: each checks the whole index first.
+impl Keeps for Index<&mut [u8]> {
+    fn put(&mut self, id: u32, point: &[i16]) {
+        self.insert(id, point).unwrap()
+    }
+
+    fn take(&mut self, id: u32, _point: &[i16]) {
+        self.delete(id).unwrap()
+    }
+}
+
+/// The acts without the check.
+impl Keeps for SoundIndex<&mut [u8]> {
+    fn put(&mut self, id: u32, point: &[i16]) {
+        self.insert(id, point).unwrap()
+    }
+
+    fn take(&mut self, id: u32, _point: &[i16]) {
+        self.delete(id).unwrap()
+    }
+}
+
+/// An ordered map with the index's keys: pyramid, height, identifier.
 #[derive(Default)]
-pub struct Tally {
-    pub questions: u32,
-    pub leaves: u32,
+pub struct Map {
+    points: BTreeMap<(usize, u16, u32), [i16; 16]>,
 }
 
-#[repr(C)]
-pub struct Answer {
-    pub code: u32,
-    pub count: usize,
-    pub leaves: u32,
+impl Map {
+    fn key(id: u32, point: &[i16]) -> (usize, u16, u32) {
+        let height = point.iter().map(|c| c.unsigned_abs()).max().unwrap();
+        let j = point.iter().position(|c| c.unsigned_abs() == height).unwrap();
+        (if point[j] < 0 { j } else { j + point.len() }, height, id)
+    }
 }
 
-type Question = unsafe extern "C" fn(
-    *const u8,
-    usize,
-    *const i16,
-    usize,
-    usize,
-    *mut Row,
-    usize,
-    *mut Tally,
-) -> Answer;
+impl Keeps for Map {
+    fn put(&mut self, id: u32, point: &[i16]) {
+        let mut slots = [0; 16];
+        slots[..point.len()].copy_from_slice(point);
+        assert!(self.points.insert(Map::key(id, point), slots).is_none())
+    }
 
-extern "C" {
-    fn epoch_index_make(index: *mut u8, length: usize, features: u8) -> u32;
-    fn epoch_index_insert(
-        index: *mut u8,
-        length: usize,
-        id: u32,
-        point: *const i16,
-        d: usize,
-    ) -> u32;
-    fn epoch_index_delete(index: *mut u8, length: usize, id: u32) -> u32;
-    fn epoch_index_check(index: *const u8, length: usize, page: *mut u32) -> u32;
-    fn epoch_index_question(
-        index: *const u8,
-        length: usize,
-        point: *const i16,
-        d: usize,
-        k: usize,
-        rows: *mut Row,
-        lent: usize,
-        tally: *mut Tally,
-    ) -> Answer;
-    fn epoch_index_trusted_question(
-        index: *const u8,
-        length: usize,
-        point: *const i16,
-        d: usize,
-        k: usize,
-        rows: *mut Row,
-        lent: usize,
-        tally: *mut Tally,
-    ) -> Answer;
-    fn epoch_index_trusted_insert(
-        index: *mut u8,
-        length: usize,
-        id: u32,
-        point: *const i16,
-        d: usize,
-    ) -> u32;
-    fn epoch_index_trusted_delete(index: *mut u8, length: usize, id: u32) -> u32;
+    fn take(&mut self, id: u32, point: &[i16]) {
+        assert!(self.points.remove(&Map::key(id, point)).is_some())
+    }
 }
 
-/// Whether an act checks the whole index first.
-#[derive(Clone, Copy, PartialEq)]
-pub enum Mode {
-    Act,
-    Trusted,
+/// Puts all points in, with identifiers from 1 on.
+pub fn fill(keeper: &mut impl Keeps, points: &[i16], d: usize) {
+    (1..).zip(points.chunks(d)).for_each(|(id, p)| keeper.put(id, p));
 }
 
-pub struct Index {
-    pub bytes: Vec<u8>,
-    pub d: usize,
-    tally: Tally,
-}
-
-impl Index {
-    pub fn make(pages: usize, d: usize) -> Index {
-        let mut bytes = vec![0; pages * 1024];
-        let code = unsafe { epoch_index_make(bytes.as_mut_ptr(), bytes.len(), d as u8) };
-        assert_eq!(code, 0);
-        Index {
-            bytes,
-            d,
-            tally: Tally::default(),
-        }
-    }
-
-    pub fn insert(&mut self, mode: Mode, id: u32, point: &[i16]) {
-        let act = if mode == Mode::Act {
-            epoch_index_insert
-        } else {
-            epoch_index_trusted_insert
-        };
-        let code = unsafe {
-            act(
-                self.bytes.as_mut_ptr(),
-                self.bytes.len(),
-                id,
-                point.as_ptr(),
-                point.len(),
-            )
-        };
-        assert_eq!(code, 0);
-    }
-
-    pub fn delete(&mut self, mode: Mode, id: u32) {
-        let act = if mode == Mode::Act {
-            epoch_index_delete
-        } else {
-            epoch_index_trusted_delete
-        };
-        let code = unsafe { act(self.bytes.as_mut_ptr(), self.bytes.len(), id) };
-        assert_eq!(code, 0);
-    }
-
-    pub fn check(&self) {
-        let mut page = 0;
-        let code = unsafe { epoch_index_check(self.bytes.as_ptr(), self.bytes.len(), &mut page) };
-        assert_eq!(code, 0, "page {page}");
-    }
-
-    /// The rows go to `rows`; the answer has their number and that of the leaves read.
-    pub fn question(&mut self, mode: Mode, q: &[i16], k: usize, rows: &mut [Row; 64]) -> Answer {
-        let act: Question = if mode == Mode::Act {
-            epoch_index_question
-        } else {
-            epoch_index_trusted_question
-        };
-        let answer = unsafe {
-            act(
-                self.bytes.as_ptr(),
-                self.bytes.len(),
-                q.as_ptr(),
-                q.len(),
-                k,
-                rows.as_mut_ptr(),
-                64,
-                &mut self.tally,
-            )
-        };
-        assert_eq!(answer.code, 0);
-        answer
-    }
+/// An index that holds the points, with as many pages as they can need.
+pub fn filled(points: &[i16], d: usize) -> Vec<u8> {
+    let pages = (points.len() / d / 7 + 8).min(16_384);
+    let mut bytes = Index::make(vec![0; pages * PAGE_BYTES], d as u8).unwrap().into_bytes();
+    fill(&mut Index::open(&mut bytes[..]).unwrap(), points, d);
+    bytes
 }
