@@ -10,7 +10,7 @@ pub use input::take_line;
 pub use lines::first_line;
 pub use lines::step;
 
-// What the first line leaves: the features that it names, 0 where the program ends, and the index after what it printed.
+// What the first line leaves: the features that it names, 0 where the program ends, and where the output goes on.
 pub struct Begun {
     pub d: usize,
     pub at: usize,
