@@ -53,7 +53,7 @@ fn make_room(out: &[u8], s: Progress) -> Progress
     flush(out, s)
 }
 
-// The chunk up to the end of a line.
+// Takes the chunk up to the end of a line, or to its own end.
 fn turn(index: &mut [u8], held: &mut [u8], chunk: &[u8], out: &mut [u8], s: Progress) -> Progress
     requires { ⌜ Fits (now index) (now held) (now out) s × (s .at ≤ length (now chunk)) ⌝ }
     ensures { λ r. ⌜ Turned (now (index .entry)) (now (held .entry)) (now (chunk .entry)) s (now (index .exit)) (now (held .exit)) (now (out .exit)) r ⌝ }
@@ -135,6 +135,7 @@ fn close(index: &mut [u8], held: &[u8], out: &mut [u8], s: Progress)
     flush(out, u);
 }
 
+// A whole run, from its first line to the end of input.
 fn run(index: &mut [u8], held: &mut [u8], chunk: &mut [u8], out: &mut [u8])
     requires { ⌜ (length (now index) ≡ indexBytes) × (257 ≤ length (now held)) × (mostPrinted ≤ length (now out)) ⌝ }
 {
