@@ -1,4 +1,4 @@
-/* A session with an index in 64 pages: acts that check the index each time, then one check and acts without it, then a damaged byte. */
+/* A review: an index in 64 pages, acts that check it each time, then one check and acts without it, then a damaged byte. */
 #include <inttypes.h>
 #include <stdio.h>
 #include <stdlib.h>

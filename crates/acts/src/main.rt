@@ -6,7 +6,7 @@ ghost use lib.ListN.{length};
 ghost use Rattle.io.specs.Counts.{Counts};
 ghost use Rattle.acts_step.specs.Steps.{indexBytes, mostPrinted};
 ghost use Rattle.acts.specs.Running.{Fits, Roomy, Turned, Ran};
-use acts_step::Session;
+use acts_step::Progress;
 use acts_step::end_input;
 use acts_step::take_line;
 use libc::STDIN_FILENO;
@@ -18,11 +18,11 @@ const ROOM: usize = 6720;
 // The last number that a line may have; no input comes to it.
 const LAST: u64 = 18446744073709551614;
 
-// The session at other places of chunk and output.
-fn placed(s: Session, going: bool, at: usize, end: usize) -> Session
+// The progress with other places of chunk and output.
+fn placed(s: Progress, going: bool, at: usize, end: usize) -> Progress
     ensures { λ r. ⌜ (r .d ≡ s .d) × (r .number ≡ s .number) × (r .held ≡ s .held) × (r .at ≡ at) × (r .end ≡ end) × (r .going ≡ going) ⌝ }
 {
-    Session {
+    Progress {
         going: going,
         d: s.d,
         number: s.number,
@@ -32,8 +32,8 @@ fn placed(s: Session, going: bool, at: usize, end: usize) -> Session
     }
 }
 
-// Writes what is printed. Where that fails the session does not go on.
-fn flush(out: &[u8], s: Session) -> Session
+// Writes what is printed. Where that fails the run does not go on.
+fn flush(out: &[u8], s: Progress) -> Progress
     requires { ⌜ s .end ≤ length (now out) ⌝ }
     ensures { λ r. ⌜ (r .d ≡ s .d) × (r .number ≡ s .number) × (r .held ≡ s .held) × (r .at ≡ s .at) × (r .end ≡ 0) ⌝ }
 {
@@ -43,7 +43,7 @@ fn flush(out: &[u8], s: Session) -> Session
 }
 
 // Makes room for what a line prints.
-fn make_room(out: &[u8], s: Session) -> Session
+fn make_room(out: &[u8], s: Progress) -> Progress
     requires { ⌜ (s .end ≤ length (now out)) × (mostPrinted ≤ length (now out)) ⌝ }
     ensures { λ r. ⌜ Roomy (now (out .entry)) s r ⌝ }
 {
@@ -53,8 +53,8 @@ fn make_room(out: &[u8], s: Session) -> Session
     flush(out, s)
 }
 
-// The chunk up to the end of a line.
-fn turn(index: &mut [u8], held: &mut [u8], chunk: &[u8], out: &mut [u8], s: Session) -> Session
+// Takes the chunk up to the end of a line, or to its own end.
+fn turn(index: &mut [u8], held: &mut [u8], chunk: &[u8], out: &mut [u8], s: Progress) -> Progress
     requires { ⌜ Fits (now index) (now held) (now out) s × (s .at ≤ length (now chunk)) ⌝ }
     ensures { λ r. ⌜ Turned (now (index .entry)) (now (held .entry)) (now (chunk .entry)) s (now (index .exit)) (now (held .exit)) (now (out .exit)) r ⌝ }
 {
@@ -69,7 +69,13 @@ fn turn(index: &mut [u8], held: &mut [u8], chunk: &[u8], out: &mut [u8], s: Sess
 }
 
 // Does the lines that end in a chunk.
-fn run_chunk(index: &mut [u8], held: &mut [u8], chunk: &[u8], out: &mut [u8], s: Session) -> Session
+fn run_chunk(
+    index: &mut [u8],
+    held: &mut [u8],
+    chunk: &[u8],
+    out: &mut [u8],
+    s: Progress,
+) -> Progress
     requires { ⌜ Fits (now index) (now held) (now out) s × (s .going ≡ true) ⌝ }
     ensures { λ r. ⌜ Ran (now (index .entry)) (now (held .entry)) (now (chunk .entry)) s (now (index .exit)) (now (held .exit)) (now (out .exit)) r ⌝ }
 {
@@ -94,8 +100,8 @@ fn run_input(
     held: &mut [u8],
     chunk: &mut [u8],
     out: &mut [u8],
-    s: Session,
-) -> Session
+    s: Progress,
+) -> Progress
     requires { ⌜ Fits (now index) (now held) (now out) s ⌝ }
     ensures { λ r. ⌜ Fits (now (index .exit)) (now (held .exit)) (now (out .exit)) r ⌝ }
 {
@@ -112,8 +118,8 @@ fn run_input(
     t
 }
 
-// The end of input ends a last line, unless the session has ended before.
-fn close(index: &mut [u8], held: &[u8], out: &mut [u8], s: Session)
+// The end of input ends a last line, unless the run has ended before.
+fn close(index: &mut [u8], held: &[u8], out: &mut [u8], s: Progress)
     requires { ⌜ Fits (now index) (now held) (now out) s ⌝ }
 {
     if !s.going {
@@ -129,10 +135,11 @@ fn close(index: &mut [u8], held: &[u8], out: &mut [u8], s: Session)
     flush(out, u);
 }
 
+// A whole run, from its first line to the end of input.
 fn run(index: &mut [u8], held: &mut [u8], chunk: &mut [u8], out: &mut [u8])
     requires { ⌜ (length (now index) ≡ indexBytes) × (257 ≤ length (now held)) × (mostPrinted ≤ length (now out)) ⌝ }
 {
-    let s = Session {
+    let s = Progress {
         going: true,
         d: 0,
         number: 1,

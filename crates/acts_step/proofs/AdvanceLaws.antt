@@ -8,17 +8,17 @@ use lib.ListN.{take, drop}
 use lib.Seq.{drop-length}
 use Rattle.acts_text.specs.Input.{ended, current}
 use Rattle.acts_text.proofs.InputLaws.{ended-append, current-append}
-use Rattle.acts_step.specs.Sessions.{Does, Waits, Goes, Takes, Goings, Advances}
-use Rattle.acts_step.specs.Sessions as sessions
-use Rattle.acts_step.specs.declared.Session.{Session}
+use Rattle.acts_step.specs.Advances.{Does, Waits, Goes, Takes, Goings, Advances}
+use Rattle.acts_step.specs.Advances as goings
+use Rattle.acts_step.specs.declared.Progress.{Progress}
 
 goings-append : {d n d₁ n₁ d₂ n₂ : ℕ} {b m c s t : List ℕ} {g g₁ g₂ : Bool} {xs ys : List (List ℕ)}
     → Goings d n b g xs d₁ n₁ m g₁ s → Goings d₁ n₁ m g₁ ys d₂ n₂ c g₂ t → Goings d n b g (xs ++ ys) d₂ n₂ c g₂ (s ++ t)
-goings-append sessions.end q = q
-goings-append {d = d} {n = n} {d₂ = d₂} {n₂ = n₂} {b = b} {c = c} {t = t} {g₂ = g₂} {ys = ys} (sessions.next {l = l} {s = s} {t = u} {ls = ls} h r) q =
-    subst (Goings d n b true (l ∷ (ls ++ ys)) d₂ n₂ c g₂) (sym (append-assoc s u t)) (sessions.next h (goings-append r q))
+goings-append goings.end q = q
+goings-append {d = d} {n = n} {d₂ = d₂} {n₂ = n₂} {b = b} {c = c} {t = t} {g₂ = g₂} {ys = ys} (goings.next {l = l} {s = s} {t = u} {ls = ls} h r) q =
+    subst (Goings d n b true (l ∷ (ls ++ ys)) d₂ n₂ c g₂) (sym (append-assoc s u t)) (goings.next h (goings-append r q))
 
-pub advances-none : (b held i : List ℕ) (s r : Session) → r .held ≡ s .held → r .d ≡ s .d → r .number ≡ s .number → Advances b held i s b held i r
+pub advances-none : (b held i : List ℕ) (s r : Progress) → r .held ≡ s .held → r .d ≡ s .d → r .number ≡ s .number → Advances b held i s b held i r
 advances-none b held i s r h d n = record {
   lines = [];
   text = [];
@@ -26,12 +26,12 @@ advances-none b held i s r h d n = record {
   ends = ap (λ (x : ℕ). ended (take x held) i) (sym h);
   rest = ap (λ (x : ℕ). current (take x held) i) (sym h);
   does = subst (λ (x : ℕ). Goings (s .d) (s .number) b true [] x (r .number) b true []) (sym d)
-      (subst (λ (x : ℕ). Goings (s .d) (s .number) b true [] (s .d) x b true []) (sym n) sessions.end);
+      (subst (λ (x : ℕ). Goings (s .d) (s .number) b true [] (s .d) x b true []) (sym n) goings.end);
   goes = λ e. refl;
 }
 
--- a session that goes on, goes on from where it stood
-pub advances-then : (b held i : List ℕ) (s : Session) (m held₁ j : List ℕ) (t : Session) (c held₂ k : List ℕ) (r : Session)
+-- a run that goes on, goes on from where it stood
+pub advances-then : (b held i : List ℕ) (s : Progress) (m held₁ j : List ℕ) (t : Progress) (c held₂ k : List ℕ) (r : Progress)
     → Advances b held i s m held₁ j t → t .going ≡ true → Advances m held₁ j t c held₂ k r → Advances b held i s c held₂ k r
 advances-then b held i s m held₁ j t c held₂ k r p e q = record {
   lines = p .lines ++ q .lines;
@@ -45,7 +45,7 @@ advances-then b held i s m held₁ j t c held₂ k r p e q = record {
 
 -- ---- ONE TURN
 
-module _ (b held chunk out : List ℕ) (s : Session) (on : s .going ≡ true) (c held' out' : List ℕ) (r : Session) where
+module _ (b held chunk out : List ℕ) (s : Progress) (on : s .going ≡ true) (c held' out' : List ℕ) (r : Progress) where
   waits-advances : Waits b held chunk out s c held' out' r → Advances b held (drop (s .at) chunk) s c held' (drop (r .at) chunk) r
   unfolding ended current
   waits-advances w =
@@ -58,7 +58,7 @@ module _ (b held chunk out : List ℕ) (s : Session) (on : s .going ≡ true) (c
         rest = w .kept ∙ ap (current (take (r .held) held')) (sym none);
         does = subst (λ (x : ℕ). Goings (s .d) (s .number) b true [] x (r .number) c true []) (sym (w .stands .1))
             (subst (λ (x : ℕ). Goings (s .d) (s .number) b true [] (s .d) x c true []) (sym (w .stands .2))
-            (subst (λ (x : List ℕ). Goings (s .d) (s .number) b true [] (s .d) (s .number) x true []) (sym (w .same .0)) sessions.end));
+            (subst (λ (x : List ℕ). Goings (s .d) (s .number) b true [] (s .d) (s .number) x true []) (sym (w .same .0)) goings.end));
         goes = λ e. refl;
       }
 
@@ -73,7 +73,7 @@ module _ (b held chunk out : List ℕ) (s : Session) (on : s .going ≡ true) (c
         going = r .going;
         ends = w .ends ∙ ap (λ (x : List ℕ). w .line ∷ ended x (drop (r .at) chunk)) (sym empty);
         rest = w .rest ∙ ap (λ (x : List ℕ). current x (drop (r .at) chunk)) (sym empty);
-        does = subst (λ (x : ℕ). Goings (s .d) (s .number) b true (w .line ∷ []) (r .d) x c (r .going) (w .done .done .text ++ [])) (sym (w .done .number)) (sessions.next step sessions.end);
+        does = subst (λ (x : ℕ). Goings (s .d) (s .number) b true (w .line ∷ []) (r .d) x c (r .going) (w .done .done .text ++ [])) (sym (w .done .number)) (goings.next step goings.end);
         goes = λ e. e;
       }
 
@@ -87,7 +87,7 @@ module _ (b held chunk out : List ℕ) (s : Session) (on : s .going ≡ true) (c
 -- ---- CHUNK AFTER CHUNK
 
 -- more input j behind i changes nothing of what was done, and is left
-unfoldable pub advances-more : (b held i : List ℕ) (s : Session) (c held' i' : List ℕ) (r : Session) (j : List ℕ) → Advances b held i s c held' i' r → Advances b held (i ++ j) s c held' (i' ++ j) r
+unfoldable pub advances-more : (b held i : List ℕ) (s : Progress) (c held' i' : List ℕ) (r : Progress) (j : List ℕ) → Advances b held i s c held' i' r → Advances b held (i ++ j) s c held' (i' ++ j) r
 advances-more b held i s c held' i' r j p = record {
   lines = p .lines;
   text = p .text;

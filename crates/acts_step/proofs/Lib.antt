@@ -1,7 +1,7 @@
 pub mod PutLaws
 pub mod ActLaws
 pub mod StepLaws
-pub mod SessionLaws
+pub mod TakeLaws
 pub mod AdvanceLaws
 pub mod TextLaws
 pub mod PrintLaws

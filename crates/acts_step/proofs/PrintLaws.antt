@@ -17,11 +17,11 @@ use Rattle.acts_text.specs.Input.{linesOf, kept, ended, current, lastLine}
 use Rattle.acts_text.proofs.InputLaws.{lines-kept}
 use Rattle.acts_text.proofs.NameLaws.{names-kept}
 use Rattle.acts_step.specs.Steps.{indexBytes, Steps, Begins, ends, begins}
-use Rattle.acts_step.specs.Sessions.{Does, first, later, Closes, closed, last, Goings, Advances}
-use Rattle.acts_step.specs.Sessions as sessions
+use Rattle.acts_step.specs.Advances.{Does, first, later, Closes, closed, last, Goings, Advances}
+use Rattle.acts_step.specs.Advances as goings
 use Rattle.acts_step.specs.Texts.{Runs, firstOf, laterOf, Prints}
 use Rattle.acts_step.specs.Texts as texts
-use Rattle.acts_step.specs.declared.Session.{Session}
+use Rattle.acts_step.specs.declared.Progress.{Progress}
 use Rattle.acts_step.proofs.StepLaws.{lent, few-features}
 use Rattle.acts_step.proofs.AdvanceLaws.{advances-more}
 use Rattle.acts_step.proofs.TextLaws.{runs-append, runs-kept, runs-series, text-stands}
@@ -69,14 +69,14 @@ module _ (b i : List ℕ) where
 -- ---- LINES OF VALUES
 
 goings-going : {d n d' n' : ℕ} {b c t : List ℕ} {g g' : Bool} {ls : List (List ℕ)} → Goings d n b g ls d' n' c g' t → g' ≡ true → g ≡ true
-goings-going sessions.end e = e
-goings-going (sessions.next h r) e = refl
+goings-going goings.end e = e
+goings-going (goings.next h r) e = refl
 
 goings-runs : {d n d' n' : ℕ} {b c t : List ℕ} {g g' : Bool} {ls : List (List ℕ)} → 2 ≤ n → Goings d n b g ls d' n' c g' t
     → Runs d b n ls c t × ((d' ≡ d) × (n' ≡ n + length ls))
-goings-runs low sessions.end = (texts.end, (refl, omega arith))
-goings-runs low (sessions.next (first z g h) r) = absurd (omega arith)
-goings-runs {c = c} low (sessions.next {n = n} {m = m} {t = t} {ls = ls} (later z e st h) r) =
+goings-runs low goings.end = (texts.end, (refl, omega arith))
+goings-runs low (goings.next (first z g h) r) = absurd (omega arith)
+goings-runs {c = c} low (goings.next {n = n} {m = m} {t = t} {ls = ls} (later z e st h) r) =
     let w = goings-runs (omega arith) r in
     let k = w .1 .1 in
     (texts.next st (subst (λ (x : ℕ). Runs x m (n + 1) ls c t) e (w .0)), (w .1 .0 ∙ e, omega arith))
@@ -111,12 +111,12 @@ named d g e h z = false-true (ap not (sym (eq-eqb d 0 z)) ∙ sym h ∙ e)
 
 prints-all : {b i m c l u t : List ℕ} {d n d' n' : ℕ} {g' : Bool} {ls : List (List ℕ)} → n ≡ 1 → Goings d n b true ls d' n' m g' t → g' ≡ true
     → map kept (linesOf i) ≡ ls ++ lastLine l → Last d' n' m l c u → Prints b i c (t ++ u)
-prints-all o sessions.end e f (none z y x w) = absurd (z o)
-prints-all {b = b} {i = i} {c = c} {l = l} {u = u} o sessions.end e f (some w (first z g h)) = only b i _ l c u f g
-prints-all o sessions.end e f (some w (later z y st h)) = absurd (z o)
-prints-all o (sessions.next (later z y st h) r) e f k = absurd (z o)
+prints-all o goings.end e f (none z y x w) = absurd (z o)
+prints-all {b = b} {i = i} {c = c} {l = l} {u = u} o goings.end e f (some w (first z g h)) = only b i _ l c u f g
+prints-all o goings.end e f (some w (later z y st h)) = absurd (z o)
+prints-all o (goings.next (later z y st h) r) e f k = absurd (z o)
 prints-all {b = b} {i = i} {m = m} {c = c} {l = l} {u = u} {n = n} {d' = d'} {n' = n'} o
-    (sessions.next {d₁ = d₁} {l = x} {m = made} {s = s} {t = t} {g₁ = g₁} {ls = ls} (first z g h) r) e f k =
+    (goings.next {d₁ = d₁} {l = x} {m = made} {s = s} {t = t} {g₁ = g₁} {ls = ls} (first z g h) r) e f k =
     let w = goings-runs (let v : 2 ≤ n + 1 = omega arith in v) r in
     let v = first-kept (linesOf i) x (ls ++ lastLine l) f in
     let all : Runs d₁ made (n + 1) (ls ++ lastLine l) c (t ++ u) = runs-append (w .0) (last-runs d₁ (n + 1 + length ls) d' n' m l c u (w .1 .0) (w .1 .1) (omega arith) k) in
@@ -125,21 +125,21 @@ prints-all {b = b} {i = i} {m = m} {c = c} {l = l} {u = u} {n = n} {d' = d'} {n'
     (goes-on b i d₁ x made s c (t ++ u) (ls ++ lastLine l) (v .0) (v .1) (named d₁ g₁ (goings-going r e) h) g (subst (λ (y : ℕ). Runs d₁ made y (ls ++ lastLine l) c (t ++ u)) two all))
 
 -- what the end of input prints
-abbrev pub lastText : {b held out : List ℕ} {s : Session} {c out' : List ℕ} {r : Session} → Closes b held out s c out' r → List ℕ
+abbrev pub lastText : {b held out : List ℕ} {s : Progress} {c out' : List ℕ} {r : Progress} → Closes b held out s c out' r → List ℕ
 lastText (closed n z e f g) = []
 lastText (last w e) = e .done .text
 
 held-some : (n : ℕ) (l : List ℕ) → n ≤ length l → n ≢ 0 → take n l ≢ []
 held-some n l h z e = let m = length-take n l in let k : length (take n l) ≡ 0 = ap length e in z (omega arith)
 
-close-last : {m held out c out' : List ℕ} {r q : Session} → r .held ≤ length held → (k : Closes m held out r c out' q) → Last (r .d) (r .number) m (take (r .held) held) c (lastText k)
+close-last : {m held out c out' : List ℕ} {r q : Progress} → r .held ≤ length held → (k : Closes m held out r c out' q) → Last (r .d) (r .number) m (take (r .held) held) c (lastText k)
 close-last {held = held} fit (closed n z e f g) = none n (ap (λ (x : ℕ). take x held) z) f refl
 close-last fit (last (inl w) e) = some (inl w) (e .done .says)
 close-last {held = held} {r = r} fit (last (inr w) e) = some (inr (held-some (r .held) held fit w)) (e .done .says)
 
--- an input i that a session which begins has taken whole, and its end: what is printed is what the lines of i call for
-pub text-prints : (b held i : List ℕ) (s : Session) (m held' : List ℕ) (r : Session) → s .number ≡ 1 → s .held ≡ 0 → (p : Advances b held i s m held' [] r) → r .going ≡ true
-    → (out c out' : List ℕ) (q : Session) → r .held ≤ length held' → (k : Closes m held' out r c out' q) → Prints b i c (p .text ++ lastText k)
+-- an input i that a run which begins has taken whole, and its end: what is printed is what the lines of i call for
+pub text-prints : (b held i : List ℕ) (s : Progress) (m held' : List ℕ) (r : Progress) → s .number ≡ 1 → s .held ≡ 0 → (p : Advances b held i s m held' [] r) → r .going ≡ true
+    → (out c out' : List ℕ) (q : Progress) → r .held ≤ length held' → (k : Closes m held' out r c out' q) → Prints b i c (p .text ++ lastText k)
 unfolding ended current
 text-prints b held i s m held' r o h p e out c out' q fit k =
     let start : take (s .held) held ≡ [] = ap (λ (x : ℕ). take x held) h in
@@ -150,23 +150,23 @@ text-prints b held i s m held' r o h p e out c out' q fit k =
 -- ---- AN UNREADABLE FIRST LINE
 
 goings-keeps : {d n d' n' : ℕ} {b c t : List ℕ} {g g' : Bool} {ls : List (List ℕ)} → 2 ≤ n → Goings d n b g ls d' n' c g' t → g ≡ true → g' ≡ true
-goings-keeps low sessions.end e = e
-goings-keeps low (sessions.next (first z g h) r) e = absurd (omega arith)
-goings-keeps low (sessions.next (later z y st h) r) e = goings-keeps (omega arith) r h
+goings-keeps low goings.end e = e
+goings-keeps low (goings.next (first z g h) r) e = absurd (omega arith)
+goings-keeps low (goings.next (later z y st h) r) e = goings-keeps (omega arith) r h
 
 unnamed : (d : ℕ) → false ≡ not (eqb d 0) → d ≡ 0
 unnamed d h = cases (eqb d 0) (λ e. eqb-true d 0 e) (λ e. false-true (h ∙ ap not e))
 
 prints-none : {b i c t : List ℕ} {d n d' n' : ℕ} {g' : Bool} {ls : List (List ℕ)} (ks : List (List ℕ)) → n ≡ 1 → Goings d n b true ls d' n' c g' t → g' ≡ false → map kept (linesOf i) ≡ ls ++ ks → Prints b i c t
-prints-none ks o sessions.end e f = false-true (sym e)
-prints-none ks o (sessions.next (later z y st h) r) e f = absurd (z o)
-prints-none {b = b} {i = i} {c = c} ks o (sessions.next {d₁ = d₁} {l = l} {s = s} (first z g h) sessions.end) e f =
+prints-none ks o goings.end e f = false-true (sym e)
+prints-none ks o (goings.next (later z y st h) r) e f = absurd (z o)
+prints-none {b = b} {i = i} {c = c} ks o (goings.next {d₁ = d₁} {l = l} {s = s} (first z g h) goings.end) e f =
     subst (Prints b i c) (sym (append-nil s)) (stops b i l c s (first-kept (linesOf i) l ks f .0) d₁ (unnamed d₁ (sym e ∙ h)) g)
-prints-none {n = n} ks o (sessions.next (first z g h) (sessions.next k r)) e f =
-    false-true (sym e ∙ goings-keeps (let v : 2 ≤ n + 1 = omega arith in v) (sessions.next k r) refl)
+prints-none {n = n} ks o (goings.next (first z g h) (goings.next k r)) e f =
+    false-true (sym e ∙ goings-keeps (let v : 2 ≤ n + 1 = omega arith in v) (goings.next k r) refl)
 
--- a session that has ended by its first line has printed what the input calls for, whatever comes behind what it has taken
-pub text-ends : (b held i : List ℕ) (s : Session) (c held' i' : List ℕ) (r : Session) → s .number ≡ 1 → s .held ≡ 0 → (p : Advances b held i s c held' i' r) → p .going ≡ false
+-- a run that has ended by its first line has printed what the input calls for, whatever comes behind what it has taken
+pub text-ends : (b held i : List ℕ) (s : Progress) (c held' i' : List ℕ) (r : Progress) → s .number ≡ 1 → s .held ≡ 0 → (p : Advances b held i s c held' i' r) → p .going ≡ false
     → (j : List ℕ) → Prints b (i ++ j) c (p .text)
 unfolding advances-more
 text-ends b held i s c held' i' r o h p e j =

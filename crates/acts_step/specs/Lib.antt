@@ -1,4 +1,4 @@
 pub mod Printed
 pub mod Steps
-pub mod Sessions
+pub mod Advances
 pub mod Texts

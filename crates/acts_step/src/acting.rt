@@ -1,4 +1,4 @@
-// The acts, each with what it prints.
+// The acts, each with what it prints into `out` from `at` on; each function returns where the output goes on.
 ghost use mathlib.Core.Path.{_≡_};
 ghost use mathlib.Core.Bool.{true};
 ghost use Prim.Native.Nat.{_+_, _≤_};
@@ -16,6 +16,7 @@ use search::Query;
 // The rows lent to a question.
 const ROWS: usize = 64;
 
+// Inserts, and prints the line of it.
 fn insert_line(
     index: &mut [u8],
     id: u32,
@@ -31,6 +32,7 @@ fn insert_line(
     put_result(out, at, number, code as u64, id as u64, 0, 0)
 }
 
+// Deletes, and prints the line of it.
 fn delete_line(index: &mut [u8], id: u32, number: u64, out: &mut [u8], at: usize) -> usize
     requires { ⌜ at + mostPrinted ≤ length (now out) ⌝ }
     ensures { λ r. ⌜ Puts (Acted (delete id) (now (index .entry)) number (now (index .exit))) mostPrinted (now (out .entry)) (now (out .exit)) at r ⌝ }
@@ -62,6 +64,7 @@ fn put_rows(
     end
 }
 
+// Asks, and prints a line for each row; with no rows one line with zeros.
 fn question_line(
     index: &[u8],
     point: &[i16],

@@ -2,21 +2,21 @@
 ghost use mathlib.Core.Path.{_≡_};
 ghost use Prim.Native.Nat.{_≤_};
 ghost use lib.ListN.{length};
-ghost use Rattle.acts_step.specs.Sessions.{Ready, Ended, Within, Takes, Closes};
-use crate::Session;
+ghost use Rattle.acts_step.specs.Advances.{Ready, Ended, Within, Takes, Closes};
+use crate::Progress;
 use crate::lines::first_line;
 use crate::lines::step;
 use acts_text::input::feed;
 
 // The current line has ended, and these are its bytes: the first line begins, or an act is done.
-pub fn end_line(index: &mut [u8], line: &[u8], out: &mut [u8], s: Session) -> Session
+pub fn end_line(index: &mut [u8], line: &[u8], out: &mut [u8], s: Progress) -> Progress
     requires { ⌜ Ready (now index) (now out) s ⌝ }
     ensures { λ r. ⌜ Ended (now (index .entry)) (now (line .entry)) (now (out .entry)) s (now (index .exit)) (now (out .exit)) r × (r .at ≡ s .at) ⌝ }
 {
     if s.number == 1 {
         let begun = first_line(index, line, out, s.end);
         let named = begun.d != 0;
-        return Session {
+        return Progress {
             going: named,
             d: begun.d,
             number: 2,
@@ -26,7 +26,7 @@ pub fn end_line(index: &mut [u8], line: &[u8], out: &mut [u8], s: Session) -> Se
         };
     }
     let end = step(index, s.d, s.number, line, out, s.end);
-    Session {
+    Progress {
         going: s.going,
         d: s.d,
         number: s.number + 1,
@@ -42,14 +42,14 @@ pub fn take_line(
     held: &mut [u8],
     chunk: &[u8],
     out: &mut [u8],
-    s: Session,
-) -> Session
+    s: Progress,
+) -> Progress
     requires { ⌜ Ready (now index) (now out) s × Within (now held) (now chunk) s ⌝ }
     ensures { λ r. ⌜ Takes (now (index .entry)) (now (held .entry)) (now (chunk .entry)) (now (out .entry)) s (now (index .exit)) (now (held .exit)) (now (out .exit)) r ⌝ }
 {
     let fed = feed(held, s.held, chunk, s.at);
     let n = fed.held;
-    let t = Session {
+    let t = Progress {
         going: s.going,
         d: s.d,
         number: s.number,
@@ -64,7 +64,7 @@ pub fn take_line(
 }
 
 // The end of input: it ends a last line that has bytes, and the first line also where it has none.
-pub fn end_input(index: &mut [u8], held: &[u8], out: &mut [u8], s: Session) -> Session
+pub fn end_input(index: &mut [u8], held: &[u8], out: &mut [u8], s: Progress) -> Progress
     requires { ⌜ Ready (now index) (now out) s × (s .held ≤ length (now held)) ⌝ }
     ensures { λ r. ⌜ Closes (now (index .entry)) (now (held .entry)) (now (out .entry)) s (now (index .exit)) (now (out .exit)) r ⌝ }
 {

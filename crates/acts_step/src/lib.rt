@@ -1,5 +1,5 @@
 // The acts program by the line (01, "The acts program"): what the first line and each line of values do to the index and print, and how a
-// session goes on from chunk to chunk of input.
+// run goes on from chunk to chunk of input.
 mod acting;
 mod input;
 mod lines;
@@ -10,15 +10,15 @@ pub use input::take_line;
 pub use lines::first_line;
 pub use lines::step;
 
-// What the first line leaves: the features that it names, 0 where the program ends, and the index after what it printed.
+// What the first line leaves: the features that it names, 0 where the program ends, and where the output goes on.
 pub struct Begun {
     pub d: usize,
     pub at: usize,
 }
 
-// Where a session stands: whether it goes on, the features named, the number of the current line, how many of its bytes are held, where the chunk
+// Where a run stands: whether it goes on, the features named, the number of the current line, how many of its bytes are held, where the chunk
 // goes on, and where the output goes on.
-pub struct Session {
+pub struct Progress {
     pub going: bool,
     pub d: usize,
     pub number: u64,

@@ -10,7 +10,7 @@ use acts_text::names::read_names;
 use acts_text::output::put_heading;
 use acts_text::output::put_result;
 
-// Line `number`, of values: its act is done on the index, and what it prints goes to `out` from `at` on. Answers the index after that.
+// Line `number`, of values: its act is done on the index, and what it prints goes to `out` from `at` on. Returns where the output goes on.
 pub fn step(
     index: &mut [u8],
     d: usize,

@@ -77,10 +77,10 @@ pub natural-value : (cap v : ℕ) (f : List ℕ) → illFormed f ≡ false → v
 unfolding natural
 natural-value cap v f h e = rw h e
 
-pub signed-none : (v : ℕ) (f : List ℕ) → length f ≡ 0 → v ≡ natural 32767 f → v ≡ signed f
-unfolding signed
-signed-none v [] h e = e
-signed-none v (b ∷ f) h e = absurd (omega (arith, h))
+pub signed-none : (f : List ℕ) → length f ≡ 0 → bad ≡ signed f
+unfolding signed natural illFormed
+signed-none [] h = refl
+signed-none (b ∷ f) h = absurd (omega (arith, h))
 
 pub part-all : (f : List ℕ) (i : ℕ) → take (length f - i) (drop i f) ≡ drop i f
 part-all f i = take-all (length f - i) (drop i f) (simp length-drop (omega arith))

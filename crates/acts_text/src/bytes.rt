@@ -4,6 +4,16 @@ ghost use Prim.Native.Nat.{_+_, _≤_, min};
 ghost use lib.ListN.{length, drop};
 ghost use Rattle.acts_text.specs.Bytes.{until, Stored};
 
+pub const NEWLINE: u8 = 10;
+
+pub const SPACE: u8 = 32;
+
+pub const MINUS: u8 = 45;
+// The digits 0 and 9.
+pub const ZERO: u8 = 48;
+
+pub const NINE: u8 = 57;
+
 // Where b first stands in s from index at on, or the end.
 pub fn find(s: &[u8], at: usize, b: u8) -> usize
     requires { ⌜ at ≤ length (now s) ⌝ }
@@ -27,7 +37,7 @@ pub fn past(e: usize, len: usize) -> usize
     if e < len { e + 1 } else { len }
 }
 
-// Stores the bytes w in out from index at on, and answers the index after them.
+// Stores the bytes w in out from index at on, and returns the index after them.
 pub fn put_bytes(out: &mut [u8], at: usize, w: &[u8]) -> usize
     requires { ⌜ at + length (now w) ≤ length (now out) ⌝ }
     ensures { λ r. ⌜ Stored (now (out .entry)) (now (out .exit)) at r (now (w .entry)) ⌝ }

@@ -3,8 +3,12 @@
 ghost use mathlib.Core.Path.{_≡_};
 ghost use Prim.Native.Nat.{_≤_};
 ghost use Rattle.acts_text.specs.Fields.{withDigit, valueFrom, illFormed, natural, negative, signed, ofBits};
+use crate::bytes::MINUS;
+use crate::bytes::NINE;
+use crate::bytes::ZERO;
 
-const BAD: u64 = 4294967296;
+// What an unreadable field gives.
+pub const BAD: u64 = 4294967296;
 
 // The value a with the digit b behind it.
 fn with_digit(cap: u64, a: u64, b: u8) -> u64
@@ -12,13 +16,13 @@ fn with_digit(cap: u64, a: u64, b: u8) -> u64
     requires { ⌜ a ≤ 4294967296 ⌝ }
     ensures { λ r. ⌜ (r ≡ withDigit cap a b) × (r ≤ 4294967296) ⌝ }
 {
-    if b < 48 {
+    if b < ZERO {
         return BAD;
     }
-    if 57 < b {
+    if NINE < b {
         return BAD;
     }
-    let v = a * 10 + (b - 48) as u64;
+    let v = a * 10 + (b - ZERO) as u64;
     if cap < v { BAD } else { v }
 }
 
@@ -43,7 +47,7 @@ fn ill_formed(f: &[u8]) -> bool
     if f.len() == 0 {
         return true;
     }
-    if f[0] == 48 { 1 < f.len() } else { false }
+    if f[0] == ZERO { 1 < f.len() } else { false }
 }
 
 // A number from 0 to the cap.
@@ -73,9 +77,9 @@ pub fn read_signed(f: &[u8]) -> u64
     ensures { λ r. ⌜ (r ≡ signed (now (f .entry))) × (r ≤ 4294967296) ⌝ }
 {
     if f.len() == 0 {
-        return read_natural(f, 32767);
+        return BAD;
     }
-    if f[0] == 45 {
+    if f[0] == MINUS {
         negated(read_natural(&f[1..], 32768))
     } else {
         read_natural(f, 32767)

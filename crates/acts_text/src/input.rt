@@ -5,6 +5,7 @@ ghost use lib.ListN.{length};
 ghost use Rattle.acts_text.specs.Lines.{limit};
 ghost use Rattle.acts_text.specs.Input.{Feeds};
 use crate::Fed;
+use crate::bytes::NEWLINE;
 use crate::bytes::find;
 use crate::bytes::past;
 use crate::bytes::put_bytes;
@@ -24,7 +25,7 @@ pub fn feed(held: &mut [u8], n: usize, chunk: &[u8], at: usize) -> Fed
     requires { ⌜ (suc limit ≤ length (now held)) × (n ≤ suc limit) × (at ≤ length (now chunk)) ⌝ }
     ensures { λ r. ⌜ Feeds (now (held .entry)) (now (held .exit)) n (now (chunk .entry)) at r ⌝ }
 {
-    let e = find(chunk, at, 10);
+    let e = find(chunk, at, NEWLINE);
     let stop = at + lower(e - at, KEPT - n);
     let h = put_bytes(held, n, &chunk[at..stop]);
     let next = past(e, chunk.len());

@@ -4,8 +4,10 @@ ghost use Prim.Native.Nat.{_+_, _≤_};
 ghost use lib.ListN.{length, drop};
 ghost use Rattle.acts_text.specs.Lines.{leading, most, fieldLength, cell, cells, noneBad, readableCells, coordinates, unreadable, actOf};
 use crate::ActLine;
+use crate::bytes::SPACE;
 use crate::bytes::find;
 use crate::bytes::past;
+use crate::fields::BAD;
 use crate::fields::of_bits;
 use crate::fields::read_natural;
 use crate::fields::read_signed;
@@ -27,11 +29,11 @@ fn field_end(line: &[u8], at: usize, n: usize) -> usize
     if n == 0 {
         line.len()
     } else {
-        find(line, at, 32)
+        find(line, at, SPACE)
     }
 }
 
-// The value of a field in column j.
+// The value of a field in column j: an act up to 3, `id` and `k` of 32 bits, then coordinates.
 fn read_cell(f: &[u8], j: usize) -> u64
     ensures { λ r. ⌜ (r ≡ cell j (now (f .entry))) × (r ≤ 4294967296) ⌝ }
 {
@@ -69,7 +71,7 @@ fn none_bad(v: &[u64]) -> bool
 {
     let mut i = 0;
     while i < v.len() {
-        if v[i] == 4294967296 {
+        if v[i] == BAD {
             return false;
         }
         i += 1;
@@ -99,6 +101,7 @@ fn coordinates_of(v: &[u64]) -> [i16; MOST]
     c
 }
 
+// A value as a field of `ActLine`.
 fn narrow(x: u64) -> u32
     requires { ⌜ x ≤ 4294967295 ⌝ }
     ensures { λ r. ⌜ r ≡ x ⌝ }
@@ -106,6 +109,7 @@ fn narrow(x: u64) -> u32
     x as u32
 }
 
+// What an unreadable line gives.
 fn no_line() -> ActLine
     ensures { λ r. ⌜ r ≡ unreadable ⌝ }
 {

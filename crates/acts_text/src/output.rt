@@ -1,4 +1,4 @@
-// The output's lines, written into a lent buffer at an index; each function answers the index after what it wrote.
+// The output's lines, written into a lent buffer at an index; each function returns the index after what it wrote.
 ghost use mathlib.Core.Path.{_≡_};
 ghost use mathlib.Core.List.{[], _∷_};
 ghost use Prim.Native.Nat.{_+_, _<_, _≤_};
@@ -6,12 +6,15 @@ ghost use lib.ListN.{length};
 ghost use Rattle.acts_text.specs.Decimal.{lastDigit, decimal};
 ghost use Rattle.acts_text.specs.Bytes.{Written, Stored};
 ghost use Rattle.acts_text.specs.Output.{heading, field, resultLine};
+use crate::bytes::NEWLINE;
+use crate::bytes::SPACE;
+use crate::bytes::ZERO;
 use crate::bytes::put_bytes;
 
 fn last_digit(n: u64) -> u8
     ensures { λ r. ⌜ r ≡ lastDigit n ⌝ }
 {
-    48 + (n % 10) as u8
+    ZERO + (n % 10) as u8
 }
 
 // The last digit of n.
@@ -61,11 +64,11 @@ pub fn put_result(
     requires { ⌜ at + 105 ≤ length (now out) ⌝ }
     ensures { λ r. ⌜ (Written (now (out .entry)) (now (out .exit)) at r (resultLine line code id dist leaves)) × (r ≤ at + 105) ⌝ }
 {
-    let a = put_field(out, at, line, 32);
-    let b = put_field(out, a, code, 32);
-    let c = put_field(out, b, id, 32);
-    let e = put_field(out, c, dist, 32);
-    put_field(out, e, leaves, 10)
+    let a = put_field(out, at, line, SPACE);
+    let b = put_field(out, a, code, SPACE);
+    let c = put_field(out, b, id, SPACE);
+    let e = put_field(out, c, dist, SPACE);
+    put_field(out, e, leaves, NEWLINE)
 }
 
 // The output's names.

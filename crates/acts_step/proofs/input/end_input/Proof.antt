@@ -2,7 +2,7 @@
 use mathlib.Core.Path.{refl, sym}
 use mathlib.Core.Logic.{inl, inr}
 use lib.Seq.{length-take-le}
-use Rattle.acts_step.specs.Sessions.{closed, last}
+use Rattle.acts_step.specs.Advances.{closed, last}
 use borrow.Author.Needs.{needs}
 use Rattle.acts_step.proofs.input.end_input.Statement.{statement}
 use Rattle.acts_step.proofs.input.end_input.Tie as tie

@@ -1,6 +1,6 @@
 -- `input::end_line` meets its contract. Assumes nothing.
 use mathlib.Core.Path.{refl}
-use Rattle.acts_step.proofs.SessionLaws.{ended-first, ended-later}
+use Rattle.acts_step.proofs.TakeLaws.{ended-first, ended-later}
 use borrow.Author.Needs.{needs}
 use Rattle.acts_step.proofs.input.end_line.Statement.{statement}
 use Rattle.acts_step.proofs.input.end_line.Tie as tie

@@ -3,7 +3,7 @@ use mathlib.Core.Path.{sym}
 use native.Mathlib.Omega.{arith}
 use lib.Seq.{length-take-le}
 use borrow.Author.Tests.{not-true, not-false}
-use Rattle.acts_step.proofs.SessionLaws.{fed-few, takes-on, takes-line}
+use Rattle.acts_step.proofs.TakeLaws.{fed-few, takes-on, takes-line}
 use borrow.Author.Needs.{needs}
 use Rattle.acts_step.proofs.input.take_line.Statement.{statement}
 use Rattle.acts_step.proofs.input.take_line.Tie as tie

@@ -1,4 +1,4 @@
-//! A session with an index in 64 pages: checked acts, then the bytes opened once for acts without the check.
+//! A review: an index in 64 pages, checked acts, then the bytes opened once for acts without the check.
 use epoch_index::{Found, Index, Refusal, Row, Tally, PAGE_BYTES};
 
 fn print(asked: Result<Found, Refusal>) {
