@@ -1,5 +1,5 @@
 // What inserts and deletes: the index in three ways, and the standard library's ordered map.
-use epoch_index::{Index, SoundIndex, PAGE_BYTES};
+use epoch_index::{Index, SoundIndex, TabledIndex, PAGE_BYTES};
 use std::collections::BTreeMap;
 
 /// Something that points with identifiers are put into and taken from.
@@ -21,6 +21,17 @@ impl Keeps for Index<&mut [u8]> {
 
 /// The acts without the check.
 impl Keeps for SoundIndex<&mut [u8]> {
+    fn put(&mut self, id: u32, point: &[i16]) {
+        self.insert(id, point).unwrap()
+    }
+
+    fn take(&mut self, id: u32, _point: &[i16]) {
+        self.delete(id).unwrap()
+    }
+}
+
+/// The same with a table of the live identifiers, so that none is looked for among the leaves.
+impl Keeps for TabledIndex<&mut [u8]> {
     fn put(&mut self, id: u32, point: &[i16]) {
         self.insert(id, point).unwrap()
     }
@@ -65,6 +76,6 @@ pub fn fill(keeper: &mut impl Keeps, points: &[i16], d: usize) {
 pub fn filled(points: &[i16], d: usize) -> Vec<u8> {
     let pages = (points.len() / d / 7 + 8).min(16_384);
     let mut bytes = Index::make(vec![0; pages * PAGE_BYTES], d as u8).unwrap().into_bytes();
-    fill(&mut Index::open(&mut bytes[..]).unwrap(), points, d);
+    fill(&mut Index::open(&mut bytes[..]).unwrap().with_identifiers(), points, d);
     bytes
 }

@@ -203,8 +203,9 @@ struct Times {
     check: f64,
     search: f64,
     scan: f64,
-    /// insert and delete without the check, as acts, and of the map
+    /// insert and delete without the check, with a table of identifiers too, as acts, and of the map
     trusted: (f64, f64),
+    tabled: (f64, f64),
     acts: (f64, f64),
     map: (f64, f64),
 }
@@ -235,6 +236,7 @@ impl Times {
             search: read[2],
             scan: read[3],
             trusted: upkeep(&mut Index::open(&mut case.bytes[..]).unwrap(), points, d, 200),
+            tabled: upkeep(&mut Index::open(&mut case.bytes[..]).unwrap().with_identifiers(), points, d, 200),
             acts: upkeep(&mut Index::over(&mut case.bytes[..]), points, d, 5),
             map: upkeep(&mut map, points, d, 200),
         }
@@ -243,13 +245,15 @@ impl Times {
     /// A line of the second table.
     fn line(&self) {
         println!(
-            "| {} | {} | {} | {:.1} | {:.1} | {:.1} | {:.2} | {:.2} |",
+            "| {} | {} | {} | {:.1} | {:.0} | {:.0} | {:.1} | {:.1} | {:.2} | {:.2} |",
             self.kind.name(),
             self.d,
             self.n,
             self.check / self.touch,
             self.trusted.0 / self.map.0,
             self.trusted.1 / self.map.1,
+            self.tabled.0 / self.map.0,
+            self.tabled.1 / self.map.1,
             self.acts.0 / self.check,
             self.acts.1 / self.check
         );
@@ -258,14 +262,15 @@ impl Times {
     /// A line of the third table: these times over those of fewer points.
     fn growth(&self, few: &Times) {
         println!(
-            "| {} | {} | {} | {:.1} | {:.1} | {:.1} | {:.1} |",
+            "| {} | {} | {} | {:.1} | {:.1} | {:.1} | {:.1} | {:.1} |",
             self.kind.name(),
             self.d,
             self.n,
             self.search / few.search,
             self.scan / few.scan,
             self.check / few.check,
-            self.trusted.0 / few.trusted.0
+            self.trusted.0 / few.trusted.0,
+            self.tabled.0 / few.tabled.0
         );
     }
 }
@@ -301,12 +306,13 @@ fn main() {
         again[again.len() - 1 - again.len() / 20]
     );
     println!("\n## Check, insert and delete\n");
-    println!("| points | d | n | check / touch | insert / map | delete / map | insert act / check | delete act / check |");
-    println!("|---|---|---|---|---|---|---|---|");
+    print!("| points | d | n | check / touch | insert / map | delete / map | tabled insert / map | tabled delete / map ");
+    println!("| insert act / check | delete act / check |");
+    println!("|---|---|---|---|---|---|---|---|---|---|");
     times.iter().for_each(Times::line);
     println!("\n## Growth with n: times over those of 1,000 points, k = 10\n");
-    println!("| points | d | n | search | scan | check | insert |");
-    println!("|---|---|---|---|---|---|---|");
+    println!("| points | d | n | search | scan | check | insert | tabled insert |");
+    println!("|---|---|---|---|---|---|---|---|");
     for of_d in times.chunks(SIZES.len()) {
         of_d[1..].iter().for_each(|more| more.growth(&of_d[0]));
     }

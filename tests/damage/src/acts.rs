@@ -39,9 +39,12 @@ impl Run {
         let trusted = self.trusted && (!permitted(model.b.len()) || matches!(act, Act::Make(_)) || model.sound());
         self.counts.trusted += trusted as u64;
         let before = if exact { None } else { Some(model.b.clone()) };
+        let vouched = trusted && self.counts.trusted % 2 == 0;
         let (got, want) = match act {
             Act::Make(d) => (ffi::make(lib, *d), model.make(*d as u32)),
+            Act::Insert(id, x) if vouched => (self.vouched_insert(lib, model, *id, x), model.insert(*id, x)),
             Act::Insert(id, x) => (ffi::insert(lib, *id, x, trusted), model.insert(*id, x)),
+            Act::Delete(id) if vouched => (self.vouched_delete(lib, model, *id), model.delete(*id)),
             Act::Delete(id) => (ffi::delete(lib, *id, trusted), model.delete(*id)),
             Act::Question(..) => self.ask(lib, model, act, trusted),
             Act::Check => self.checked(lib, model),
@@ -60,6 +63,33 @@ impl Run {
             _ => self.equal(&format!("{act:?}"), lib, &model.b),
         }
         want
+    }
+
+    /// An insert whose caller vouches that the identifier is not live, where that is so.
+    fn vouched_insert(&mut self, lib: &mut [u8], model: &Model, id: u32, x: &[i16]) -> u32 {
+        if permitted(lib.len()) && model.record(id).is_some() {
+            return ffi::insert(lib, id, x, true);
+        }
+        self.counts.vouched += 1;
+        ffi::vouched_insert(lib, id, x)
+    }
+
+    /// A delete whose caller gives the point. With another point it is refused with 7 first; so is an identifier that is not live.
+    fn vouched_delete(&mut self, lib: &mut [u8], model: &Model, id: u32) -> u32 {
+        self.counts.vouched += 1;
+        if !permitted(lib.len()) {
+            return ffi::vouched_delete(lib, id, &[]);
+        }
+        let Some(record) = model.record(id) else { return ffi::vouched_delete(lib, id, &vec![0; model.d()]) };
+        let mut x: Vec<i16> = record.point(model.d()).iter().map(|&c| c as i16).collect();
+        let at = id as usize % x.len();
+        let old = x[at];
+        x[at] = if old < 1000 { old + 1 } else { -1000 };
+        let code = ffi::vouched_delete(lib, id, &x);
+        self.expect(code == 7, || format!("delete of {id} at {x:?}: {code}"));
+        self.equal("delete at another point", lib, &model.b);
+        x[at] = old;
+        ffi::vouched_delete(lib, id, &x)
     }
 
     fn ask(&mut self, lib: &[u8], model: &mut Model, act: &Act, trusted: bool) -> (u32, u32) {

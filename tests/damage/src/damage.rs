@@ -101,15 +101,17 @@ fn unchecked(run: &mut Run, lib: &mut Lent, bytes: &[u8], given: &Given) {
         });
     }
     run.equal("search", lib, bytes);
-    let first = ffi::insert(lib, given.new, &given.x, true);
-    run.expect((first == 2) == high, || format!("insert at level {}: {first}", bytes[LEVEL]));
+    let codes = [
+        ffi::insert(lib, given.new, &given.x, true),
+        ffi::vouched_insert(lib, given.old, &given.x),
+        ffi::vouched_delete(lib, given.new, &given.x),
+        ffi::delete(lib, given.old, true),
+        ffi::delete(lib, given.new, true),
+    ];
+    run.expect((codes[0] == 2) == high, || format!("insert at level {}: {}", bytes[LEVEL], codes[0]));
     if high {
-        let codes = [given.old, given.new].map(|id| ffi::delete(lib, id, true));
-        run.expect(codes == [2, 2], || format!("delete at level {}: {codes:?}", bytes[LEVEL]));
+        run.expect(codes == [2; 5], || format!("at level {}: {codes:?}", bytes[LEVEL]));
         run.equal("refused for the level", lib, bytes);
-    } else {
-        ffi::delete(lib, given.old, true);
-        ffi::delete(lib, given.new, true);
     }
     lib.copy_from_slice(bytes);
     run.counts.longest = run.counts.longest.max(start.elapsed());

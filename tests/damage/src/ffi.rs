@@ -45,6 +45,8 @@ extern "C" {
     ) -> CAnswer;
     fn epoch_index_trusted_insert(index: *mut u8, length: usize, id: u32, point: *const i16, coordinates: usize) -> u32;
     fn epoch_index_trusted_delete(index: *mut u8, length: usize, id: u32) -> u32;
+    fn epoch_index_vouched_insert(index: *mut u8, length: usize, id: u32, point: *const i16, coordinates: usize) -> u32;
+    fn epoch_index_vouched_delete(index: *mut u8, length: usize, id: u32, point: *const i16, coordinates: usize) -> u32;
     fn epoch_index_trusted_question(
         index: *const u8,
         length: usize,
@@ -71,6 +73,16 @@ pub fn insert(index: &mut [u8], id: u32, x: &[i16], trusted: bool) -> u32 {
 pub fn delete(index: &mut [u8], id: u32, trusted: bool) -> u32 {
     let f: Delete = if trusted { epoch_index_trusted_delete } else { epoch_index_delete };
     unsafe { f(index.as_mut_ptr(), index.len(), id) }
+}
+
+/// An insert of an identifier that the caller knows not to be live.
+pub fn vouched_insert(index: &mut [u8], id: u32, x: &[i16]) -> u32 {
+    unsafe { epoch_index_vouched_insert(index.as_mut_ptr(), index.len(), id, x.as_ptr(), x.len()) }
+}
+
+/// A delete of an identifier whose point the caller knows.
+pub fn vouched_delete(index: &mut [u8], id: u32, x: &[i16]) -> u32 {
+    unsafe { epoch_index_vouched_delete(index.as_mut_ptr(), index.len(), id, x.as_ptr(), x.len()) }
 }
 
 /// The code and the page.

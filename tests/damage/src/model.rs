@@ -121,7 +121,7 @@ impl Model {
         self.leaves().iter().flat_map(|&p| records(&self.b, p)).collect()
     }
 
-    fn record(&self, id: u32) -> Option<Record> {
+    pub fn record(&self, id: u32) -> Option<Record> {
         self.records().into_iter().find(|r| r.id == id)
     }
 

@@ -10,6 +10,8 @@ pub struct Counts {
     pub acts: u64,
     /// Of the acts, those without the check.
     pub trusted: u64,
+    /// Of these, the inserts and deletes whose caller vouches for the identifier.
+    pub vouched: u64,
     pub codes: [u64; 14],
     pub rows: u64,
     pub bytes: u64,
@@ -29,6 +31,7 @@ impl Counts {
     fn add(&mut self, other: &Counts) {
         self.acts += other.acts;
         self.trusted += other.trusted;
+        self.vouched += other.vouched;
         self.codes.iter_mut().zip(other.codes).for_each(|(sum, n)| *sum += n);
         self.rows += other.rows;
         self.bytes += other.bytes;
@@ -128,7 +131,10 @@ impl Run {
 
     pub fn finish(self) -> bool {
         let c = &self.counts;
-        println!("acts compared: {} ({} without the check), codes 0 to 13: {:?}", c.acts, c.trusted, c.codes);
+        println!(
+            "acts compared: {} ({} without the check, {} of them vouched), codes 0 to 13: {:?}",
+            c.acts, c.trusted, c.vouched, c.codes
+        );
         println!("rows compared: {}, bytes compared: {}", c.rows, c.bytes);
         println!("damaged indexes: {} (not sound: {}, of these failing at the header: {})", c.damaged, c.unsound, c.header);
         println!("acts without the check on damaged indexes: at most {:?} each; {} of a level above 4, refused", c.longest, c.high);
