@@ -43,10 +43,10 @@ pub fn delete(index: &mut [u8], id: u32, point: &[i16]) -> u32
     if code != 0 {
         return code;
     }
-    let x = record_of(id, point);
-    if !holds(index, x) {
+    let told = record_of(id, point);
+    if !holds(index, told) {
         return 7;
     }
-    tree::delete(index, x);
+    tree::delete(index, told);
     0
 }

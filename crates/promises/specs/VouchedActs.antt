@@ -38,6 +38,9 @@ module _ (b : List ℕ) (s : SoundIndex b) (i : ℕ) (p : List ℤ) (code : ℕ)
   pub vouched-delete-same : LiveAt b i p → vouchedDeletes b i p code c → does (delete i) b code nothingFound c
   vouched-delete-same l h = (delete-vouched b s i p l code (h .0), h .1 ∙ ap (λ (x : List ℕ). unlessRefused code x b) (deleted-vouched b s i p l))
 
+  pub vouched-same : (liveTimes b i ≡ 0 → vouchedInserts b i p code c → does (insert i p) b code nothingFound c) × (LiveAt b i p → vouchedDeletes b i p code c → does (delete i) b code nothingFound c)
+  vouched-same = (vouched-insert-same, vouched-delete-same)
+
   -- side by side with the act's
   pub vouched-insert-equal : liveTimes b i ≡ 0 → vouchedInserts b i p code c → (n : ℕ) (e : List ℕ) → does (insert i p) b n nothingFound e → (code ≡ n) × (c ≡ e)
   vouched-insert-equal z h n e k =
