@@ -122,6 +122,25 @@ uint32_t epoch_index_trusted_delete(uint8_t *index, size_t length, uint32_t id);
 epoch_index_answer epoch_index_trusted_question(const uint8_t *index, size_t length, const int16_t *point, size_t coordinates, size_t k,
                                                 epoch_index_row *rows, size_t lent, epoch_index_tally *tally);
 
+/*
+ * Insert and delete without the check and without a look through the leaves for the identifier, for a caller that keeps its identifiers with
+ * their points: each goes one way down the tree.
+ *
+ * The caller's duty is that above, and one more for each:
+ * - insert: `id` is not live. Where that is false nothing refuses the call: the index then holds the identifier twice and is not sound.
+ *   Check and the acts tell (2); what the functions without the check return from then on means nothing.
+ * - delete: `id` is live with this very point. Where that is false the call is refused (7, or a number before it) and changes nothing.
+ *
+ * Where the duty is kept each returns and leaves exactly what the act does, and the index stays sound. On any bytes a call ends and touches
+ * nothing but the memory lent: it looks at one page of each of at most 5 levels on its way, and an insert at the freed pages.
+ */
+
+/* Numbers: 1, 2, 3, 4, 5, 8, 9. */
+uint32_t epoch_index_vouched_insert(uint8_t *index, size_t length, uint32_t id, const int16_t *point, size_t coordinates);
+
+/* Numbers: 1, 2, 3, 4, 5, 7. */
+uint32_t epoch_index_vouched_delete(uint8_t *index, size_t length, uint32_t id, const int16_t *point, size_t coordinates);
+
 #ifdef __cplusplus
 }
 #endif

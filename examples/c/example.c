@@ -1,4 +1,5 @@
-/* A review: an index in 64 pages, acts that check it each time, then one check and acts without it, then a damaged byte. */
+/* A review: an index in 64 pages, acts that check it each time, then one check and acts without it, with and without a look for the
+ * identifier, then a damaged byte. */
 #include <inttypes.h>
 #include <stdio.h>
 #include <stdlib.h>
@@ -38,6 +39,9 @@ int main(void)
         printf("insert 9: code %" PRIu32 "\n", epoch_index_trusted_insert(index, LENGTH, 9, third, 2));
         print(epoch_index_trusted_question(index, LENGTH, asked, 2, K, rows, K, &tally), rows);
         printf("delete 4: code %" PRIu32 "\n", epoch_index_trusted_delete(index, LENGTH, 4));
+        printf("insert 5, which is not live: code %" PRIu32 "\n", epoch_index_vouched_insert(index, LENGTH, 5, second, 2));
+        printf("delete 5 at another point: code %" PRIu32 "\n", epoch_index_vouched_delete(index, LENGTH, 5, first, 2));
+        printf("delete 5 at its point: code %" PRIu32 "\n", epoch_index_vouched_delete(index, LENGTH, 5, second, 2));
     }
     printf("tally: %" PRIu32 " questions, %" PRIu32 " leaves\n", tally.questions, tally.leaves);
 

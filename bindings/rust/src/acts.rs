@@ -15,7 +15,7 @@ pub fn check(index: &[u8]) -> Result<(), Fault> {
 }
 
 pub fn insert(act: sys::Insert, index: &mut [u8], id: u32, point: &[i16]) -> Result<(), Refusal> {
-    // SAFETY: pointers and lengths are those of two slices that do not overlap, since `index` is borrowed alone. Either insert ends
+    // SAFETY: pointers and lengths are those of two slices that do not overlap, since `index` is borrowed alone. Each insert ends
     // within them whatever they hold.
     Refusal::of(unsafe { act(index.as_mut_ptr(), index.len(), id, point.as_ptr(), point.len()) })
 }
@@ -23,6 +23,12 @@ pub fn insert(act: sys::Insert, index: &mut [u8], id: u32, point: &[i16]) -> Res
 pub fn delete(act: sys::Delete, index: &mut [u8], id: u32) -> Result<(), Refusal> {
     // SAFETY: pointer and length are those of one slice. Either delete ends within it whatever it holds.
     Refusal::of(unsafe { act(index.as_mut_ptr(), index.len(), id) })
+}
+
+pub fn delete_point(index: &mut [u8], id: u32, point: &[i16]) -> Result<(), Refusal> {
+    // SAFETY: pointers and lengths are those of two slices that do not overlap, since `index` is borrowed alone. It ends within them
+    // whatever they hold.
+    Refusal::of(unsafe { sys::epoch_index_vouched_delete(index.as_mut_ptr(), index.len(), id, point.as_ptr(), point.len()) })
 }
 
 /// The number of rows written, and the leaves read.

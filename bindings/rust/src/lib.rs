@@ -6,6 +6,7 @@
 //!
 //! - [`Index`]: five acts, each of which checks the whole index first and so is right about any bytes.
 //! - [`SoundIndex`]: checked once, by [`Index::open`], and changed by nothing but its own methods, which therefore need no check.
+//! - [`TabledIndex`]: a sound index with a table of its identifiers, so that insert and delete need no look through the leaves either.
 //!
 //! ```
 //! use epoch_index::{Index, Refusal, Tally, PAGE_BYTES};
@@ -25,8 +26,10 @@
 mod acts;
 mod refusal;
 mod sys;
+mod tabled;
 
 pub use refusal::{Fault, Refusal};
+pub use tabled::TabledIndex;
 
 /// The bytes of a page.
 pub const PAGE_BYTES: usize = 1024;
@@ -166,6 +169,21 @@ impl<B: AsRef<[u8]>> SoundIndex<B> {
     /// The same in lent rows: how many were written, and the leaves read. Rows past those keep their contents.
     pub fn question_into(&self, point: &[i16], k: usize, rows: &mut [Row], tally: &mut Tally) -> Result<(usize, u32), Refusal> {
         acts::question(sys::epoch_index_trusted_question, self.as_bytes(), point, k, rows, tally)
+    }
+
+    /// The index with a table of its live identifiers and their points. Every leaf is read once.
+    ///
+    /// ```
+    /// # use epoch_index::{Index, Refusal};
+    /// let bytes = Index::make(vec![0; 2048], 1)?.into_bytes();
+    /// let mut tabled = Index::open(bytes).unwrap().with_identifiers();
+    /// tabled.insert(7, &[-300])?;
+    /// assert_eq!(tabled.insert(7, &[5]), Err(Refusal::AlreadyLive));
+    /// assert_eq!((tabled.len(), tabled.point(7)), (1, Some(&[-300][..])));
+    /// # Ok::<(), Refusal>(())
+    /// ```
+    pub fn with_identifiers(self) -> TabledIndex<B> {
+        TabledIndex::of(self)
     }
 
     /// The bytes, to read or store.

@@ -10,7 +10,7 @@ pub struct Answer {
     pub leaves: u32,
 }
 
-/// An insert: checked or trusted.
+/// An insert: checked, trusted or vouched.
 pub type Insert = unsafe extern "C" fn(index: *mut u8, length: usize, id: u32, point: *const i16, coordinates: usize) -> u32;
 
 /// A delete: checked or trusted.
@@ -55,4 +55,6 @@ extern "C" {
         lent: usize,
         tally: *mut Tally,
     ) -> Answer;
+    pub fn epoch_index_vouched_insert(index: *mut u8, length: usize, id: u32, point: *const i16, coordinates: usize) -> u32;
+    pub fn epoch_index_vouched_delete(index: *mut u8, length: usize, id: u32, point: *const i16, coordinates: usize) -> u32;
 }

@@ -224,6 +224,108 @@ fn a_sound_index_asks_borrowed_bytes() {
     assert_eq!(tally, Tally { questions: 2, leaves: 3 });
 }
 
+/// The table holds the identifiers and points that a series has left, and no others.
+fn table_is(tabled: &TabledIndex<Vec<u8>>, points: &BTreeMap<u32, Vec<i16>>) {
+    assert_eq!((tabled.len(), tabled.is_empty()), (points.len(), points.is_empty()));
+    for (id, point) in points {
+        assert_eq!((tabled.contains(*id), tabled.point(*id)), (true, Some(&point[..])));
+    }
+}
+
+/// A series of inserts and deletes, of points right and wrong: with the table every refusal and every byte is that without it.
+fn tabled_series(d: usize, reach: u64, pages: usize, acts: usize) {
+    let mut random = Random(pages as u64 + d as u64 * reach);
+    let mut sound = Index::open(Index::make(bytes(pages), d as u8).unwrap().into_bytes()).unwrap();
+    let mut tabled = sound.clone().with_identifiers();
+    let mut points: BTreeMap<u32, Vec<i16>> = BTreeMap::new();
+    let mut refusals = [0; 14];
+    for act in 0..acts {
+        let id = if random.below(64) == 0 { 0 } else { random.below(acts as u64 / 2) as u32 };
+        let mut point = random.point(d, reach);
+        match random.below(16) {
+            0 => point.push(0),
+            1 => point[d - 1] = 1001,
+            _ => (),
+        }
+        // first mostly inserts, later mostly deletes
+        let done = if random.below(acts as u64) < act as u64 {
+            let done = sound.delete(id);
+            assert_eq!(tabled.delete(id), done);
+            assert_eq!(done.is_ok(), points.remove(&id).is_some());
+            done
+        } else {
+            let done = sound.insert(id, &point);
+            assert_eq!(tabled.insert(id, &point), done);
+            if done.is_ok() {
+                points.insert(id, point);
+            }
+            done
+        };
+        refusals[done.map_or_else(|refusal| refusal.code() as usize, |()| 0)] += 1;
+        assert!(tabled.as_bytes() == sound.as_bytes());
+        assert_eq!(tabled.contains(id), points.contains_key(&id));
+        if act % 64 == 0 {
+            table_is(&tabled, &points);
+            // and a table made afresh is the same
+            table_is(&Index::open(sound.as_bytes().to_vec()).unwrap().with_identifiers(), &points);
+        }
+    }
+    for code in [0, 3, 4, 5, 6, 7] {
+        assert!(refusals[code] > 0, "{code} is not met");
+    }
+    assert_eq!(refusals[9] > 0, pages < 40);
+    Index::open(tabled.into_bytes()).unwrap();
+}
+
+#[test]
+fn a_tabled_index_does_what_a_sound_one_does() {
+    for (d, reach) in [(1, 20), (2, 3), (2, 1000), (5, 1000), (16, 1000)] {
+        tabled_series(d, reach, 20, 1500);
+        tabled_series(d, reach, 400, 4000);
+    }
+}
+
+#[test]
+fn a_tabled_index_refuses_in_the_order_of_the_acts() {
+    let mut tabled = Index::open(upward(3, 16).into_bytes()).unwrap().with_identifiers();
+    let before = tabled.as_bytes().to_vec();
+    assert_eq!(tabled.insert(0, &[1, 1001]), Err(Refusal::BadFeatures));
+    assert_eq!(tabled.insert(0, &[1001]), Err(Refusal::BadCoordinate));
+    assert_eq!(tabled.insert(16, &[]), Err(Refusal::BadFeatures));
+    assert_eq!(tabled.insert(16, &[-1001]), Err(Refusal::BadCoordinate));
+    assert_eq!(tabled.insert(0, &[1]), Err(Refusal::ZeroIdentifier));
+    assert_eq!(tabled.insert(16, &[1]), Err(Refusal::AlreadyLive));
+    assert_eq!(tabled.insert(17, &[1]), Err(Refusal::NoPages));
+    assert_eq!(tabled.delete(0), Err(Refusal::ZeroIdentifier));
+    assert_eq!(tabled.delete(17), Err(Refusal::NotLive));
+    assert_eq!((tabled.len(), tabled.as_bytes()), (16, &before[..]));
+    tabled.delete(16).unwrap();
+    assert_eq!((tabled.contains(16), tabled.delete(16)), (false, Err(Refusal::NotLive)));
+    tabled.insert(16, &[-16]).unwrap();
+    assert_eq!(tabled.point(16), Some(&[-16][..]));
+    let found = tabled.question(&[-17], 1, &mut Tally::default()).unwrap();
+    let mut rows = [Row::default(); 1];
+    assert_eq!(tabled.question_into(&[-17], 1, &mut rows, &mut Tally::default()), Ok((1, 1)));
+    assert_eq!((ids(&found), rows[0].distance), (vec![16], 1));
+    assert_eq!(tabled.into_sound().insert(17, &[1]), Err(Refusal::NoPages));
+}
+
+#[test]
+fn a_wrong_word_for_a_delete_does_no_harm() {
+    let mut index = upward(4, 17).into_bytes();
+    let before = index.clone();
+    assert_eq!(acts::delete_point(&mut index, 9, &[8]), Err(Refusal::NotLive));
+    assert_eq!(acts::delete_point(&mut index, 18, &[9]), Err(Refusal::NotLive));
+    assert_eq!(acts::delete_point(&mut index, 0, &[9]), Err(Refusal::ZeroIdentifier));
+    assert_eq!(acts::delete_point(&mut index, 9, &[9, 0]), Err(Refusal::BadFeatures));
+    assert_eq!(index, before);
+    acts::delete_point(&mut index, 9, &[9]).unwrap();
+    Index::open(&index[..]).unwrap();
+    // one for an insert is not noticed, but by the check
+    acts::insert(sys::epoch_index_vouched_insert, &mut index, 8, &[500]).unwrap();
+    assert_eq!(Index::open(&index[..]).unwrap_err().refusal, Refusal::Unsound);
+}
+
 /// A damaged index that leads 255 levels down, each page with some entries for the next: every recursion goes as deep as it can.
 fn deepest(entries: usize) -> Vec<u8> {
     let mut index = upward(300, 1).into_bytes();
@@ -264,11 +366,15 @@ fn acts_keep_to_their_stack() {
         assert_eq!(acts::insert(sys::epoch_index_trusted_insert, &mut bytes, 2, &[2]), Err(Refusal::Unsound));
         assert_eq!(acts::delete(sys::epoch_index_trusted_delete, &mut bytes, 2), Err(Refusal::Unsound));
         assert_eq!(found(sys::epoch_index_trusted_question, &bytes, &[1], 64, &mut Tally::default()), Err(Refusal::Unsound));
+        assert_eq!(acts::insert(sys::epoch_index_vouched_insert, &mut bytes, 2, &[2]), Err(Refusal::Unsound));
+        assert_eq!(acts::delete_point(&mut bytes, 2, &[2]), Err(Refusal::Unsound));
         // level 4 is the highest that they follow; what they do to a damaged index means nothing, here they only have to end
         bytes[8..12].copy_from_slice(&252u32.to_le_bytes());
         bytes[12] = 4;
         let _ = acts::insert(sys::epoch_index_trusted_insert, &mut bytes, 2, &[2]);
         let _ = acts::delete(sys::epoch_index_trusted_delete, &mut bytes, 2);
+        let _ = acts::insert(sys::epoch_index_vouched_insert, &mut bytes, 3, &[3]);
+        let _ = acts::delete_point(&mut bytes, 2, &[2]);
         let _ = found(sys::epoch_index_trusted_question, &bytes, &[1], 64, &mut Tally::default());
     });
 }

@@ -6,8 +6,10 @@ ghost use Rattle.index.specs.Refusals.{First, makeRules, insertRules, deleteRul
 ghost use Rattle.index.specs.Outcomes.{madeWith, insertedWith, deletedWith};
 ghost use Rattle.index.specs.Questions.{Questioned};
 ghost use Rattle.index.specs.Trusted.{trustedInsert, trustedDelete, TrustedQuestioned};
+ghost use Rattle.index.specs.Vouched.{vouchedInsert, vouchedDelete, vouchedDeletedWith};
 use candidates::Row;
 use index::trusted;
+use index::vouched;
 use lending::Answer;
 use lending::Tally;
 use search::Query;
@@ -90,4 +92,20 @@ pub extern "C" fn epoch_index_trusted_question(
 {
     let query = Query { k: k };
     trusted::question(index, point, query, rows, tally)
+}
+
+// Inserts an identifier, which the caller vouches is not live, with its point, without the check.
+#[no_mangle]
+pub extern "C" fn epoch_index_vouched_insert(index: &mut [u8], id: u32, point: &[i16]) -> u32
+    ensures { λ r. ⌜ First (vouchedInsert (now (index .entry)) id (now (point .entry))) r × (now (index .exit) ≡ insertedWith r (now (index .entry)) id (now (point .entry))) ⌝ }
+{
+    vouched::insert(index, id, point)
+}
+
+// Deletes an identifier with its point, both told by the caller, without the check.
+#[no_mangle]
+pub extern "C" fn epoch_index_vouched_delete(index: &mut [u8], id: u32, point: &[i16]) -> u32
+    ensures { λ r. ⌜ First (vouchedDelete (now (index .entry)) id (now (point .entry))) r × (now (index .exit) ≡ vouchedDeletedWith r (now (index .entry)) id (now (point .entry))) ⌝ }
+{
+    vouched::delete(index, id, point)
 }

@@ -2,8 +2,8 @@
 use mathlib.Core.Path.{_≡_, refl, _∙_, subst}
 use mathlib.Core.Bool.{Bool, true}
 use mathlib.Core.Logic.{_≢_, inl, inr}
-use mathlib.Core.List.{List, [], _∷_}
-use Prim.Native.Nat.{ℕ, _≤_, _<_}
+use mathlib.Core.List.{List, [], _∷_, _++_}
+use Prim.Native.Nat.{ℕ, _≤_}
 use native.Mathlib.Omega.{arith}
 use lib.IntN.{ℤ}
 use lib.ListN.{length}
@@ -13,7 +13,8 @@ use Rattle.trees.specs.Sound.{SoundIndex}
 use Rattle.index.specs.Refusals.{Rule, First, checkRules, insertRules, deleteRules, questionRules}
 use Rattle.index.specs.RefusalLaws.{Hold, numbered, all-hold, refused-before, refused-after, later}
 use Rattle.index.specs.Outcomes.{Decides}
-use Rattle.index.specs.Trusted.{Suits, trustedPoint, trustedInsert, trustedQuestion}
+use Rattle.index.specs.Trusted.{Suits, trustedPoint, trustedInsert, trustedQuestion, pairRules}
+use Rattle.index.specs.Vouched.{vouchedInsert, vouchedDelete}
 
 -- ---- THE HEADER'S FIELDS
 
@@ -54,24 +55,18 @@ module _ (b : List ℕ) (n : ℕ) (f : First (checkRules b) n) where
 -- ---- THE POINT
 
 module _ (b : List ℕ) (p : List ℤ) (n : ℕ) (f : First (trustedPoint b p) n) where
-  pub pointed : n ≡ 0 → First (trustedPoint b p) 0
-  pointed e = subst (First (trustedPoint b p)) e f
-
   module _ (i : ℕ) where
-    abbrev ofInsert : List Rule
-    ofInsert = later (later (later (later (trustedInsert b i p))))
+    pub pair-point : n ≢ 0 → First (pairRules b i p) n
+    pair-point w = refused-before (trustedPoint b p) ((5, 1 ≤ i) ∷ []) n w f
 
-    pub insert-point : n ≢ 0 → First (trustedInsert b i p) n
-    insert-point w = refused-before (trustedPoint b p) ofInsert n w f
+    pairs : n ≡ 0 → (m : ℕ) → First ((5, 1 ≤ i) ∷ []) m → First (pairRules b i p) m
+    pairs e m g = refused-after (trustedPoint b p) ((5, 1 ≤ i) ∷ []) m (none-refuses (trustedPoint b p) n refl f e) g
 
-    inserts : n ≡ 0 → (m : ℕ) → First ofInsert m → First (trustedInsert b i p) m
-    inserts e m g = refused-after (trustedPoint b p) ofInsert m (none-refuses (trustedPoint b p) n refl f e) g
+    pub pair-zero : n ≡ 0 → i ≡ 0 → First (pairRules b i p) 5
+    pair-zero e z = pairs e 5 (inl (refl, λ (l : 1 ≤ i). omega (arith, z)))
 
-    pub insert-zero : n ≡ 0 → i ≡ 0 → First (trustedInsert b i p) 5
-    insert-zero e z = inserts e 5 (inl (refl, λ (l : 1 ≤ i). omega (arith, z)))
-
-    pub insert-further : n ≡ 0 → 0 < i → (m : ℕ) → First (later ofInsert) m → First (trustedInsert b i p) m
-    insert-further e l m g = inserts e m (inr (omega (arith, l), g))
+    pub pair-some : n ≡ 0 → i ≢ 0 → First (pairRules b i p) 0
+    pair-some e w = pairs e 0 (inr (omega (arith, w), refl))
 
   module _ (k lent : ℕ) where
     abbrev ofQuestion : List Rule
@@ -83,12 +78,36 @@ module _ (b : List ℕ) (p : List ℤ) (n : ℕ) (f : First (trustedPoint b p) n
     pub question-further : n ≡ 0 → (m : ℕ) → First ofQuestion m → First (trustedQuestion b p k lent) m
     question-further e m g = refused-after (trustedPoint b p) ofQuestion m (none-refuses (trustedPoint b p) n refl f e) g
 
--- a point that is not refused has a record
-pub point-fits : (b : List ℕ) (p : List ℤ) → First (trustedPoint b p) 0 → (length p ≤ 16) × (inRange p ≡ true)
-point-fits b p f = let h = all-hold (trustedPoint b p) refl f in (h .1 .1 .0 .1, h .1 .1 .1 .0)
+-- ---- THE IDENTIFIER AND ITS POINT
 
+module _ (b : List ℕ) (i : ℕ) (p : List ℤ) (n : ℕ) (f : First (pairRules b i p) n) where
+  pub pair-refuses : (rest : List Rule) → n ≢ 0 → First (pairRules b i p ++ rest) n
+  pair-refuses rest w = refused-before (pairRules b i p) rest n w f
+
+  module _ (e : n ≡ 0) where
+    pub pair-passes : (rest : List Rule) (m : ℕ) → First rest m → First (pairRules b i p ++ rest) m
+    pair-passes rest m g = refused-after (pairRules b i p) rest m (none-refuses (pairRules b i p) n refl f e) g
+
+    pub pair-ident : 1 ≤ i
+    pair-ident = none-refuses (pairRules b i p) n refl f e .1 .1 .1 .1 .0
+
+    -- it has a record
+    pub pair-fits : (length p ≤ 16) × (inRange p ≡ true)
+    pair-fits = let h = none-refuses (pairRules b i p) n refl f e in (h .1 .1 .0 .1, h .1 .1 .1 .0)
+
+-- the rules that follow them
+abbrev pub ofInsert : List ℕ → ℕ → List ℤ → List Rule
+ofInsert b i p = later (later (later (later (later (trustedInsert b i p)))))
+
+abbrev pub ofVouchedDelete : List ℕ → ℕ → List ℤ → List Rule
+ofVouchedDelete b i p = later (later (later (later (later (vouchedDelete b i p)))))
+
+-- what is inserted has a record
 pub insert-fits : (b : List ℕ) (i : ℕ) (p : List ℤ) (n : ℕ) → First (trustedInsert b i p) n → n ≡ 0 → (length p ≤ 16) × (inRange p ≡ true)
 insert-fits b i p n f e = let h = none-refuses (trustedInsert b i p) n refl f e in (h .1 .1 .0 .1, h .1 .1 .1 .0)
+
+pub vouched-fits : (b : List ℕ) (i : ℕ) (p : List ℤ) (n : ℕ) → First (vouchedInsert b i p) n → n ≡ 0 → (length p ≤ 16) × (inRange p ≡ true)
+vouched-fits b i p n f e = let h = none-refuses (vouchedInsert b i p) n refl f e in (h .1 .1 .0 .1, h .1 .1 .1 .0)
 
 -- what the search asks for
 pub may-search : (b : List ℕ) (p : List ℤ) (k lent n : ℕ) → First (trustedQuestion b p k lent) n → n ≡ 0

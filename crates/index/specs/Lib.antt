@@ -7,5 +7,7 @@ pub mod Questions
 pub mod QuestionLaws
 pub mod Trusted
 pub mod TrustedLaws
+pub mod Vouched
+pub mod VouchedLaws
 pub mod Acts
 pub mod PointLaws

@@ -67,6 +67,22 @@ trustedPoint b p =
     ∷ (4, inRange p ≡ true)
     ∷ []
 
+-- those that speak of an identifier and its point, and of room for a record
+abbrev pub pairRules : List ℕ → ℕ → List ℤ → List Rule
+pairRules b i p =
+    (1, Permitted (length b))
+    ∷ (2, fieldAt level b ≤ 4)
+    ∷ (3, Suits b p)
+    ∷ (4, inRange p ≡ true)
+    ∷ (5, 1 ≤ i)
+    ∷ []
+
+abbrev pub roomRules : List ℕ → ℕ → List ℤ → List Rule
+roomRules b i p =
+    (8, viewOf b .total < 65535)
+    ∷ (9, pagesWanted b (recordOf i p) ≤ length (freeAt b))
+    ∷ []
+
 -- the numbers of rules, in their order
 abbrev pub numbers : List Rule → List ℕ
 numbers [] = []

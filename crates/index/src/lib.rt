@@ -1,5 +1,6 @@
 // The acts on an index: each has a stated outcome for every input, and refuses with the first number that applies in its order.
-// An act is the check and then the act without it (`trusted`), which a caller that holds its index alone may use by itself.
+// An act is the check and then the act without it (`trusted`), which a caller that holds its index alone may use by itself. A caller that also
+// keeps the identifiers and their points may insert and delete without a look for the identifier (`vouched`).
 use candidates::Row;
 use lending::Answer;
 use lending::Tally;
@@ -10,6 +11,7 @@ mod making;
 mod refusing;
 pub mod trusted;
 mod upkeep;
+pub mod vouched;
 
 pub use asking::ask;
 pub use asking::question;

@@ -1,13 +1,13 @@
 // The numbers of the refusal table, tested in each act's order. Of the bytes nothing is known here, and number 2 goes by the header's level alone.
 ghost use mathlib.Core.Path.{_≡_};
 ghost use mathlib.Core.Bool.{true};
-ghost use Prim.Native.Nat.{_≤_, _<_};
+ghost use Prim.Native.Nat.{_≤_};
 ghost use lib.ListN.{length};
 ghost use Rattle.geometry.specs.Stored.{inRange};
 ghost use Rattle.index.specs.Refusals.{First, recordOf};
 ghost use Rattle.index.specs.Outcomes.{Decides};
 ghost use Rattle.index.specs.Questions.{Refused};
-ghost use Rattle.index.specs.Trusted.{trustedPoint, trustedInsert, trustedQuestion};
+ghost use Rattle.index.specs.Trusted.{trustedPoint, pairRules, roomRules, trustedInsert, trustedQuestion};
 use crate::making::permitted;
 use geometry::points::in_range;
 use geometry::points::slots_of;
@@ -104,15 +104,25 @@ pub fn record_of(id: u32, point: &[i16]) -> Record
     }
 }
 
-// The number of an insert whose point and identifier may be a record's.
-fn refuse_record(index: &[u8], id: u32, point: &[i16]) -> u32
-    requires { ⌜ (0 < id) × First (trustedPoint (now index) (now point)) 0 ⌝ }
-    ensures { λ r. ⌜ First (trustedInsert (now (index .entry)) id (now (point .entry))) r ⌝ }
+// The first of 1 to 5 that applies to an identifier and its point.
+pub fn refuse_pair(index: &[u8], id: u32, point: &[i16]) -> u32
+    ensures { λ r. ⌜ First (pairRules (now (index .entry)) id (now (point .entry))) r ⌝ }
 {
-    let found = find(index, id);
-    if found.id != 0 {
-        return 6;
+    let coded = refuse_point(index, point);
+    if coded != 0 {
+        return coded;
     }
+    if id == 0 {
+        return 5;
+    }
+    0
+}
+
+// The first of 8 and 9 that applies to a record that may be inserted.
+pub fn refuse_room(index: &[u8], id: u32, point: &[i16]) -> u32
+    requires { ⌜ (length (now point) ≤ 16) × (inRange (now point) ≡ true) ⌝ }
+    ensures { λ r. ⌜ First (roomRules (now (index .entry)) id (now (point .entry))) r ⌝ }
+{
     if 65535 <= total_records(index) {
         return 8;
     }
@@ -127,12 +137,13 @@ fn refuse_record(index: &[u8], id: u32, point: &[i16]) -> u32
 pub fn refuse_insert(index: &[u8], id: u32, point: &[i16]) -> u32
     ensures { λ r. ⌜ First (trustedInsert (now (index .entry)) id (now (point .entry))) r ⌝ }
 {
-    let coded = refuse_point(index, point);
+    let coded = refuse_pair(index, id, point);
     if coded != 0 {
         return coded;
     }
-    if id == 0 {
-        return 5;
+    let found = find(index, id);
+    if found.id != 0 {
+        return 6;
     }
-    refuse_record(index, id, point)
+    refuse_room(index, id, point)
 }

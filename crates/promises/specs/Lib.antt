@@ -3,3 +3,4 @@ pub mod Answers
 pub mod Series
 pub mod Identifiers
 pub mod TrustedActs
+pub mod VouchedActs

@@ -4,3 +4,4 @@ pub mod InsertionLaws
 pub mod RootLaws
 pub mod DeletionLaws
 pub mod LookupLaws
+pub mod KeyedLaws

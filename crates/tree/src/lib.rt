@@ -7,11 +7,13 @@ mod entries;
 mod evening;
 mod insertion;
 mod items;
+mod keyed;
 mod keys;
 mod lookup;
 mod roots;
 
 pub use deletion::delete;
+pub use keyed::holds;
 pub use lookup::find;
 pub use lookup::leaf_count;
 pub use roots::insert;

@@ -281,10 +281,10 @@ delete-kept d (suc l) r z fs t o =
 abbrev pub Known : ℕ → Record → Record → Type 0
 Known d r x = x .id ≡ r .id → rankOf d x ≡ rankOf d r
 
-not-below : (d : ℕ) (r : Record) {xs : List Record} → All (Known d r) xs → All (λ x. rankOf d x < rankOf d r) xs → All (λ x. x .id ≢ r .id) xs
+pub not-below : (d : ℕ) (r : Record) {xs : List Record} → All (Known d r) xs → All (λ x. rankOf d x < rankOf d r) xs → All (λ x. x .id ≢ r .id) xs
 not-below d r h g = all-map (λ x (p : Known d r x × (rankOf d x < rankOf d r)) (e : x .id ≡ r .id). omega (arith, p .0 e, p .1)) (all-both h g)
 
-not-above : (d : ℕ) (r : Record) {xs : List Record} → All (Known d r) xs → All (λ x. rankOf d r < rankOf d x) xs → All (λ x. x .id ≢ r .id) xs
+pub not-above : (d : ℕ) (r : Record) {xs : List Record} → All (Known d r) xs → All (λ x. rankOf d r < rankOf d x) xs → All (λ x. x .id ≢ r .id) xs
 not-above d r h g = all-map (λ x (p : Known d r x × (rankOf d r < rankOf d x)) (e : x .id ≡ r .id). omega (arith, p .0 e, p .1)) (all-both h g)
 
 pub delete-records : (d l : ℕ) (r : Record) (fs : List ℕ) (t : Item (suc l)) → Root l t → Rising (rankOf d) (records (suc l) t) → All (Known d r) (records (suc l) t)

@@ -4,6 +4,7 @@ pub mod DeletePromises
 pub mod NewPromises
 pub mod SpacePromises
 pub mod LookupPromises
+pub mod KeyedPromises
 pub mod UpwardExample
 -- on trees
 pub mod Shapes

@@ -1,28 +1,43 @@
 -- `index::refusing::refuse_insert` meets its contract. Assumes nothing.
 use denote.Ref.{now}
 use borrow.Author.Needs.{needs}
-use native.Mathlib.Omega.{arith}
-use Rattle.index.proofs.RuleLaws.{pointed, insert-point, insert-zero}
+use mathlib.Core.Path.{_≡_, refl, sym, ap, _∙_}
+use mathlib.Core.Logic.{inl, inr}
+use Rattle.pagestore.specs.declared.Record.{Record}
+use Rattle.tree.specs.Lookup.{findIn}
+use Rattle.index.proofs.RuleLaws.{pair-refuses, pair-passes, pair-ident, pair-fits, ofInsert}
 use Rattle.index.proofs.refusing.refuse_insert.Statement.{statement}
 use Rattle.index.proofs.refusing.refuse_insert.Tie as tie
 
-refuse-point-requires : tie.Need-refuse-point-requires
-refuse-point-requires c κs = search needs
+refuse-pair-requires : tie.Need-refuse-pair-requires
+refuse-pair-requires c κs = search needs
 
 returns : tie.Need-returns
-returns c = insert-point _ _ _ (c .before .refuse-point .ensures) _ (c .if1 .taken)
+returns c =
+    let a = c .before .before .before .args in
+    pair-refuses (now (a .index)) (a .id) (now (a .point)) _ (c .before .refuse-pair .ensures) (ofInsert (now (a .index)) (a .id) (now (a .point))) (c .if1 .taken)
+
+find-requires : tie.Need-find-requires
+find-requires c κs =
+    let a = c .before .before .before .args in pair-ident (now (a .index)) (a .id) (now (a .point)) _ (c .before .refuse-pair .ensures) (c .if1 .left)
 
 returns-2 : tie.Need-returns-2
 returns-2 c =
-    let a = c .before .before .before .before .args in insert-zero (now (a .index)) (now (a .point)) _ (c .before .before .refuse-point .ensures) (a .id) (c .before .if1 .left) (c .if2 .taken)
+    let a = c .before .before .before .before .before .before .args in
+    pair-passes (now (a .index)) (a .id) (now (a .point)) _ (c .before .before .before .before .refuse-pair .ensures) (c .before .before .before .if1 .left) (ofInsert (now (a .index)) (a .id) (now (a .point))) 6
+    (inl (refl, λ e. c .if2 .taken (ap (λ (r : Record). r .id) (c .before .before .find .ensures) ∙ e)))
 
-refuse-record-requires : tie.Need-refuse-record-requires
-refuse-record-requires c κs =
-    let a = c .before .before .before .before .args in (omega (arith, c .if2 .left), pointed (now (a .index)) (now (a .point)) _ (c .before .before .refuse-point .ensures) (c .before .if1 .left))
+refuse-room-requires : tie.Need-refuse-room-requires
+refuse-room-requires c κs =
+    let a = c .before .before .before .before .before .before .args in
+    pair-fits (now (a .index)) (a .id) (now (a .point)) _ (c .before .before .before .before .refuse-pair .ensures) (c .before .before .before .if1 .left)
 
 returns-3 : tie.Need-returns-3
-returns-3 c = search needs
+returns-3 c =
+    let a = c .before .before .before .before .before .before .before .args in
+    let none : findIn (now (a .index)) (a .id) .id ≡ 0 = sym (ap (λ (r : Record). r .id) (c .before .before .before .find .ensures)) ∙ c .before .if2 .left in
+    pair-passes (now (a .index)) (a .id) (now (a .point)) _ (c .before .before .before .before .before .refuse-pair .ensures) (c .before .before .before .before .if1 .left) (ofInsert (now (a .index)) (a .id) (now (a .point))) _
+    (inr (none, c .refuse-room .ensures))
 
 pub refuse-insert-spec : {M : Type 1} → statement M
-refuse-insert-spec =
-    tie.close (tie.spec refuse-point-requires returns returns-2 refuse-record-requires returns-3)
+refuse-insert-spec = tie.close (tie.spec refuse-pair-requires returns find-requires returns-2 refuse-room-requires returns-3)

@@ -1,0 +1,63 @@
+-- `index::refusing::refuse_room` meets its contract: each return names the first condition that fails. Assumes nothing.
+use denote.Ref.{now}
+use borrow.Author.Needs.{needs}
+use mathlib.Core.Path.{_≡_, refl, ap, _∙_}
+use mathlib.Core.Logic.{inl, inr}
+use Prim.Native.Nat.{_≤_, _<_}
+use native.Mathlib.Omega.{arith}
+use lib.ListN.{length}
+use Rattle.pagestore.specs.Store.{View, viewOf, freeAt}
+use Rattle.tree.specs.Insertion.{pagesWanted}
+use Rattle.index.specs.Refusals.{recordOf}
+use Rattle.index.proofs.RuleLaws.{total-view}
+use Rattle.index.proofs.refusing.refuse_room.Statement.{statement}
+use Rattle.index.proofs.refusing.refuse_room.Tie as tie
+
+total-records-requires : tie.Need-total-records-requires
+total-records-requires c κs = search needs
+
+returns : tie.Need-returns
+returns c =
+    let a = c .before .before .before .args in let index = now (a .index) in
+    let total : c .before .total-records .result ≡ viewOf index .total = c .before .total-records .ensures ∙ total-view index in
+    inl (refl, λ (l : viewOf index .total < 65535). omega (arith, c .if1 .taken))
+
+record-of-requires : tie.Need-record-of-requires
+record-of-requires c κs = search needs
+
+free-count-requires : tie.Need-free-count-requires
+free-count-requires c κs = search needs
+
+pages-wanted-requires : tie.Need-pages-wanted-requires
+pages-wanted-requires c κs = search needs
+
+returns-2 : tie.Need-returns-2
+returns-2 c =
+    let a = c .before .before .before .before .before .before .before .args in let index = now (a .index) in
+    let total : c .before .before .before .before .before .total-records .result ≡ viewOf index .total = c .before .before .before .before .before .total-records .ensures ∙ total-view index in
+    let wanted : c .before .pages-wanted .result ≡ pagesWanted index (recordOf (a .id) (now (a .point))) = c .before .pages-wanted .ensures ∙ ap (pagesWanted index) (c .before .before .before .record-of .ensures) in
+    let free : c .before .before .free-count .result ≡ length (freeAt index) = c .before .before .free-count .ensures in
+    let few : viewOf index .total < 65535 = omega (arith, c .before .before .before .before .if1 .left) in
+    inr (few, inl (refl, λ (l : pagesWanted index (recordOf (a .id) (now (a .point))) ≤ length (freeAt index)). omega (arith, c .if2 .taken)))
+
+returns-3 : tie.Need-returns-3
+returns-3 c =
+    let a = c .before .before .before .before .before .before .before .args in let index = now (a .index) in
+    let total : c .before .before .before .before .before .total-records .result ≡ viewOf index .total = c .before .before .before .before .before .total-records .ensures ∙ total-view index in
+    let wanted : c .before .pages-wanted .result ≡ pagesWanted index (recordOf (a .id) (now (a .point))) = c .before .pages-wanted .ensures ∙ ap (pagesWanted index) (c .before .before .before .record-of .ensures) in
+    let free : c .before .before .free-count .result ≡ length (freeAt index) = c .before .before .free-count .ensures in
+    let few : viewOf index .total < 65535 = omega (arith, c .before .before .before .before .if1 .left) in
+    let room : pagesWanted index (recordOf (a .id) (now (a .point))) ≤ length (freeAt index) = omega (arith, c .if2 .left) in
+    inr (few, inr (room, refl))
+
+pub refuse-room-spec : {M : Type 1} → statement M
+refuse-room-spec =
+    tie.close
+    (tie.spec
+    total-records-requires
+    returns
+    record-of-requires
+    free-count-requires
+    pages-wanted-requires
+    returns-2
+    returns-3)

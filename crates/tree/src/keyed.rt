@@ -1,0 +1,70 @@
+// Whether a record stands where its key leads: one page of each level is read.
+ghost use mathlib.Core.Path.{_≡_};
+ghost use Rattle.pagestore.specs.Store.{recordsIn};
+ghost use Rattle.tree.specs.Keyed.{leafFor, samePoint, heldAmong, holdsAt};
+use crate::entries::child_at;
+use crate::entries::choose_child;
+use crate::keys::filled;
+use crate::keys::record_rank;
+use crate::lookup::place_of_ident;
+use pagestore::Leaf;
+use pagestore::Record;
+use pagestore::features_of;
+use pagestore::inner_at;
+use pagestore::leaf_at;
+use pagestore::root_level;
+use pagestore::root_page;
+
+// The leaf to which a rank leads from a page; the level falls at each call.
+fn leaf_for(index: &[u8], page: u32, level: u8, rank: u64) -> u32
+    ensures { λ r. ⌜ r ≡ leafFor level (now (index .entry)) page rank ⌝ }
+{
+    if level == 0 {
+        return page;
+    }
+    let inner = inner_at(index, page);
+    let i = choose_child(inner, rank);
+    let child = child_at(inner, i);
+    leaf_for(index, child, level - 1, rank)
+}
+
+// Whether two records have the same point: their first d slots.
+fn same_point(x: Record, y: Record, d: u8) -> bool
+    ensures { λ r. ⌜ r ≡ samePoint d x y ⌝ }
+{
+    let n = filled(d as usize);
+    let xs = x.coords;
+    let ys = y.coords;
+    let mut m = 0;
+    while m < n {
+        if xs[m] != ys[m] {
+            return false;
+        }
+        m += 1;
+    }
+    true
+}
+
+// Whether a leaf's first record of an identifier has the point of the record asked for.
+fn held_among(leaf: Leaf, x: Record, d: u8) -> bool
+    ensures { λ r. ⌜ r ≡ heldAmong d x (recordsIn leaf) ⌝ }
+{
+    let n = filled(leaf.count);
+    let i = place_of_ident(leaf, x.id);
+    if i < n {
+        return same_point(leaf.records[i], x, d);
+    }
+    false
+}
+
+// Whether the index holds a record, by identifier and point, in the leaf to which its key leads.
+pub fn holds(index: &[u8], x: Record) -> bool
+    ensures { λ r. ⌜ r ≡ holdsAt (now (index .entry)) x ⌝ }
+{
+    let d = features_of(index);
+    let level = root_level(index);
+    let root = root_page(index);
+    let rank = record_rank(x, d);
+    let page = leaf_for(index, root, level, rank);
+    held_among(leaf_at(index, page), x, d)
+}
