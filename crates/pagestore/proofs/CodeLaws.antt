@@ -27,6 +27,16 @@ use Rattle.pagestore.specs.Store.StretchLaws.{stretch-in, set-in, set-ou
 
 -- ---- what the readers return
 
+pub key-is : (s : List ℕ) (at p h n : ℕ) → p ≡ byteAt s (at + 6) → h ≡ leAt 2 s (at + 4) → n ≡ leAt 4 s at
+    → _≡_ {A = Key} (record { pyramid = record { 0 = p }; height = record { 0 = h }; id = n }) (keyAt s at)
+unfolding keyAt
+key-is s at p h n a b c = rw (a, b, c)
+
+pub entry-is : (s : List ℕ) (at n : ℕ) (f l : Key) → n ≡ leAt 4 s at → f ≡ keyAt s (at + 4) → l ≡ keyAt s (at + 12)
+    → _≡_ {A = Entry} (record { child = n; first = f; last = l }) (entryAt s at)
+unfolding entryAt
+entry-is s at n f l a b c = rw (a, b, c)
+
 pub record-is : (s : List ℕ) (at n : ℕ) (cs : List ℕ) → n ≡ leAt 4 s at → cs ≡ run 16 (λ m. leAt 2 s (at + 4 + 2 * m)) → _≡_ {A = Record} (record { id = n; coords = cs }) (recordAt s at)
 unfolding recordAt
 record-is s at n cs p q = rw (p, q)
@@ -34,11 +44,6 @@ record-is s at n cs p q = rw (p, q)
 pub leaf-is : (s : List ℕ) (n : ℕ) (rs : List Record) → n ≡ byteAt s 1 → rs ≡ run 16 (λ i. recordAt s (4 + 44 * i)) → _≡_ {A = Leaf} (record { count = n; records = rs }) (leafOf s)
 unfolding leafOf
 leaf-is s n rs p q = rw (p, q)
-
-pub inner-is : (s : List ℕ) (v n : ℕ) (es : List Entry) → v ≡ byteAt s 0 → n ≡ byteAt s 1 → es ≡ run 16 (λ i. entryAt s (4 + 20 * i))
-    → _≡_ {A = Inner} (record { level = v; count = n; entries = es }) (innerOf s)
-unfolding innerOf
-inner-is s v n es o p q = rw (o, p, q)
 
 -- one item of a page
 pub record-read : (s : List ℕ) (i : ℕ) → i < 16 → recordAt s (4 + 44 * i) ≡ getD (leafOf s .records) i noRecord

@@ -12,7 +12,6 @@ mod shift;
 
 // One page, handed over as a part of the index.
 pub use pages::read_count;
-pub use pages::read_inner;
 pub use pages::read_leaf;
 pub use pages::read_record;
 pub use pages::write_inner;
@@ -54,11 +53,8 @@ pub use free::free_page;
 pub use free::make;
 pub use free::take_page;
 
-// Items put in and taken out, in a page held by value.
-pub use shift::insert_entry;
+// A record put into a leaf held by value.
 pub use shift::insert_record;
-pub use shift::remove_entry;
-pub use shift::remove_record;
 
 // A record as it is stored: its identifier, and 16 coordinate slots, each a coordinate with 1,000 added.
 pub struct Record {
