@@ -2,5 +2,3 @@ pub mod Entries
 pub mod Insertion
 pub mod Deletion
 pub mod Lookup
-pub mod Held
-pub mod CodeTerms
