@@ -3,9 +3,10 @@
 use geometry::Key;
 
 mod counting;
-mod free;
 mod header;
 mod items;
+mod links;
+mod making;
 mod numbers;
 mod pages;
 mod shift;
@@ -18,6 +19,7 @@ pub use pages::write_inner;
 pub use pages::write_leaf;
 
 // Pages by number.
+pub use links::set_link;
 pub use pages::count_at;
 pub use pages::entry_at;
 pub use pages::ident_at;
@@ -47,11 +49,9 @@ pub use header::set_root_page;
 pub use header::set_total_records;
 pub use header::total_records;
 
-// Free pages, and a new index.
+// How many pages are free, and a new index.
 pub use counting::free_count;
-pub use free::free_page;
-pub use free::make;
-pub use free::take_page;
+pub use making::make;
 
 // A record put into a leaf held by value.
 pub use shift::insert_record;

@@ -9,6 +9,7 @@ ghost use Rattle.tree_parts.specs.Insertion.{growRoot, addToTotal, insertInto, 
 ghost use Rattle.tree_parts.specs.CodeTerms.{grownList};
 ghost use Rattle.tree_parts.specs.Held.{Held};
 use crate::insertion::insert_at;
+use free_pages::take_page;
 use pagestore::Entry;
 use pagestore::Inner;
 use pagestore::Record;
@@ -21,7 +22,6 @@ use pagestore::set_inner;
 use pagestore::set_root_level;
 use pagestore::set_root_page;
 use pagestore::set_total_records;
-use pagestore::take_page;
 use pagestore::total_records;
 use tree_parts::Grown;
 use tree_parts::child_at;

@@ -14,7 +14,7 @@ use Rattle.tree_delete.proofs.deletion.give_way.Statement.{statement}
 use Rattle.tree_delete.proofs.deletion.give_way.Tie as tie
 use Rattle.tree_delete.proofs.deletion.give_way.Reads as reads
 use Rattle.tree_delete.proofs.deletion.give_way.Lts as lts
-use Rattle.pagestore.proofs.free_page.Reads as free-page-reads
+use Rattle.free_pages.proofs.free_page.Reads as free-page-reads
 use Rattle.pagestore.proofs.set_root_level.Reads as set-root-level-reads
 use Rattle.pagestore.proofs.set_root_page.Reads as set-root-page-reads
 use Rattle.pagestore.proofs.inner_at.Reads as inner-at-reads

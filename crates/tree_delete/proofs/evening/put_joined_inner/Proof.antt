@@ -16,7 +16,7 @@ use Rattle.tree_delete.proofs.evening.put_joined_inner.Statement.{state
 use Rattle.tree_delete.proofs.evening.put_joined_inner.Tie as tie
 use Rattle.tree_delete.proofs.evening.put_joined_inner.Reads as reads
 use Rattle.tree_delete.proofs.evening.put_joined_inner.Lts as lts
-use Rattle.pagestore.proofs.free_page.Reads as free-page-reads
+use Rattle.free_pages.proofs.free_page.Reads as free-page-reads
 use Rattle.pagestore.proofs.set_inner.Reads as set-inner-reads
 use Rattle.tree_parts.proofs.inner_entry.Reads as inner-entry-reads
 

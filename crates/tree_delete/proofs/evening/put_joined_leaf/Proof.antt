@@ -16,7 +16,7 @@ use Rattle.tree_delete.proofs.evening.put_joined_leaf.Statement.{statem
 use Rattle.tree_delete.proofs.evening.put_joined_leaf.Tie as tie
 use Rattle.tree_delete.proofs.evening.put_joined_leaf.Reads as reads
 use Rattle.tree_delete.proofs.evening.put_joined_leaf.Lts as lts
-use Rattle.pagestore.proofs.free_page.Reads as free-page-reads
+use Rattle.free_pages.proofs.free_page.Reads as free-page-reads
 use Rattle.pagestore.proofs.set_leaf.Reads as set-leaf-reads
 use Rattle.tree_parts.proofs.leaf_entry.Reads as leaf-entry-reads
 

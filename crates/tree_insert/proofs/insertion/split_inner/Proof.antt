@@ -13,7 +13,7 @@ use Rattle.tree_insert.proofs.insertion.split_inner.Statement.{statemen
 use Rattle.tree_insert.proofs.insertion.split_inner.Tie as tie
 use Rattle.tree_insert.proofs.insertion.split_inner.Reads as reads
 use Rattle.tree_insert.proofs.insertion.split_inner.Lts as lts
-use Rattle.pagestore.proofs.take_page.Reads as take-page-reads
+use Rattle.free_pages.proofs.take_page.Reads as take-page-reads
 use Rattle.pagestore.proofs.set_inner.Reads as set-inner-reads
 use Rattle.tree_parts.proofs.inner_entry.Reads as inner-entry-reads
 use Rattle.tree_parts.proofs.inner_of.Reads as inner-of-reads

@@ -13,7 +13,7 @@ use Rattle.tree_insert.proofs.insertion.split_leaf.Statement.{statement
 use Rattle.tree_insert.proofs.insertion.split_leaf.Tie as tie
 use Rattle.tree_insert.proofs.insertion.split_leaf.Reads as reads
 use Rattle.tree_insert.proofs.insertion.split_leaf.Lts as lts
-use Rattle.pagestore.proofs.take_page.Reads as take-page-reads
+use Rattle.free_pages.proofs.take_page.Reads as take-page-reads
 use Rattle.pagestore.proofs.set_leaf.Reads as set-leaf-reads
 use Rattle.tree_parts.proofs.leaf_entry.Reads as leaf-entry-reads
 use Rattle.tree_parts.proofs.leaf_of.Reads as leaf-of-reads

@@ -2,8 +2,8 @@ use mathlib.Core.Path.{sym}
 use Rattle.pagestore.specs.Store.StretchLaws.{clear-short}
 use Rattle.pagestore.proofs.CodeLaws.{clear-step}
 use borrow.Author.Needs.{needs}
-use Rattle.pagestore.proofs.free.clear_header.Statement.{statement}
-use Rattle.pagestore.proofs.free.clear_header.Tie as tie
+use Rattle.pagestore.proofs.making.clear_header.Statement.{statement}
+use Rattle.pagestore.proofs.making.clear_header.Tie as tie
 
 sub-clear : tie.Need-sub-clear
 sub-clear c = search needs

@@ -1,7 +1,8 @@
-use Rattle.pagestore.proofs.CodeLaws.{held, free-step, free-none}
+use Rattle.pagestore.proofs.CodeLaws.{held}
+use Rattle.free_pages.proofs.TakeLaws.{free-step, free-none}
 use borrow.Author.Needs.{needs}
-use Rattle.pagestore.proofs.free.free_page.Statement.{statement}
-use Rattle.pagestore.proofs.free.free_page.Tie as tie
+use Rattle.free_pages.proofs.free_page.Statement.{statement}
+use Rattle.free_pages.proofs.free_page.Tie as tie
 
 in-range-requires : tie.Need-in-range-requires
 in-range-requires c κs = search needs

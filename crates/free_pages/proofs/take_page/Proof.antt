@@ -1,9 +1,10 @@
 use native.Mathlib.Omega.{arith}
 use Rattle.pagestore.specs.Store.RangeLaws.{range-fits}
-use Rattle.pagestore.proofs.CodeLaws.{held, take-freed, take-fresh, take-none}
+use Rattle.pagestore.proofs.CodeLaws.{held}
+use Rattle.free_pages.proofs.TakeLaws.{take-freed, take-fresh, take-none}
 use borrow.Author.Needs.{needs}
-use Rattle.pagestore.proofs.free.take_page.Statement.{statement}
-use Rattle.pagestore.proofs.free.take_page.Tie as tie
+use Rattle.free_pages.proofs.take_page.Statement.{statement}
+use Rattle.free_pages.proofs.take_page.Tie as tie
 
 freed-head-requires : tie.Need-freed-head-requires
 freed-head-requires c κs = search needs

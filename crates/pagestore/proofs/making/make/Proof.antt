@@ -1,7 +1,7 @@
 use Rattle.pagestore.proofs.CodeLaws.{make-step}
 use borrow.Author.Needs.{needs}
-use Rattle.pagestore.proofs.free.make.Statement.{statement}
-use Rattle.pagestore.proofs.free.make.Tie as tie
+use Rattle.pagestore.proofs.making.make.Statement.{statement}
+use Rattle.pagestore.proofs.making.make.Tie as tie
 
 page-count-requires : tie.Need-page-count-requires
 page-count-requires c κs = search needs

@@ -3,8 +3,8 @@ use native.Mathlib.Omega.{arith}
 use Rattle.pagestore.specs.Store.StretchLaws.{set-link-opens}
 use Rattle.pagestore.proofs.CodeLaws.{held, part-whole, part-set, part-none}
 use borrow.Author.Needs.{needs}
-use Rattle.pagestore.proofs.free.set_link.Statement.{statement}
-use Rattle.pagestore.proofs.free.set_link.Tie as tie
+use Rattle.pagestore.proofs.links.set_link.Statement.{statement}
+use Rattle.pagestore.proofs.links.set_link.Tie as tie
 
 in-range-requires : tie.Need-in-range-requires
 in-range-requires c κs = search needs

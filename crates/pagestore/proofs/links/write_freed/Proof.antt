@@ -1,7 +1,7 @@
 use Rattle.pagestore.proofs.CodeLaws.{freed-put}
 use borrow.Author.Needs.{needs}
-use Rattle.pagestore.proofs.free.write_freed.Statement.{statement}
-use Rattle.pagestore.proofs.free.write_freed.Tie as tie
+use Rattle.pagestore.proofs.links.write_freed.Statement.{statement}
+use Rattle.pagestore.proofs.links.write_freed.Tie as tie
 
 put-u32-requires : tie.Need-put-u32-requires
 put-u32-requires c κs = search needs
