@@ -20,31 +20,62 @@ use Rattle.geometry.specs.Points.{InRange, heightOf, pyramidOf, PairLe, 
 use Rattle.geometry.specs.Stored.{pointOf}
 use Rattle.geometry.specs.Slices.{onAxis, sideBy, sliceBy, sliceAt, axisNo, signNo, lowestOf, highestOf, lastPyramid, Real, LeastAt, leastIn, boundTo, boundOf}
 
+-- numbers by themselves, so that omega meets nothing else
+reaches : (lo hi h : ℕ) → lo ≤ hi → h ≤ hi → h ≤ lo + (hi - lo)
+reaches lo hi h l v = omega arith
+
+one-on : (i n : ℕ) → i + suc n ≡ suc (i + n)
+one-on i n = omega arith
+
+no-less : (i n : ℕ) → i ≤ i + n
+no-less i n = omega arith
+
+one-back : (i n d : ℕ) → i + suc n < d + d → i + n < d + d
+one-back i n d l = omega arith
+
+suc-some : (n : ℕ) → suc n ≢ 0
+suc-some n = omega arith
+
+lowest-low : (d i : ℕ) → lowestOf d i ≤ 1000
+lowest-low d i = omega (arith, lowest-le-one d i)
+
+nothing-on : (i : ℕ) → i + 0 ≡ i
+nothing-on i = omega arith
+
 -- the least distance to a pyramid's heights lo .. hi
 least-over : (κ : ℕ → ℕ → ℕ) (q : List ℤ) (i lo hi : ℕ) → lo ≤ hi → LeastOver (sliceAt κ q i) lo hi (leastIn κ q i lo hi)
 unfolding leastIn
 least-over κ q i lo hi l =
     let w = least-height (sliceAt κ q i) lo hi l in
-    record { at = w .0; low = w .1; high = w .2; value = w .3; least = λ h u v. from-below (sliceAt κ q i) lo (hi - lo) h u (omega arith) }
+    record { at = w .0; low = w .1; high = w .2; value = w .3; least = λ h u v. from-below (sliceAt κ q i) lo (hi - lo) h u (reaches lo hi h l v) }
+
+-- a span within one pyramid, and one that goes on into the next
+span-start : (κ : ℕ → ℕ → ℕ) (q : List ℤ) (i h h′ : ℕ) → Real (length q) i h → h ≤ h′ → h′ ≤ 1000 → SpanLeast κ q i h i h′ (leastIn κ q i h h′)
+span-start κ q i h h′ p l k =
+    let m = least-over κ q i h h′ l in
+    span-one κ q i h h′ (leastIn κ q i h h′) m (real-up (length q) i h (m .at) p (m .low) (le-trans (m .high) k))
+
+span-next : (κ : ℕ → ℕ → ℕ) (q : List ℤ) (i h k h′ A : ℕ) → SpanLeast κ q i h k 1000 A → i ≤ k → suc k < length q + length q → h′ ≤ 1000 → lowestOf (length q) (suc k) ≤ h′
+    → SpanLeast κ q i h (suc k) h′ (min A (leastIn κ q (suc k) (lowestOf (length q) (suc k)) h′))
+span-next κ q i h k h′ A b l t u lo =
+    let m = least-over κ q (suc k) (lowestOf (length q) (suc k)) h′ lo in
+    span-more κ q i h k A (lowestOf (length q) (suc k)) h′ (leastIn κ q (suc k) (lowestOf (length q) (suc k)) h′) b l (λ c x. lowest-from (length q) (suc k) c x) m
+    (real-at (length q) (suc k) (m .at) t (m .low) (le-trans (m .high) u))
+
+span-step : (κ : ℕ → ℕ → ℕ) (q : List ℤ) (i h n h′ : ℕ) → i + suc n < length q + length q → h′ ≤ 1000 → (suc n ≢ 0 → lowestOf (length q) (i + suc n) ≤ h′)
+    → SpanLeast κ q i h (i + n) 1000 (boundTo κ q i h n 1000) → SpanLeast κ q i h (i + suc n) h′ (boundTo κ q i h (suc n) h′)
+unfolding boundTo
+span-step κ q i h n h′ l k s b =
+    rw (one-on i n)
+    (span-next κ q i h (i + n) h′ (boundTo κ q i h n 1000) b (no-less i n) (rw (one-on i n) at l) k (rw (one-on i n) at (s (suc-some n))))
 
 -- the function's value over each span that it goes through
 span-to : (κ : ℕ → ℕ → ℕ) (q : List ℤ) (i h n h′ : ℕ) → Real (length q) i h → i + n < length q + length q → h′ ≤ 1000
     → (n ≡ 0 → h ≤ h′) → (n ≢ 0 → lowestOf (length q) (i + n) ≤ h′) → SpanLeast κ q i h (i + n) h′ (boundTo κ q i h n h′)
 unfolding boundTo
-span-to κ q i h zero h′ p l k z s =
-    let m = least-over κ q i h h′ (z refl) in
-    let e : i + 0 ≡ i = omega arith in
-    rw e (span-one κ q i h h′ (leastIn κ q i h h′) m (real-up (length q) i h (m .at) p (m .low) (omega (arith, m .high))))
+span-to κ q i h zero h′ p l k z s = rw (nothing-on i) (span-start κ q i h h′ p (z refl) k)
 span-to κ q i h (suc n) h′ p l k z s =
-    let e : i + suc n ≡ suc (i + n) = omega arith in
-    let lo : lowestOf (length q) (suc (i + n)) ≤ h′ = rw e at (s (omega arith)) in
-    let m = least-over κ q (suc (i + n)) (lowestOf (length q) (suc (i + n))) h′ lo in
-    let below = span-to κ q i h n 1000 p (omega arith) (omega arith) (λ u. p .height) (λ u. omega (arith, lowest-le-one (length q) (i + n))) in
-    rw e
-    (span-more κ q i h (i + n) (boundTo κ q i h n 1000) (lowestOf (length q) (suc (i + n))) h′ (leastIn κ q (suc (i + n)) (lowestOf (length q) (suc (i + n))) h′) below (omega arith)
-    (λ b x. lowest-from (length q) (suc (i + n)) b x)
-    m
-    (real-at (length q) (suc (i + n)) (m .at) (omega arith) (m .low) (omega (arith, m .high))))
+    span-step κ q i h n h′ l k s (span-to κ q i h n 1000 p (one-back i n (length q) l) (le-refl 1000) (λ u. p .height) (λ u. lowest-low (length q) (i + n)))
 
 in-order : (i h i′ h′ : ℕ) → PairLe i h i′ h′ → i ≤ i′
 in-order i h i′ h′ (inl l) = omega arith

@@ -21,11 +21,21 @@ use Rattle.pagestore.specs.Bytes.{byteAt, leAt, leBytes, put}
 use Rattle.pagestore.specs.ByteLaws.{length-le, length-put, put-next, put-front}
 use Rattle.pagestore.specs.Layout.{keyAt, keyBytes, entryAt, entryBytes, recordAt, coordBytes, recordBytes, leafOf, innerOf, itemBytes, leafBytes, innerBytes, freedBytes}
 use Rattle.pagestore.specs.LayoutLaws.{length-key, length-coords, noRecord, noEntry}
-use Rattle.pagestore.specs.Store.{pagesIn, inRange, stretch, setStretch, recordsIn, entriesIn, linkAt, setLink, setLeaf, fieldAt, setField, size, features, root, freed, fresh, pageTaken, takePage, freePage, clearHeader, setFields, newIndex}
+use Rattle.pagestore.specs.Store.{pagesIn, inRange, stretch, setStretch, recordsIn, entriesIn, setLeaf, setField, size, features, root, fresh, clearHeader, setFields, newIndex}
 use Rattle.pagestore.specs.Store.RangeLaws.{range-whole}
 use Rattle.pagestore.specs.Store.StretchLaws.{stretch-in, set-in, set-out, clear-long}
 
 -- ---- what the readers return
+
+pub key-is : (s : List ℕ) (at p h n : ℕ) → p ≡ byteAt s (at + 6) → h ≡ leAt 2 s (at + 4) → n ≡ leAt 4 s at
+    → _≡_ {A = Key} (record { pyramid = record { 0 = p }; height = record { 0 = h }; id = n }) (keyAt s at)
+unfolding keyAt
+key-is s at p h n a b c = rw (a, b, c)
+
+pub entry-is : (s : List ℕ) (at n : ℕ) (f l : Key) → n ≡ leAt 4 s at → f ≡ keyAt s (at + 4) → l ≡ keyAt s (at + 12)
+    → _≡_ {A = Entry} (record { child = n; first = f; last = l }) (entryAt s at)
+unfolding entryAt
+entry-is s at n f l a b c = rw (a, b, c)
 
 pub record-is : (s : List ℕ) (at n : ℕ) (cs : List ℕ) → n ≡ leAt 4 s at → cs ≡ run 16 (λ m. leAt 2 s (at + 4 + 2 * m)) → _≡_ {A = Record} (record { id = n; coords = cs }) (recordAt s at)
 unfolding recordAt
@@ -34,11 +44,6 @@ record-is s at n cs p q = rw (p, q)
 pub leaf-is : (s : List ℕ) (n : ℕ) (rs : List Record) → n ≡ byteAt s 1 → rs ≡ run 16 (λ i. recordAt s (4 + 44 * i)) → _≡_ {A = Leaf} (record { count = n; records = rs }) (leafOf s)
 unfolding leafOf
 leaf-is s n rs p q = rw (p, q)
-
-pub inner-is : (s : List ℕ) (v n : ℕ) (es : List Entry) → v ≡ byteAt s 0 → n ≡ byteAt s 1 → es ≡ run 16 (λ i. entryAt s (4 + 20 * i))
-    → _≡_ {A = Inner} (record { level = v; count = n; entries = es }) (innerOf s)
-unfolding innerOf
-inner-is s v n es o p q = rw (o, p, q)
 
 -- one item of a page
 pub record-read : (s : List ℕ) (i : ℕ) → i < 16 → recordAt s (4 + 44 * i) ≡ getD (leafOf s .records) i noRecord
@@ -201,7 +206,7 @@ pub put-one : (s : List ℕ) (at v : ℕ) → v < 256 → put s at (leBytes 1 v)
 unfolding leBytes
 put-one s at v h = let e : v % 256 ≡ v = omega arith in rw e
 
--- ---- free pages
+-- ---- a freed page
 
 pub freed-put : (p s t u : List ℕ) (n : ℕ) → length p ≡ 1024 → s ≡ put p 0 (leBytes 4 0) → t ≡ put s 4 (leBytes 4 n)
     → u ≡ replicate (length (take (length t - 8) (drop 8 t))) 0 → putMid 8 (length t - 8) t u ≡ freedBytes n
@@ -211,37 +216,6 @@ freed-put p s t u n h e f g =
     let l : length t ≡ 1024 = ap length f ∙ length-put s 4 (leBytes 4 n) ∙ ap length e ∙ length-put p 0 (leBytes 4 0) ∙ h in
     let d : t ≡ put p 0 (leBytes 4 0 ++ leBytes 4 n) = behind p s t 0 (leBytes 4 0) 4 (leBytes 4 n) e f refl in
     page-put t u vs 8 l (omega arith) (rw d (put-front p vs 8 refl (omega arith))) g
-
-module _ (b : List ℕ) where
-  -- the page freed last is taken, or one never used, or none
-  pub take-freed : (f n : ℕ) (c : List ℕ) → f ≡ fieldAt freed b → inRange b f ≡ true → n ≡ linkAt b f → c ≡ setField freed b n
-      → (f ≡ pageTaken b) × (c ≡ takePage b)
-  unfolding pageTaken takePage
-  take-freed f n c p h l e = let g : inRange b (fieldAt freed b) ≡ true = rw p at h in (rw g p, rw g (e ∙ ap (setField freed b) (l ∙ ap (linkAt b) p)))
-
-  pub take-fresh : (f g : ℕ) (c : List ℕ) → f ≡ fieldAt freed b → inRange b f ≡ false → g ≡ fieldAt fresh b → inRange b g ≡ true
-      → c ≡ setField fresh b (g + 1) → (g ≡ pageTaken b) × (c ≡ takePage b)
-  unfolding pageTaken takePage
-  take-fresh f g c p h q k e =
-      let u : inRange b (fieldAt freed b) ≡ false = rw p at h in
-      let v : inRange b (fieldAt fresh b) ≡ true = rw q at k in
-      (rw (u, v) q, rw (u, v) (e ∙ ap (λ (x : ℕ). setField fresh b (x + 1)) q))
-
-  pub take-none : (f g : ℕ) → f ≡ fieldAt freed b → inRange b f ≡ false → g ≡ fieldAt fresh b → inRange b g ≡ false
-      → (0 ≡ pageTaken b) × (b ≡ takePage b)
-  unfolding pageTaken takePage
-  take-none f g p h q k =
-      let u : inRange b (fieldAt freed b) ≡ false = rw p at h in
-      let v : inRange b (fieldAt fresh b) ≡ false = rw q at k in
-      (rw (u, v), rw (u, v))
-
-  pub free-step : (p f : ℕ) (c d : List ℕ) → inRange b p ≡ true → f ≡ fieldAt freed b → c ≡ setLink b p f → d ≡ setField freed c p → d ≡ freePage b p
-  unfolding freePage
-  free-step p f c d h e g k = rw h (k ∙ ap (λ (x : List ℕ). setField freed x p) (g ∙ ap (setLink b p) e))
-
-  pub free-none : (p : ℕ) → inRange b p ≡ false → b ≡ freePage b p
-  unfolding freePage
-  free-none p h = rw h
 
 -- ---- a new index
 

@@ -3,22 +3,23 @@
 use geometry::Key;
 
 mod counting;
-mod free;
 mod header;
 mod items;
+mod links;
+mod making;
 mod numbers;
 mod pages;
 mod shift;
 
 // One page, handed over as a part of the index.
 pub use pages::read_count;
-pub use pages::read_inner;
 pub use pages::read_leaf;
 pub use pages::read_record;
 pub use pages::write_inner;
 pub use pages::write_leaf;
 
 // Pages by number.
+pub use links::set_link;
 pub use pages::count_at;
 pub use pages::entry_at;
 pub use pages::ident_at;
@@ -48,17 +49,12 @@ pub use header::set_root_page;
 pub use header::set_total_records;
 pub use header::total_records;
 
-// Free pages, and a new index.
+// How many pages are free, and a new index.
 pub use counting::free_count;
-pub use free::free_page;
-pub use free::make;
-pub use free::take_page;
+pub use making::make;
 
-// Items put in and taken out, in a page held by value.
-pub use shift::insert_entry;
+// A record put into a leaf held by value.
 pub use shift::insert_record;
-pub use shift::remove_entry;
-pub use shift::remove_record;
 
 // A record as it is stored: its identifier, and 16 coordinate slots, each a coordinate with 1,000 added.
 pub struct Record {

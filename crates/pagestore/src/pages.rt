@@ -4,7 +4,7 @@ ghost use mathlib.Core.List.{[], _∷_};
 ghost use Prim.Native.Nat.{_<_, _≤_, min};
 ghost use lib.ListN.{length, getD};
 ghost use Rattle.pagestore.specs.Bytes.{byteAt, put};
-ghost use Rattle.pagestore.specs.Layout.{recordAt, entryAt, leafOf, innerOf, leafBytes, innerBytes};
+ghost use Rattle.pagestore.specs.Layout.{recordAt, entryAt, leafOf, leafBytes, innerBytes};
 ghost use Rattle.pagestore.specs.LayoutLaws.{noRecord, noEntry};
 ghost use Rattle.pagestore.specs.Store.{pagesIn, inRange, stretch, leafAt, innerAt, levelAt, countAt, linkAt, recordsIn, entriesIn, setLeaf, setInner};
 use crate::Entry;
@@ -63,26 +63,6 @@ pub fn read_leaf(page: &[u8]) -> Leaf
     Leaf {
         count: count,
         records: records,
-    }
-}
-
-// Reads an inner page from its part of the index.
-pub fn read_inner(page: &[u8]) -> Inner
-    requires { ⌜ length (now page) ≡ 1024 ⌝ }
-    ensures { λ r. ⌜ r ≡ innerOf (now (page .entry)) ⌝ }
-{
-    let level = get_u8(page, 0);
-    let count = get_u8(page, 1) as usize;
-    let mut entries = [no_entry(); 16];
-    let mut i = 0;
-    while i < 16 {
-        entries[i] = get_entry(page, 4 + 20 * i);
-        i += 1;
-    }
-    Inner {
-        level: level,
-        count: count,
-        entries: entries,
     }
 }
 

@@ -2,6 +2,7 @@
 //
 // The sound index: 8 pages, one feature. Pages 1 and 2 are leaves of the points 1 .. 8 and 9 .. 16, page 3 is the root over them, page 4 is freed, and
 // pages 5 to 7 were never used.
+use free_pages::free_page;
 use geometry::Height;
 use geometry::Key;
 use geometry::Pyramid;
@@ -10,7 +11,6 @@ use pagestore::Entry;
 use pagestore::Inner;
 use pagestore::Leaf;
 use pagestore::Record;
-use pagestore::free_page;
 use pagestore::make;
 use pagestore::set_features;
 use pagestore::set_freed_head;

@@ -26,14 +26,14 @@ use Rattle.faults.specs.Assembled.{reached-page, mult-none, live-idents, live-c
 use Rattle.faults.specs.Repeated.{repeated-fails}
 use Rattle.repeats.specs.Repeats.{lowestRepeat, Repeated}
 use Rattle.repeats.proofs.RepeatsLaws.{lowest-repeat}
-use Rattle.soundness.specs.Judged.{Found, nowhere, at}
-use Rattle.soundness.specs.Marks.{Marked, markedTo}
+use Rattle.sound_pages.specs.Judged.{Found, nowhere, at}
+use Rattle.sound_pages.specs.Marks.{Marked, markedTo}
 use Rattle.soundness.specs.Collect.{identOn, holderOf, pairsOn, pairsIf, pairsTo, Joined, Collected}
 use Rattle.soundness.specs.Outcome.{Counted}
-use Rattle.soundness.proofs.JudgeLaws.{take-more}
-use Rattle.soundness.proofs.ViewLaws.{leaf-is}
-use Rattle.soundness.proofs.EntryLaws.{inner-points}
-use Rattle.soundness.proofs.FinishLaws.{marked-yes, marked-no, marked-none, marked-followed}
+use Rattle.sound_pages.proofs.JudgeLaws.{take-more}
+use Rattle.sound_pages.proofs.ViewLaws.{leaf-is}
+use Rattle.sound_pages.proofs.EntryLaws.{inner-points}
+use Rattle.sound_pages.proofs.TurnLaws.{marked-yes, marked-no, marked-none, marked-followed}
 
 -- ---- ONE LEAF
 

@@ -1,10 +1,3 @@
-pub mod JudgeLaws
-pub mod KeyLaws
-pub mod ViewLaws
-pub mod MarkLaws
-pub mod WalkLaws
-pub mod EntryLaws
 pub mod FinishLaws
-pub mod PageLaws
 pub mod CollectLaws
 pub mod VerdictLaws

@@ -15,7 +15,7 @@ use Rattle.trees.specs.Sound.{Permitted, SoundIndex}
 use Rattle.faults.specs.Faults.{FailsAt}
 use Rattle.faults.specs.Stored.{view-stored}
 use Rattle.faults.specs.Assembled.{linked-sound}
-use Rattle.soundness.specs.Judged.{Found, nowhere, at}
+use Rattle.sound_pages.specs.Judged.{Found, nowhere, at}
 use Rattle.soundness.specs.Outcome.{Counted, Outcome, Verdict}
 use Rattle.soundness.specs.declared.Checked.{Checked}
 

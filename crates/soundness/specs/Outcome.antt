@@ -8,7 +8,7 @@ use Rattle.trees.specs.Sound.{Permitted, SoundIndex}
 use Rattle.trees.specs.Trees.{live}
 use Rattle.faults.specs.Faults.{IsPage, RootFill, Reached, FailsAt}
 use Rattle.faults.specs.Linked.{HeaderFine, Linked, PageFine, InState}
-use Rattle.soundness.specs.Marks.{Marked, MarksAre, FreedOk}
+use Rattle.sound_pages.specs.Marks.{Marked, MarksAre, FreedOk}
 use Rattle.soundness.specs.declared.Checked.{Checked}
 
 -- the header, the freed pages and the root have no fault

@@ -7,17 +7,17 @@ ghost use Rattle.lists.specs.Counts.{mult};
 ghost use Rattle.pagestore.specs.Store.{viewOf, leafAt, recordsIn};
 ghost use Rattle.trees.specs.Trees.{identOf, live};
 ghost use Rattle.faults.specs.Faults.{FailsAt};
-ghost use Rattle.soundness.specs.Judged.{Found};
-ghost use Rattle.soundness.specs.Marks.{MarksAre};
+ghost use Rattle.sound_pages.specs.Judged.{Found};
+ghost use Rattle.sound_pages.specs.Marks.{MarksAre};
 ghost use Rattle.soundness.specs.Outcome.{Counted};
 ghost use Rattle.soundness.specs.Collect.{identOn, holderOf, pairsIf, pairsTo, Joined, Collected};
-use crate::keys::item_count;
-use crate::links::place;
 use pagestore::ident_at;
 use pagestore::level_at;
 use pagestore::page_count;
 use pagestore::total_records;
 use repeats::lowest_repeat_of;
+use sound_pages::item_count;
+use sound_pages::place;
 
 // A page number as it is kept beside an identifier.
 fn narrow(page: u32) -> u16

@@ -8,26 +8,23 @@ ghost use lib.Dec.{eqb};
 ghost use lib.ListN.{length};
 ghost use Rattle.lists.specs.Basics.{pick};
 ghost use Rattle.pagestore.specs.Store.{viewOf};
-ghost use Rattle.soundness.specs.Marks.{Clear};
+ghost use Rattle.sound_pages.specs.Marks.{Clear};
 ghost use Rattle.soundness.specs.Outcome.{Start, Outcome, Verdict, Zeros};
 use ids::find_repeat;
-use links::header_fine;
-use links::place;
-use links::reach;
-use links::root_filled;
-use links::walk_freed;
-use pages::count_points;
-use pages::find_lost;
-use pages::judge_pages;
 use pagestore::features_of;
 use pagestore::root_level;
 use pagestore::root_page;
 use pagestore::total_records;
+use sound_pages::count_points;
+use sound_pages::find_lost;
+use sound_pages::header_fine;
+use sound_pages::judge_pages;
+use sound_pages::place;
+use sound_pages::reach;
+use sound_pages::root_filled;
+use sound_pages::walk_freed;
 
 mod ids;
-mod keys;
-mod links;
-mod pages;
 
 // The answer: code 0, or 2 with a page at which soundness fails.
 pub struct Checked {

@@ -8,8 +8,8 @@ pub fn move_leaf(index: &mut [u8], page: u32) -> u32
     ensures { λ r. ⌜ (r ≡ pageTaken (now (index .entry))) × (now (index .exit) ≡ movedTo (now (index .entry)) page) ⌝ }
 {
     let leaf = pagestore::leaf_at(index, page);
-    let new = pagestore::take_page(index);
+    let new = free_pages::take_page(index);
     pagestore::set_leaf(index, new, leaf);
-    pagestore::free_page(index, page);
+    free_pages::free_page(index, page);
     new
 }

@@ -20,7 +20,7 @@ use Rattle.pagestore.specs.Store.{features, root, level, leafAt, innerAt, recor
 use Rattle.trees.specs.Trees.{rankOf}
 use Rattle.tree.specs.Entries.{choose, childAt}
 use Rattle.tree.specs.Keyed.{leafFor, same, samePoint, heldAmong, holdsAt}
-use Rattle.tree.specs.CodeTerms.{otherIdent}
+use Rattle.tree_parts.specs.CodeTerms.{otherIdent}
 
 -- ---- the leaf
 

@@ -1,7 +1,1 @@
-pub mod HeldLaws
-pub mod EntryLaws
-pub mod InsertionLaws
-pub mod RootLaws
-pub mod DeletionLaws
-pub mod LookupLaws
 pub mod KeyedLaws

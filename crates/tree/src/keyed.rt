@@ -2,11 +2,6 @@
 ghost use mathlib.Core.Path.{_≡_};
 ghost use Rattle.pagestore.specs.Store.{recordsIn};
 ghost use Rattle.tree.specs.Keyed.{leafFor, samePoint, heldAmong, holdsAt};
-use crate::entries::child_at;
-use crate::entries::choose_child;
-use crate::keys::filled;
-use crate::keys::record_rank;
-use crate::lookup::place_of_ident;
 use pagestore::Leaf;
 use pagestore::Record;
 use pagestore::features_of;
@@ -14,6 +9,11 @@ use pagestore::inner_at;
 use pagestore::leaf_at;
 use pagestore::root_level;
 use pagestore::root_page;
+use tree_parts::child_at;
+use tree_parts::choose_child;
+use tree_parts::filled;
+use tree_parts::place_of_ident;
+use tree_parts::record_rank;
 
 // The leaf to which a rank leads from a page; the level falls at each call.
 fn leaf_for(index: &[u8], page: u32, level: u8, rank: u64) -> u32

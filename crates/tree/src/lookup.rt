@@ -1,12 +1,9 @@
 // Lookup: the record of an identifier, and the number of leaves.
 ghost use mathlib.Core.Path.{_≡_};
-ghost use Prim.Native.Nat.{_%_, _^_, _<_, _≤_};
+ghost use Prim.Native.Nat.{_%_, _^_, _<_};
 ghost use Rattle.lists.specs.Ascending.{headOr};
-ghost use Rattle.lists.specs.Leading.{leading};
 ghost use Rattle.pagestore.specs.Store.{recordsIn};
-ghost use Rattle.tree.specs.Lookup.{blank, withIdent, findUnder, findIn, leafCount};
-ghost use Rattle.tree.specs.CodeTerms.{otherIdent};
-use crate::keys::filled;
+ghost use Rattle.tree_parts.specs.Lookup.{blank, withIdent, findUnder, findIn, leafCount};
 use pagestore::Leaf;
 use pagestore::Record;
 use pagestore::count_at;
@@ -15,22 +12,8 @@ use pagestore::leaf_at;
 use pagestore::root_level;
 use pagestore::root_page;
 use std::num::wrapping_add_u32;
-
-// How many records of a leaf stand before the one of an identifier.
-pub fn place_of_ident(leaf: Leaf, id: u32) -> usize
-    ensures { λ r. ⌜ (r ≡ leading (otherIdent id) (recordsIn leaf)) × (r ≤ 16) × (r ≤ leaf .count) ⌝ }
-{
-    let n = filled(leaf.count);
-    let mut i = 0;
-    while i < n {
-        let x = leaf.records[i];
-        if x.id == id {
-            return i;
-        }
-        i += 1;
-    }
-    i
-}
+use tree_parts::filled;
+use tree_parts::place_of_ident;
 
 // In the place of a record, where there is none.
 fn blank_record() -> Record

@@ -1,12 +1,12 @@
 use mathlib.Core.Path.{sym, subst}
 use Prim.Native.Nat.{ℕ, _-_}
 use native.Mathlib.Omega.{arith}
-use Rattle.soundness.proofs.JudgeLaws.{passes, faults}
+use Rattle.sound_pages.proofs.JudgeLaws.{passes, faults}
 use borrow.Author.Tests.{not-true, not-false}
 use Rattle.pagestore.specs.Store.{viewOf, pageAt}
 use Rattle.faults.specs.Faults.{FailsAt}
 use Rattle.faults.specs.Assembled.{rooted}
-use Rattle.soundness.specs.Marks.{Marked}
+use Rattle.sound_pages.specs.Marks.{Marked}
 use Rattle.soundness.proofs.FinishLaws.{root-freed, rooted-of, start-of}
 use Rattle.soundness.specs.Outcome.{Outcome}
 use Rattle.faults.specs.Faults.{RootFill}

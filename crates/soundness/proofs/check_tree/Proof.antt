@@ -1,7 +1,7 @@
 use mathlib.Core.Path.{_∙_}
 use Prim.Native.Nat.{_-_}
 use native.Mathlib.Omega.{arith}
-use Rattle.soundness.proofs.JudgeLaws.{found-at, found-nowhere}
+use Rattle.sound_pages.proofs.JudgeLaws.{found-at, found-nowhere}
 use Rattle.pagestore.specs.Store.{viewOf}
 use Rattle.soundness.proofs.FinishLaws.{ready-root, grown-marks, tree-total, tree-most, tree-done}
 use Rattle.soundness.specs.Outcome.{Outcome}

@@ -1,4 +1,4 @@
-use Rattle.pagestore.specs.Layout.{entryAt}
+use Rattle.pagestore.proofs.CodeLaws.{entry-is}
 use borrow.Author.Needs.{needs}
 use Rattle.pagestore.proofs.items.get_entry.Statement.{statement}
 use Rattle.pagestore.proofs.items.get_entry.Tie as tie
@@ -19,8 +19,7 @@ get-key-requires-2 : tie.Need-get-key-requires-2
 get-key-requires-2 c κs = search needs
 
 returns : tie.Need-returns
-unfolding entryAt
-returns c = cc
+returns c = search (entry-is, needs)
 
 pub get-entry-spec : {M : Type 1} → statement M
 get-entry-spec =

@@ -1,4 +1,4 @@
-use Rattle.pagestore.specs.Layout.{keyAt}
+use Rattle.pagestore.proofs.CodeLaws.{key-is}
 use borrow.Author.Needs.{needs}
 use Rattle.pagestore.proofs.items.get_key.Statement.{statement}
 use Rattle.pagestore.proofs.items.get_key.Tie as tie
@@ -19,8 +19,7 @@ get-u32-requires : tie.Need-get-u32-requires
 get-u32-requires c κs = search needs
 
 returns : tie.Need-returns
-unfolding keyAt
-returns c = cc
+returns c = search (key-is, needs)
 
 pub get-key-spec : {M : Type 1} → statement M
 get-key-spec =

@@ -3,8 +3,8 @@ use Prim.Native.Nat.{_-_}
 use native.Mathlib.Omega.{arith}
 use borrow.Author.Needs.{needs}
 use Rattle.pagestore.specs.Store.{viewOf}
-use Rattle.soundness.specs.Marks.{Marked}
-use Rattle.soundness.proofs.EntryLaws.{leaf-few}
+use Rattle.sound_pages.specs.Marks.{Marked}
+use Rattle.sound_pages.proofs.EntryLaws.{leaf-few}
 use Rattle.soundness.proofs.CollectLaws.{joined-none, if-no, inner-pairs, leaf-count, leaf-joined}
 use Rattle.soundness.specs.Collect.{pairsIf}
 use Rattle.pagestore.specs.Store.{levelAt, leafAt}

@@ -12,8 +12,8 @@ use Rattle.tree.proofs.keyed.leaf_for.Reads as leaf-for
 use Rattle.tree.proofs.keyed.leaf_for.Kinds as leaf-for-kinds
 use Rattle.tree.proofs.keyed.+leaf_for.Lts-leaf_for as leaf-for-lts
 use Rattle.pagestore.proofs.inner_at.Reads as inner-at-reads
-use Rattle.tree.proofs.entries.child_at.Reads as child-at-reads
-use Rattle.tree.proofs.entries.choose_child.Reads as choose-child-reads
+use Rattle.tree_parts.proofs.child_at.Reads as child-at-reads
+use Rattle.tree_parts.proofs.choose_child.Reads as choose-child-reads
 use Rattle.tree.proofs.keyed.+leaf_for.{statement}
 use Rattle.tree.proofs.keyed.+leaf_for.Tie.{close}
 

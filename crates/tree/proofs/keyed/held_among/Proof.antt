@@ -1,15 +1,15 @@
 use mathlib.Core.Path.{_≡_}
 use native.Mathlib.Omega.{arith}
 use lib.ListN.{length}
-use Rattle.tree.proofs.HeldLaws.{unmapped}
+use Rattle.tree_parts.proofs.HeldLaws.{unmapped}
 use Rattle.tree.proofs.KeyedLaws.{among-here, among-none}
 use borrow.Author.Needs.{needs}
 use Rattle.tree.proofs.keyed.held_among.Statement.{statement}
 use Rattle.tree.proofs.keyed.held_among.Tie as tie
 use Rattle.tree.proofs.keyed.held_among.Reads as reads
 use Rattle.tree.proofs.keyed.held_among.Lts as lts
-use Rattle.tree.proofs.keys.filled.Reads as filled-reads
-use Rattle.tree.proofs.lookup.place_of_ident.Reads as place-of-ident-reads
+use Rattle.tree_parts.proofs.filled.Reads as filled-reads
+use Rattle.tree_parts.proofs.place_of_ident.Reads as place-of-ident-reads
 use Rattle.tree.proofs.keyed.same_point.Reads as same-point-reads
 
 filled-requires : tie.Need-filled-requires

@@ -4,9 +4,9 @@ use native.Mathlib.Nat.{pos-of-ne-zero}
 use native.Mathlib.Omega.{arith}
 use lib.ListN.{length, take, length-take}
 use denote.Ref.{now}
-use Rattle.tree.proofs.HeldLaws.{unmapped}
-use Rattle.tree.proofs.EntryLaws.{length-filled}
-use Rattle.tree.proofs.LookupLaws.{Seeks, seeks-start, seeks-found, seeks-next, seeks-end, find-leaf}
+use Rattle.tree_parts.proofs.HeldLaws.{unmapped}
+use Rattle.tree_parts.proofs.EntryLaws.{length-filled}
+use Rattle.tree_parts.proofs.LookupLaws.{Seeks, seeks-start, seeks-found, seeks-next, seeks-end, find-leaf}
 use borrow.Author.Needs.{needs}
 use borrow.Fn.Kinds.{In}
 use borrow.Fn.PlainCycle.{Measures, is, falls, and}
@@ -15,7 +15,7 @@ use Rattle.tree.proofs.lookup.find_under.Kinds as find-under-kinds
 use Rattle.tree.proofs.lookup.+find_under.Lts-find_under as find-under-lts
 use Rattle.pagestore.proofs.inner_at.Reads as inner-at-reads
 use Rattle.pagestore.proofs.leaf_at.Reads as leaf-at-reads
-use Rattle.tree.proofs.keys.filled.Reads as filled-reads
+use Rattle.tree_parts.proofs.filled.Reads as filled-reads
 use Rattle.tree.proofs.lookup.blank_record.Reads as blank-record-reads
 use Rattle.tree.proofs.lookup.find_in_leaf.Reads as find-in-leaf-reads
 use Rattle.tree.proofs.lookup.+find_under.{statement}

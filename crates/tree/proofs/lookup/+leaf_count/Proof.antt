@@ -4,9 +4,9 @@ use native.Mathlib.Nat.{pos-of-ne-zero}
 use native.Mathlib.Omega.{arith}
 use lib.ListN.{length, take, length-take}
 use denote.Ref.{now}
-use Rattle.tree.proofs.HeldLaws.{unmapped}
-use Rattle.tree.proofs.EntryLaws.{length-filled}
-use Rattle.tree.proofs.LookupLaws.{Counts, counts-start, counts-next, counts-end, count-leaf}
+use Rattle.tree_parts.proofs.HeldLaws.{unmapped}
+use Rattle.tree_parts.proofs.EntryLaws.{length-filled}
+use Rattle.tree_parts.proofs.LookupLaws.{Counts, counts-start, counts-next, counts-end, count-leaf}
 use borrow.Author.Needs.{needs}
 use borrow.Fn.Kinds.{In}
 use borrow.Fn.PlainCycle.{Measures, is, falls, and}
@@ -15,7 +15,7 @@ use Rattle.tree.proofs.lookup.leaf_count.Kinds as leaf-count-kinds
 use Rattle.tree.proofs.lookup.+leaf_count.Lts-leaf_count as leaf-count-lts
 use Rattle.pagestore.proofs.inner_at.Reads as inner-at-reads
 use Rattle.std.proofs.num.wrapping_add_u32.Reads as wrapping-add-u32-reads
-use Rattle.tree.proofs.keys.filled.Reads as filled-reads
+use Rattle.tree_parts.proofs.filled.Reads as filled-reads
 use Rattle.tree.proofs.lookup.+leaf_count.{statement}
 use Rattle.tree.proofs.lookup.+leaf_count.Tie.{close}
 

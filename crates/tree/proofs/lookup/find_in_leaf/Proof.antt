@@ -4,16 +4,16 @@ use native.Mathlib.Nat.{pos-of-ne-zero}
 use native.Mathlib.Omega.{arith}
 use lib.ListN.{length, take, length-take}
 use denote.Ref.{now}
-use Rattle.tree.proofs.HeldLaws.{unmapped}
-use Rattle.tree.proofs.LookupLaws.{found-is, absent-is}
+use Rattle.tree_parts.proofs.HeldLaws.{unmapped}
+use Rattle.tree_parts.proofs.LookupLaws.{found-is, absent-is}
 use borrow.Author.Needs.{needs}
 use Rattle.tree.proofs.lookup.find_in_leaf.Statement.{statement}
 use Rattle.tree.proofs.lookup.find_in_leaf.Tie as tie
 use Rattle.tree.proofs.lookup.find_in_leaf.Reads as reads
 use Rattle.tree.proofs.lookup.find_in_leaf.Lts as lts
-use Rattle.tree.proofs.keys.filled.Reads as filled-reads
+use Rattle.tree_parts.proofs.filled.Reads as filled-reads
 use Rattle.tree.proofs.lookup.blank_record.Reads as blank-record-reads
-use Rattle.tree.proofs.lookup.place_of_ident.Reads as place-of-ident-reads
+use Rattle.tree_parts.proofs.place_of_ident.Reads as place-of-ident-reads
 
 filled-requires : tie.Need-filled-requires
 filled-requires c κs = search needs

@@ -1,0 +1,176 @@
+-- Steps of the judgement of entries. Assumes nothing.
+use mathlib.Core.Path.{_≡_, refl, sym, ap, _∙_, subst}
+use mathlib.Core.List.{List}
+use Prim.Native.Nat.{ℕ, suc, _+_, _-_, _*_, _≤_, _<_}
+use native.Mathlib.Omega.{arith}
+use lib.Dec.{leb, ltb}
+use lib.ListN.{length, getD, take, set, length-set}
+use borrow.Author.Tests.{leb-true, leb-false, ltb-true, ltb-false}
+use Rattle.lists.specs.Counts.{by-cases}
+use Rattle.lists.specs.Members.{At, same?, spot-below}
+use Rattle.pagestore.specs.declared.Entry.{Entry}
+use Rattle.pagestore.specs.declared.Inner.{Inner}
+use Rattle.pagestore.specs.declared.Leaf.{Leaf}
+use Rattle.pagestore.specs.LayoutLaws.{noEntry}
+use Rattle.pagestore.specs.Store.{Page, leaf, inner, levelOf, fillOf, entriesOf, recordsOf, recordsIn, View, viewOf, pageAt, levelAt, countAt, leafAt, innerAt}
+use Rattle.pagestore.specs.Store.PageLaws.{entries-slots, leaf-counts}
+use Rattle.faults.specs.Faults.{Reached, EntryAt, EntryFault}
+use Rattle.faults.specs.Linked.{EntryFine}
+use Rattle.faults.specs.Assembled.{fill-most}
+use Rattle.faults.specs.Stored.{Counted, view-stored}
+use Rattle.sound_pages.specs.Marks.{Marked, Follows, EndsWrong, Named}
+use Rattle.sound_pages.proofs.JudgeLaws.{take-spot}
+use Rattle.sound_pages.proofs.MarkLaws.{spot-same, set-here, set-keep, set-old}
+use Rattle.sound_pages.proofs.ViewLaws.{inner-is, inner-fill, leaf-is, leaf-fill}
+
+-- ---- ONE ENTRY
+
+-- an entry that is not followed is faulty
+pub not-follows : (v : View) (p i : ℕ) (e : Entry) → EntryAt v p i e → ¬ Follows v (levelOf (v .page p)) (e .child) → EntryFault v p
+not-follows v p i e a n =
+    let k : ℕ = fillOf (v .page (e .child)) in
+    by-cases (ltb 0 (e .child))
+    (λ x. by-cases (ltb (e .child) (v .count))
+    (λ y. same? (suc (levelOf (v .page (e .child)))) (levelOf (v .page p))
+    (λ l. by-cases (leb 8 k)
+    (λ z. by-cases (leb k 16)
+    (λ t. absurd (n (record { range = (ltb-true 0 (e .child) x, ltb-true (e .child) (v .count) y); level = l; fill = (leb-true 8 k z, leb-true k 16 t) })))
+    (λ t. EntryFault.fill a (λ f. omega (arith, f .1, leb-false k 16 t))))
+    (λ z. EntryFault.fill a (λ f. omega (arith, f .0, leb-false 8 k z))))
+    (λ l. EntryFault.level a l))
+    (λ y. EntryFault.range a (λ r. omega (arith, r .1, ltb-false (e .child) (v .count) y))))
+    (λ x. EntryFault.range a (λ r. omega (arith, r .0, ltb-false 0 (e .child) x)))
+
+pub ends-fault : (v : View) (p i : ℕ) (e : Entry) → EntryAt v p i e → EndsWrong (v .d) e (v .page (e .child)) → EntryFault v p
+ends-fault v p i e a (EndsWrong.first n) = EntryFault.first a n
+ends-fault v p i e a (EndsWrong.last n) = EntryFault.last a n
+
+-- the entry that an inner page's slot holds
+pub slot-entry : (b : List ℕ) (p i : ℕ) (x : Inner) → Reached (viewOf b) p → x ≡ innerAt b p → ¬ (levelAt b p ≡ 0) → i < x .count
+    → At (entriesOf (viewOf b .page p)) i (getD (x .entries) i noEntry)
+unfolding viewOf
+slot-entry b p i x r e n h =
+    let len : length (x .entries) ≡ 16 = ap (λ (y : Inner). length (y .entries)) e ∙ entries-slots b p in
+    subst (λ (y : Page). At (entriesOf y) i (getD (x .entries) i noEntry)) (sym (inner-is b p x e n))
+    (take-spot noEntry (x .entries) i (x .count) h (omega (arith, inner-fill b p x e, fill-most r)))
+
+-- their number
+inner-size : (x : Page) → Counted x → fillOf x ≤ 16 → length (entriesOf x) ≤ fillOf x
+inner-size (Page.leaf n rs) c f = omega arith
+inner-size (Page.inner l n es) c f = omega (arith, c f)
+
+-- a followed page has at most as many entries as its count says
+pub entries-most : (b : List ℕ) (p : ℕ) → Reached (viewOf b) p → length (entriesOf (viewOf b .page p)) ≤ fillOf (viewOf b .page p)
+entries-most b p r = inner-size (viewOf b .page p) (view-stored b .items p) (fill-most r)
+
+pub few-entries : (b : List ℕ) (p : ℕ) → Reached (viewOf b) p → length (entriesOf (viewOf b .page p)) ≤ 16
+few-entries b p r = omega (arith, entries-most b p r, fill-most r)
+
+-- ---- THE PLACES OF ENTRIES
+
+module _ (b : List ℕ) where
+  abbrev v : View
+  v = viewOf b
+
+  spot-16 : {p i : ℕ} {e : Entry} → EntryAt v p i e → i < 16
+  spot-16 {p} a = omega (arith, spot-below (a .at), few-entries b p (a .reached))
+
+  place : (p i q j : ℕ) (e f : Entry) → EntryAt v p i e → EntryAt v q j f → 16 * q + j ≡ 16 * p + i → (q ≡ p) × (j ≡ i)
+  place p i q j e f a c h = let x : i < 16 = spot-16 a in let y : j < 16 = spot-16 c in (omega arith, omega arith)
+
+  same-entry : (p i q j : ℕ) (e f : Entry) → EntryAt v p i e → EntryAt v q j f → q ≡ p → j ≡ i → e ≡ f
+  same-entry p i q j e f a c x y =
+      spot-same (a .at) (subst (λ (z : ℕ). At (entriesOf (v .page z)) i f) x (subst (λ (z : ℕ). At (entriesOf (v .page q)) z f) y (c .at)))
+
+  -- a page named before
+  pub named-before : {m : List ℕ} {p i : ℕ} {e : Entry} → Named (viewOf b) m (16 * p + i) → EntryAt (viewOf b) p i e → Marked m (e .child) → EntryFault (viewOf b) p
+  named-before {m} {p} {i} {e} n a h =
+      let x = n .by (e .child) h in
+      EntryFault.named a (x .3) (λ z. absurd (omega (arith, x .5, z .0, z .1))) (sym (x .4))
+
+  -- one entry more
+  pub named-step : {m : List ℕ} {p i : ℕ} {e : Entry} → Named (viewOf b) m (16 * p + i) → EntryAt (viewOf b) p i e → EntryFine (viewOf b) p e → ¬ Marked m (e .child)
+      → Named (viewOf b) (set m (e .child) 1) (16 * p + (i + 1))
+  named-step {m} {p} {i} {e} n a ok new =
+      let c : ℕ = e .child in
+      let l : c < length m = omega (arith, n .size, ok .range .1) in
+      let before : (q j : ℕ) (f : Entry) → EntryAt v q j f → 16 * q + j < 16 * p + (i + 1) → ¬ (16 * q + j ≡ 16 * p + i) → 16 * q + j < 16 * p + i = λ q j f x h d. omega (arith, d) in
+      let is : (q j : ℕ) (f : Entry) → EntryAt v q j f → 16 * q + j ≡ 16 * p + i → e ≡ f =
+      λ q j f x z. let w = place p i q j e f a x z in same-entry p i q j e f a x (w .0) (w .1) in
+      let apart : (q j : ℕ) (f : Entry) → EntryAt v q j f → 16 * q + j < 16 * p + i → f .child ≡ c → ⊥ = λ q j f x h z. new (subst (Marked m) z (n .marked q j f x h)) in
+      record {
+        size = omega (arith, length-set m c 1, n .size);
+        by = λ k h. same? k c (λ z. (p, i, e, a, sym z, omega arith))
+            (λ d. let x = n .by k (set-old m c k d h) in (x .0, x .1, x .2, x .3, x .4, omega (arith, x .5)));
+        fine = λ q j f x h. same? (16 * q + j) (16 * p + i)
+            (λ z. let w = place p i q j e f a x z in subst (λ (g : Entry). EntryFine v q g) (is q j f x z) (subst (λ (r : ℕ). EntryFine v r e) (sym (w .0)) ok))
+            (λ d. n .fine q j f x (before q j f x h d));
+        marked = λ q j f x h. same? (16 * q + j) (16 * p + i)
+            (λ z. subst (λ (g : Entry). Marked (set m c 1) (g .child)) (is q j f x z) (set-here m c l))
+            (λ d. set-keep m c (f .child) l (n .marked q j f x (before q j f x h d)));
+        alone = λ q j q' j' f f' x x' h h' y. same? (16 * q + j) (16 * p + i)
+            (λ z. same? (16 * q' + j') (16 * p + i)
+            (λ z'. let w = place p i q j e f a x z in let w' = place p i q' j' e f' a x' z' in (w .0 ∙ sym (w' .0), w .1 ∙ sym (w' .1)))
+            (λ d'. absurd (apart q' j' f' x' (before q' j' f' x' h' d') (sym y ∙ ap (λ (g : Entry). g .child) (sym (is q j f x z))))))
+            (λ d. same? (16 * q' + j') (16 * p + i)
+            (λ z'. absurd (apart q j f x (before q j f x h d) (y ∙ ap (λ (g : Entry). g .child) (sym (is q' j' f' x' z')))))
+            (λ d'. n .alone q j q' j' f f' x x' (before q j f x h d) (before q' j' f' x' h' d') y));
+      }
+
+  -- no entry between two places
+  named-skip : {m : List ℕ} {k l : ℕ} → k ≤ l → ((q j : ℕ) (f : Entry) → EntryAt v q j f → 16 * q + j < l → 16 * q + j < k) → Named v m k → Named v m l
+  named-skip g low n =
+      record {
+        size = n .size;
+        by = λ c h. let x = n .by c h in (x .0, x .1, x .2, x .3, x .4, omega (arith, x .5));
+        fine = λ q j f x h. n .fine q j f x (low q j f x h);
+        marked = λ q j f x h. n .marked q j f x (low q j f x h);
+        alone = λ q j q' j' f f' x x' h h' y. n .alone q j q' j' f f' x x' (low q j f x h) (low q' j' f' x' h') y;
+      }
+
+  -- the entries of a page are done, or the page is not followed
+  pub named-done : {m : List ℕ} (p i : ℕ) → (Reached (viewOf b) p → length (entriesOf (viewOf b .page p)) ≤ i) → i ≤ 16 → Named (viewOf b) m (16 * p + i) → Named (viewOf b) m (16 * (p + 1))
+  named-done p i most le n =
+      named-skip (omega arith)
+      (λ q j f x h. let y : j < 16 = spot-16 x in
+      same? q p
+      (λ z. let w : j < length (entriesOf (v .page p)) = subst (λ (r : ℕ). j < length (entriesOf (v .page r))) z (spot-below (x .at)) in
+      omega (arith, most (subst (Reached v) z (x .reached))))
+      (λ d. omega (arith, d)))
+      n
+
+  pub named-none : {m : List ℕ} (p : ℕ) → ¬ Reached (viewOf b) p → Named (viewOf b) m (16 * p) → Named (viewOf b) m (16 * (p + 1))
+  named-none {m} p out n =
+      named-done p 0 (λ r. absurd (out r)) (omega arith) (subst (λ (k : ℕ). Named v m k) (let z : 16 * p ≡ 16 * p + 0 = omega arith in z) n)
+
+  pub named-leaf : {m : List ℕ} (p : ℕ) → length (entriesOf (viewOf b .page p)) ≤ 0 → Named (viewOf b) m (16 * p) → Named (viewOf b) m (16 * (p + 1))
+  named-leaf {m} p few n =
+      named-done p 0 (λ r. few) (omega arith) (subst (λ (k : ℕ). Named v m k) (let z : 16 * p ≡ 16 * p + 0 = omega arith in z) n)
+
+-- ---- COUNTS OF FOLLOWED PAGES
+
+pub inner-count : (b : List ℕ) (p : ℕ) (x : Inner) → x ≡ innerAt b p → x .count ≡ fillOf (viewOf b .page p)
+unfolding viewOf
+inner-count b p x e = inner-fill b p x e
+
+pub inner-few : (b : List ℕ) (p : ℕ) (x : Inner) → Reached (viewOf b) p → x ≡ innerAt b p → x .count ≤ 16
+inner-few b p x r e = omega (arith, inner-count b p x e, fill-most r)
+
+pub inner-slots : (b : List ℕ) (p : ℕ) (x : Inner) → x ≡ innerAt b p → length (x .entries) ≡ 16
+inner-slots b p x e = ap (λ (y : Inner). length (y .entries)) e ∙ entries-slots b p
+
+pub leaf-few : (b : List ℕ) (p : ℕ) (x : Leaf) → Reached (viewOf b) p → x ≡ leafAt b p → x .count ≤ 16
+unfolding viewOf
+leaf-few b p x r e = omega (arith, leaf-fill b p x e, fill-most r)
+
+-- an inner page has no records
+pub inner-points : (b : List ℕ) (p : ℕ) → ¬ (levelAt b p ≡ 0) → length (recordsOf (pageAt b p)) ≡ 0
+inner-points b p n = ap (λ (y : Page). length (recordsOf y)) (inner-is b p (innerAt b p) refl n)
+
+-- a followed leaf has as many as its count says
+pub leaf-points : (b : List ℕ) (p : ℕ) → Reached (viewOf b) p → levelAt b p ≡ 0 → countAt b p ≡ length (recordsOf (pageAt b p))
+unfolding viewOf
+leaf-points b p r h =
+    let e : pageAt b p ≡ leaf (leafAt b p .count) (recordsIn (leafAt b p)) = leaf-is b p (leafAt b p) refl h in
+    let c : leafAt b p .count ≤ 16 → length (recordsIn (leafAt b p)) ≡ leafAt b p .count = subst Counted e (view-stored b .items p) in
+    sym (ap (λ (y : Page). length (recordsOf y)) e ∙ c (leaf-few b p (leafAt b p) r refl) ∙ leaf-counts b p)

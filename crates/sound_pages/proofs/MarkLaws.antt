@@ -1,0 +1,116 @@
+-- Steps of the visit of the followed pages. Assumes nothing.
+use mathlib.Core.Path.{_≡_, refl, sym, _∙_, subst}
+use mathlib.Core.List.{List}
+use Prim.Native.Nat.{ℕ, _+_, _-_, _≤_, _<_}
+use native.Mathlib.Omega.{arith}
+use lib.ListN.{length, getD, set, length-set}
+use lib.Seq.{getD-set-same, getD-set-other}
+use Rattle.lists.specs.Members.{At, here, next, same?, spot-below}
+use Rattle.pagestore.specs.declared.Entry.{Entry}
+use Rattle.pagestore.specs.Store.{Page, leaf, inner, levelOf, fillOf, entriesOf, View}
+use Rattle.faults.specs.Faults.{RootFill, Reached}
+use Rattle.faults.specs.Assembled.{reached-page}
+use Rattle.sound_pages.specs.Marks.{Marked, Clear, Follows, Marks, Ready, Grown, Going, MarksAre}
+
+-- a place has one element
+pub spot-same : {A : Type 0} {xs : List A} {i : ℕ} {x y : A} → At xs i x → At xs i y → x ≡ y
+spot-same here here = refl
+spot-same (next a) (next b) = spot-same a b
+
+-- a mark that is set, and the others
+pub set-here : (m : List ℕ) (p : ℕ) → p < length m → Marked (set m p 1) p
+set-here m p l = getD-set-same m p 1 0 l
+
+pub set-keep : (m : List ℕ) (p q : ℕ) → p < length m → Marked m q → Marked (set m p 1) q
+set-keep m p q l h = same? q p (λ e. subst (Marked (set m p 1)) (sym e) (set-here m p l)) (λ n. getD-set-other m p q 1 0 n ∙ h)
+
+pub set-old : (m : List ℕ) (p q : ℕ) → ¬ (q ≡ p) → Marked (set m p 1) q → Marked m q
+set-old m p q n h = sym (getD-set-other m p q 1 0 n) ∙ h
+
+module _ (v : View) where
+  -- ---- the first page
+
+  pub clear-marks : (m : List ℕ) → Clear v m → Marks v m
+  clear-marks m c = record { size = c .size; reached = λ q h. absurd (c .none q h); closed = λ p i e h. absurd (c .none p h) }
+
+  all-marked : (m : List ℕ) → Marks v m → Marked m (v .root) → (q : ℕ) → Reached v q → Marked m q
+  all-marked m s h q (Reached.root g f) = h
+  all-marked m s h q (Reached.entry {p = p} {i = i} {e = e} r a g l f) =
+      s .closed p i e (all-marked m s h p r) a (record { range = g; level = l; fill = f })
+
+  pub marks-are : (m : List ℕ) → Marks v m → Marked m (v .root) → MarksAre v m
+  marks-are m s h = record { size = s .size; reached = s .reached; all = all-marked m s h }
+
+  module _ (page : ℕ) where
+    -- ---- the entries of a page
+
+    pub going-start : (m : List ℕ) → Marks v m → Going v m m page 0
+    going-start m r = record { size = refl; marks = r; keep = λ q h. h; kids = λ j e l. absurd (omega arith) }
+
+    kids-more : (m' m'' : List ℕ) (i : ℕ) (e : Entry) → At (entriesOf (v .page page)) i e → ((q : ℕ) → Marked m' q → Marked m'' q)
+        → ((j : ℕ) (f : Entry) → j < i → At (entriesOf (v .page page)) j f → Follows v (levelOf (v .page page)) (f .child) → Marked m' (f .child))
+        → (Follows v (levelOf (v .page page)) (e .child) → Marked m'' (e .child))
+        → (j : ℕ) (f : Entry) → j < i + 1 → At (entriesOf (v .page page)) j f → Follows v (levelOf (v .page page)) (f .child) → Marked m'' (f .child)
+    kids-more m' m'' i e a keep old new j f l b w =
+        same? j i
+        (λ z. let s : e ≡ f = spot-same a (subst (λ (k : ℕ). At (entriesOf (v .page page)) k f) z b) in
+        subst (λ (x : Entry). Marked m'' (x .child)) s (new (subst (λ (x : Entry). Follows v (levelOf (v .page page)) (x .child)) (sym s) w)))
+        (λ n. keep (f .child) (old j f (omega (arith, n)) b w))
+
+    -- one entry more, which is not followed, or has been
+    pub going-skip : {m m' m₃ : List ℕ} {i : ℕ} (e : Entry) → Going v m m' page i → At (entriesOf (v .page page)) i e → m₃ ≡ m'
+        → ¬ Follows v (levelOf (v .page page)) (e .child) → Going v m m₃ page (i + 1)
+    going-skip {m} {m'} {m₃} {i} e g a z n =
+        subst (λ (x : List ℕ). Going v m x page (i + 1)) (sym z)
+        (record { size = g .size; marks = g .marks; keep = g .keep; kids = kids-more m' m' i e a (λ q h. h) (g .kids) (λ w. absurd (n w)) })
+
+    pub going-grown : {m m' m'' m₃ : List ℕ} {i : ℕ} (e : Entry) → Going v m m' page i → At (entriesOf (v .page page)) i e → m₃ ≡ m''
+        → Grown v m' m'' (e .child) → Going v m m₃ page (i + 1)
+    going-grown {m} {m'} {m''} {m₃} {i} e g a z w =
+        subst (λ (x : List ℕ). Going v m x page (i + 1)) (sym z)
+        (record { size = w .size ∙ g .size; marks = w .marks; keep = λ q h. w .keep q (g .keep q h); kids = kids-more m' m'' i e a (w .keep) (g .kids) (λ f. w .done) })
+
+    pub going-ready : {m m' : List ℕ} {i l : ℕ} (e : Entry) → Going v m m' page i → Reached v page → levelOf (v .page page) ≡ l → At (entriesOf (v .page page)) i e
+        → Follows v l (e .child) → Ready v m' (e .child) (l - 1)
+    going-ready e g r k a f =
+        record { marks = g .marks; reached = Reached.entry r a (f .range) (f .level ∙ sym k) (f .fill); level = omega (arith, f .level) }
+
+    -- all entries
+    pub going-done : {m m' : List ℕ} {i : ℕ} → Going v m m' page i → Reached v page → length (entriesOf (v .page page)) ≤ i → Grown v m (set m' page 1) page
+    going-done {m} {m'} {i} g r n =
+        let l : page < length m' = omega (arith, g .marks .size, reached-page r .1) in
+        record {
+          size = length-set m' page 1 ∙ g .size;
+          marks = record {
+            size = omega (arith, length-set m' page 1, g .marks .size);
+            reached = λ q h. same? q page (λ e. subst (Reached v) (sym e) r) (λ d. g .marks .reached q (set-old m' page q d h));
+            closed = λ p j e h a f. set-keep m' page (e .child) l (same? p page
+                (λ z. let b : At (entriesOf (v .page page)) j e = subst (λ (x : ℕ). At (entriesOf (v .page x)) j e) z a in
+                g .kids j e (omega (arith, spot-below b)) b (subst (λ (x : ℕ). Follows v (levelOf (v .page x)) (e .child)) z f))
+                (λ d. g .marks .closed p j e (set-old m' page p d h) a f));
+          };
+          keep = λ q h. set-keep m' page q l (g .keep q h);
+          done = set-here m' page l;
+        }
+
+-- ---- fills
+
+pub no-entries : (x : Page) → levelOf x ≡ 0 → length (entriesOf x) ≤ 0
+no-entries (leaf n rs) h = omega arith
+no-entries (inner l n es) h = absurd (omega arith)
+
+pub root-fill-leaf : (x : Page) → levelOf x ≡ 0 → fillOf x ≤ 16 → RootFill x
+root-fill-leaf (leaf n rs) h l = l
+root-fill-leaf (inner k n es) h l = absurd (omega arith)
+
+pub root-fill-most : (x : Page) → 16 < fillOf x → ¬ RootFill x
+root-fill-most (leaf n rs) h f = omega (arith, f)
+root-fill-most (inner k n es) h f = omega (arith, f .1)
+
+pub root-fill-inner : (x : Page) → ¬ (levelOf x ≡ 0) → 2 ≤ fillOf x → fillOf x ≤ 16 → RootFill x
+root-fill-inner (leaf n rs) h l m = absurd (h refl)
+root-fill-inner (inner k n es) h l m = (l, m)
+
+pub root-fill-few : (x : Page) → ¬ (levelOf x ≡ 0) → fillOf x < 2 → ¬ RootFill x
+root-fill-few (leaf n rs) h l f = h refl
+root-fill-few (inner k n es) h l f = omega (arith, f .0)

@@ -1,0 +1,43 @@
+use mathlib.Core.Path.{_≡_, refl, sym, ap, _∙_}
+use mathlib.Core.List.{List, [], _∷_, _++_, append-assoc}
+use Prim.Native.Nat.{ℕ, _+_, _-_, _≤_, _<_, min}
+use native.Mathlib.Omega.{arith}
+use lib.ListN.{length, take, drop, length-append, length-take, length-drop}
+use lib.Seq.{slice, take-all}
+use denote.Ref.{now}
+use Rattle.tree_parts.specs.Held.{Held}
+use Rattle.tree_parts.proofs.HeldLaws.{unmapped, held-then, held-is, held-whole}
+use Rattle.tree_parts.proofs.EntryLaws.{length-filled}
+use Rattle.tree_parts.proofs.DeletionLaws.{leave-is}
+use borrow.Author.Needs.{needs}
+use Rattle.tree_delete.proofs.deletion.leave_page.Statement.{statement}
+use Rattle.tree_delete.proofs.deletion.leave_page.Tie as tie
+use Rattle.tree_delete.proofs.deletion.leave_page.Reads as reads
+use Rattle.tree_delete.proofs.deletion.leave_page.Lts as lts
+use Rattle.pagestore.proofs.set_inner.Reads as set-inner-reads
+use Rattle.tree_parts.proofs.inner_entry.Reads as inner-entry-reads
+use Rattle.tree_parts.proofs.filled.Reads as filled-reads
+
+set-inner-requires : tie.Need-set-inner-requires
+set-inner-requires c κs = search needs
+
+inner-entry-requires : tie.Need-inner-entry-requires
+inner-entry-requires c κs = search needs
+
+filled-requires : tie.Need-filled-requires
+filled-requires c κs = search needs
+
+same-length : tie.Need-same-length
+same-length c = search needs
+
+returns : tie.Need-returns
+returns c = let a = c .before .before .before .before .before .before .before .args in
+    let G = c .before .before .before .before .before .before .before .good in
+    let slots : length (a .inner .entries) ≡ 16 = search (unmapped, needs) in
+    leave-is (a .inner .level) (now (a .index)) (a .page) (take (a .inner .count) (a .inner .entries)) (c .before .before .before .before .set-inner .ensures) (c .before .inner-entry .ensures)
+    (sym (length-filled (a .inner .entries) (c .filled .result) (a .inner .count) slots (c .filled .ensures)))
+
+pub leave-page-spec : {M : Type 1} → statement M
+leave-page-spec =
+    tie.close
+    (tie.spec set-inner-requires inner-entry-requires filled-requires same-length returns)

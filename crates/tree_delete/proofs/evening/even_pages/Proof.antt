@@ -1,0 +1,46 @@
+use mathlib.Core.Path.{_≡_, refl, sym, ap, _∙_}
+use mathlib.Core.List.{List, [], _∷_, _++_, append-assoc}
+use Prim.Native.Nat.{ℕ, _+_, _-_, _≤_, _<_, min}
+use native.Mathlib.Omega.{arith}
+use lib.ListN.{length, take, drop, length-append, length-take, length-drop}
+use lib.Seq.{slice, take-all}
+use denote.Ref.{now}
+use Rattle.tree_parts.specs.Held.{Held}
+use Rattle.tree_parts.proofs.HeldLaws.{unmapped, held-then, held-is, held-whole}
+use Rattle.tree_parts.proofs.DeletionLaws.{even-level}
+use borrow.Author.Needs.{needs}
+use Rattle.tree_delete.proofs.evening.even_pages.Statement.{statement}
+use Rattle.tree_delete.proofs.evening.even_pages.Tie as tie
+use Rattle.tree_delete.proofs.evening.even_pages.Reads as reads
+use Rattle.tree_delete.proofs.evening.even_pages.Lts as lts
+use Rattle.tree_delete.proofs.evening.even_inners.Reads as even-inners-reads
+use Rattle.tree_delete.proofs.evening.even_leaves.Reads as even-leaves-reads
+
+even-leaves-requires : tie.Need-even-leaves-requires
+even-leaves-requires c κs = search needs
+
+same-length : tie.Need-same-length
+same-length c = search needs
+
+returns : tie.Need-returns
+returns c = let a = c .before .before .before .before .before .before .args in even-level (a .d) (a .level) (now (a .index)) (a .p) (a .q) (c .before .before .before .before .if1 .taken) (c .before .before .even-leaves .ensures)
+
+even-inners-requires : tie.Need-even-inners-requires
+even-inners-requires c κs = search needs
+
+same-length-2 : tie.Need-same-length-2
+same-length-2 c = search needs
+
+returns-2 : tie.Need-returns-2
+returns-2 c = search needs
+
+pub even-pages-spec : {M : Type 1} → statement M
+even-pages-spec =
+    tie.close
+    (tie.spec
+    even-leaves-requires
+    same-length
+    returns
+    even-inners-requires
+    same-length-2
+    returns-2)

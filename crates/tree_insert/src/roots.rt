@@ -1,0 +1,135 @@
+// Insertion into an index, and the pages that it wants.
+ghost use mathlib.Core.Path.{_≡_};
+ghost use mathlib.Core.List.{[], _∷_};
+ghost use Prim.Native.Nat.{_+_, _%_, _^_, _≤_};
+ghost use lib.Dec.{leb, eqb};
+ghost use Rattle.lists.specs.Basics.{pick, tick};
+ghost use Rattle.pagestore.specs.Store.{countAt};
+ghost use Rattle.tree_parts.specs.Insertion.{growRoot, addToTotal, insertInto, fullRun, pagesWanted};
+ghost use Rattle.tree_parts.specs.CodeTerms.{grownList};
+ghost use Rattle.tree_parts.specs.Held.{Held};
+use crate::insertion::insert_at;
+use free_pages::take_page;
+use pagestore::Entry;
+use pagestore::Inner;
+use pagestore::Record;
+use pagestore::count_at;
+use pagestore::features_of;
+use pagestore::inner_at;
+use pagestore::root_level;
+use pagestore::root_page;
+use pagestore::set_inner;
+use pagestore::set_root_level;
+use pagestore::set_root_page;
+use pagestore::set_total_records;
+use pagestore::total_records;
+use tree_parts::Grown;
+use tree_parts::child_at;
+use tree_parts::choose_child;
+use tree_parts::inner_of;
+use tree_parts::no_entries;
+use tree_parts::push_entry;
+use tree_parts::record_rank;
+
+// One level higher; above the highest that a page can have, 0.
+fn next_level(level: u8) -> u8
+    ensures { λ r. ⌜ r ≡ (level + 1) % 256 ⌝ }
+{
+    if level == 255 { 0 } else { level + 1 }
+}
+
+// An inner page over two children.
+fn over_two(level: u8, e: Entry, f: Entry) -> Inner
+    ensures { λ r. ⌜ (r .level ≡ level) × Held (r .count) (r .entries) (e ∷ f ∷ []) ⌝ }
+{
+    let all = push_entry(push_entry(no_entries(e), e), f);
+    inner_of(all, level, 0, 2)
+}
+
+// A new root above the two pages that the old one has become.
+fn new_root(index: &mut [u8], level: u8, e: Entry, f: Entry)
+    ensures { λ _. ⌜ now (index .exit) ≡ growRoot level (now (index .entry)) (e ∷ f ∷ []) ⌝ }
+{
+    let high = next_level(level);
+    let root = over_two(high, e, f);
+    let page = take_page(index);
+    set_inner(index, page, root);
+    set_root_page(index, page);
+    set_root_level(index, high);
+}
+
+fn grow_root(index: &mut [u8], level: u8, grown: Grown)
+    ensures { λ _. ⌜ now (index .exit) ≡ growRoot level (now (index .entry)) (grownList grown) ⌝ }
+{
+    if let Grown::Two(e, f) = grown {
+        new_root(index, level, e, f);
+    }
+}
+
+fn one_more(n: u32) -> u32
+    ensures { λ r. ⌜ r ≡ (n + 1) % 2 ^ 32 ⌝ }
+{
+    if n == 4294967295 { 0 } else { n + 1 }
+}
+
+fn add_to_total(index: &mut [u8])
+    ensures { λ _. ⌜ now (index .exit) ≡ addToTotal (now (index .entry)) ⌝ }
+{
+    let n = one_more(total_records(index));
+    set_total_records(index, n);
+}
+
+// Inserts a record. It takes the pages that `pages_wanted` says, and they must be there.
+pub fn insert(index: &mut [u8], x: Record)
+    ensures { λ _. ⌜ now (index .exit) ≡ insertInto (now (index .entry)) x ⌝ }
+{
+    let d = features_of(index);
+    let level = root_level(index);
+    let root = root_page(index);
+    let rank = record_rank(x, d);
+    let grown = insert_at(index, root, level, x, rank, d);
+    grow_root(index, level, grown);
+    add_to_total(index);
+}
+
+// 1 if a page is full, else 0.
+fn full_page(index: &[u8], page: u32) -> u32
+    ensures { λ r. ⌜ (r ≡ tick (leb 16 (countAt (now (index .entry)) page))) × (r ≤ 1) ⌝ }
+{
+    if 16 <= count_at(index, page) { 1 } else { 0 }
+}
+
+// A run of n full pages that reaches up to the level below goes on with a page if that is full.
+fn run_on(n: u32, level: u8, full: u32) -> u32
+    requires { ⌜ (n ≤ level) × (full ≤ 1) ⌝ }
+    ensures { λ r. ⌜ (r ≡ pick (eqb n level) (n + full) n) × (r ≤ level + 1) ⌝ }
+{
+    if n == level as u32 { n + full } else { n }
+}
+
+// The full pages in an unbroken run upward from the leaf that an insertion of the rank comes to.
+fn full_run(index: &[u8], page: u32, level: u8, rank: u64) -> u32
+    ensures { λ r. ⌜ (r ≡ fullRun level (now (index .entry)) page rank) × (r ≤ level + 1) ⌝ }
+{
+    let full = full_page(index, page);
+    if level == 0 {
+        return full;
+    }
+    let inner = inner_at(index, page);
+    let i = choose_child(inner, rank);
+    let child = child_at(inner, i);
+    let n = full_run(index, child, level - 1, rank);
+    run_on(n, level, full)
+}
+
+// Pages wanted by an insertion: that run, plus one if it takes in the root.
+pub fn pages_wanted(index: &[u8], x: Record) -> u32
+    ensures { λ r. ⌜ r ≡ pagesWanted (now (index .entry)) x ⌝ }
+{
+    let d = features_of(index);
+    let level = root_level(index);
+    let root = root_page(index);
+    let rank = record_rank(x, d);
+    let n = full_run(index, root, level, rank);
+    if n == level as u32 + 1 { n + 1 } else { n }
+}

@@ -1,0 +1,6 @@
+pub mod Entries
+pub mod Insertion
+pub mod Deletion
+pub mod Lookup
+pub mod Held
+pub mod CodeTerms
