@@ -132,7 +132,8 @@ epoch_index_answer epoch_index_trusted_question(const uint8_t *index, size_t len
  * - delete: `id` is live with this very point. Where that is false the call is refused (7, or a number before it) and changes nothing.
  *
  * Where the duty is kept each returns and leaves exactly what the act does, and the index stays sound. On any bytes a call ends and touches
- * nothing but the memory lent: it looks at one page of each of at most 5 levels on its way, and an insert at the freed pages.
+ * nothing but the memory lent: it goes one way down at most 5 levels, a delete with a look at a neighbour on each, and an insert that splits
+ * a page follows the freed pages where too few have never been used.
  */
 
 /* Numbers: 1, 2, 3, 4, 5, 8, 9. */

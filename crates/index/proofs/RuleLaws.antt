@@ -3,10 +3,11 @@ use mathlib.Core.Path.{_≡_, refl, _∙_, subst}
 use mathlib.Core.Bool.{Bool, true}
 use mathlib.Core.Logic.{_≢_, inl, inr}
 use mathlib.Core.List.{List, [], _∷_, _++_}
-use Prim.Native.Nat.{ℕ, _≤_}
+use Prim.Native.Nat.{ℕ, _≤_, _<_}
 use native.Mathlib.Omega.{arith}
 use lib.IntN.{ℤ}
 use lib.ListN.{length}
+use Rattle.lists.specs.Tests.{three}
 use Rattle.geometry.specs.Stored.{inRange}
 use Rattle.pagestore.specs.Store.{View, viewOf, fieldAt, features, total}
 use Rattle.trees.specs.Sound.{SoundIndex}
@@ -29,6 +30,11 @@ suits-view b p d t e h = subst (λ (x : ℕ). Decides ((1 ≤ length p) × (leng
 pub total-view : (b : List ℕ) → fieldAt total b ≡ viewOf b .total
 unfolding viewOf
 total-view b = refl
+
+-- ---- NUMBERS
+
+pub not-below : (m n : ℕ) → ¬ (m < n) → n ≤ m
+not-below m n w = three m n (λ l. absurd (w l)) (λ e. omega (arith, e)) (λ g. omega (arith, g))
 
 -- ---- RULES OF WHICH NONE REFUSES
 

@@ -1,15 +1,15 @@
 // The numbers of the refusal table, tested in each act's order. Of the bytes nothing is known here, and number 2 goes by the header's level alone.
 ghost use mathlib.Core.Path.{_≡_};
 ghost use mathlib.Core.Bool.{true};
-ghost use Prim.Native.Nat.{_≤_};
+ghost use Prim.Native.Nat.{_≤_, _<_};
 ghost use lib.ListN.{length};
 ghost use Rattle.geometry.specs.Stored.{inRange};
+ghost use Rattle.pagestore.specs.Store.{freshAt, freeAt};
 ghost use Rattle.index.specs.Refusals.{First, recordOf};
 ghost use Rattle.index.specs.Outcomes.{Decides};
 ghost use Rattle.index.specs.Questions.{Refused};
 ghost use Rattle.index.specs.Trusted.{trustedPoint, pairRules, roomRules, trustedInsert, trustedQuestion};
 use crate::making::permitted;
-use geometry::points::in_range;
 use geometry::points::slots_of;
 use lending::Answer;
 use lending::Candidates;
@@ -17,6 +17,9 @@ use lending::Outcome;
 use pagestore::Record;
 use pagestore::features_of;
 use pagestore::free_count;
+use pagestore::fresh_page;
+use pagestore::in_range;
+use pagestore::page_count;
 use pagestore::root_level;
 use pagestore::total_records;
 use tree::find;
@@ -48,7 +51,7 @@ fn refuse_point(index: &[u8], point: &[i16]) -> u32
     if !suits(point.len(), features_of(index)) {
         return 3;
     }
-    if !in_range(point) {
+    if !geometry::points::in_range(point) {
         return 4;
     }
     0
@@ -118,6 +121,30 @@ pub fn refuse_pair(index: &[u8], id: u32, point: &[i16]) -> u32
     0
 }
 
+// The pages never used.
+fn fresh_left(index: &[u8]) -> u32
+    ensures { λ r. ⌜ r ≡ length (freshAt (now (index .entry))) ⌝ }
+{
+    let fresh = fresh_page(index);
+    if in_range(index, fresh) {
+        return page_count(index) - fresh;
+    }
+    0
+}
+
+// Whether fewer pages are free than are wanted. The chain of freed pages is followed only where the pages never used are too few.
+fn too_few(index: &[u8], wanted: u32) -> bool
+    ensures { λ r. ⌜ Decides (length (freeAt (now (index .entry))) < wanted) r ⌝ }
+{
+    if wanted <= fresh_left(index) {
+        return false;
+    }
+    if wanted <= free_count(index) {
+        return false;
+    }
+    true
+}
+
 // The first of 8 and 9 that applies to a record that may be inserted.
 pub fn refuse_room(index: &[u8], id: u32, point: &[i16]) -> u32
     requires { ⌜ (length (now point) ≤ 16) × (inRange (now point) ≡ true) ⌝ }
@@ -127,7 +154,7 @@ pub fn refuse_room(index: &[u8], id: u32, point: &[i16]) -> u32
         return 8;
     }
     let x = record_of(id, point);
-    if free_count(index) < pages_wanted(index, x) {
+    if too_few(index, pages_wanted(index, x)) {
         return 9;
     }
     0
