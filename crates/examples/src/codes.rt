@@ -4,8 +4,8 @@
 ghost use mathlib.Core.Path.{_≡_};
 ghost use Prim.Native.Nat.{_≤_, _<_};
 ghost use lib.ListN.{length};
-use crate::show::line;
-use crate::show::text;
+use example_parts::show::line;
+use example_parts::show::text;
 use lending::Outcome;
 use search::Query;
 

@@ -1,10 +1,10 @@
 // The public question, in rows and with a tally that the program lends.
 ghost use Prim.Native.Nat.{_≤_, _<_};
 ghost use Rattle.index.specs.Questions.{Questioned};
-use crate::numbers::coordinate;
-use crate::show::line;
-use crate::show::text;
 use candidates::Row;
+use example_parts::places::coordinate;
+use example_parts::show::line;
+use example_parts::show::text;
 use lending::Answer;
 use lending::Tally;
 use search::Query;

@@ -2,12 +2,12 @@
 ghost use mathlib.Core.Path.{_≡_};
 ghost use Prim.Native.Nat.{_≤_, _<_};
 ghost use lib.ListN.{length};
-use crate::leaves::list_leaves;
 use crate::lent;
-use crate::numbers::coordinate;
-use crate::show::line;
-use crate::show::text;
 use candidates::row_of;
+use example_parts::listing::list_leaves;
+use example_parts::places::coordinate;
+use example_parts::show::line;
+use example_parts::show::text;
 use lending::Candidates;
 use lending::Outcome;
 use pagestore::free_count;

@@ -1,0 +1,4 @@
+// What the example programs share: lines of output, coordinates by their places, and the leaves of an index in key order.
+pub mod listing;
+pub mod places;
+pub mod show;
