@@ -27,7 +27,7 @@ search-with-requires c κs = let S = (c .before .before .before .before .before 
       one = S .pre .1;
       most = S .pre .2;
       some = sym (c .before .before .before .before .reads-none .ensures) ∙ c .before .before .before .if1 .left;
-      room = room-large (now (S .args .index)) _ (c .before .before .total-records .ensures) (c .before .if2 .taken);
+      room = room-large (now (S .args .index)) _ (c .before .before .total-records .ensures) (omega (arith, c .before .if2 .taken));
     }
 
 slice-aggregate-search-with-2 : tie.Need-slice-aggregate-search-with-2
@@ -40,7 +40,7 @@ search-with-requires-2 c κs = let S = (c .before .before .before .before .befor
       one = S .pre .1;
       most = S .pre .2;
       some = sym (c .before .before .before .before .reads-none .ensures) ∙ c .before .before .before .if1 .left;
-      room = room-small (now (S .args .index)) _ (c .before .before .total-records .ensures) (c .before .if2 .left);
+      room = room-small (now (S .args .index)) _ (c .before .before .total-records .ensures) (omega (arith, c .before .if2 .left));
     }
 
 returns-2 : tie.Need-returns-2
