@@ -72,19 +72,110 @@ fn slice_in(q: &[u16], i: usize, h: u16) -> u64
     }
 }
 
-// The least height at which pyramid i is nearest, by bisection.
+// What a has above b, for longer numbers.
+fn beyond(a: u32, b: u32) -> u32
+    ensures { λ r. ⌜ r ≡ a - b ⌝ }
+{
+    if a < b { 0 } else { a - b }
+}
+
+// An excess and its count as one number; nothing has none.
+fn counted(x: u16) -> u32
+    ensures { λ r. ⌜ r < 131072 ⌝ }
+{
+    if x == 0 { 0 } else { 65536 + x as u32 }
+}
+
+// What magnitudes have above h, in all, and how many they are.
+fn excess(q: &[u16], h: u16) -> u32
+    requires { ⌜ length (now q) ≤ 16 ⌝ }
+    ensures { λ r. ⌜ r ≤ 2097152 ⌝ }
+{
+    let mut sum: u32 = 0;
+    let mut m = 0;
+    while m < q.len() {
+        sum += counted(above(magnitude(q[m]), h));
+        m += 1;
+    }
+    sum
+}
+
+// A height is 1,000 at most.
+fn capped(x: u32) -> u16
+    ensures { λ r. ⌜ r ≤ 1000 ⌝ }
+{
+    if x < 1000 { x as u16 } else { 1000 }
+}
+
+// One step of Newton's method from height h on: where the distance from the axis outweighs what the other coordinates have
+// above h. The axis is at `at`, its coordinate towards the pyramid with 1,000 added.
+fn approach(q: &[u16], at: u16, h: u16) -> u16
+    requires { ⌜ length (now q) ≤ 16 ⌝ }
+    ensures { λ r. ⌜ r ≤ 1000 ⌝ }
+{
+    let others = beyond(excess(q, h), counted(above(magnitude(at), h)));
+    let n = others / 65536 + 1;
+    let far = beyond(others % 65536 + at as u32, 1000 + h as u32);
+    let rise = capped((2 * far + n - 1) / (2 * n));
+    capped(h as u32 + rise as u32)
+}
+
+// The axis of pyramid i: its coordinate towards the pyramid, with 1,000 added.
+fn axis_at(q: &[u16], i: usize) -> u16
+    requires { ⌜ (length (now q) ≤ 16) × (i < length (now q) + length (now q)) ⌝ }
+{
+    let d = q.len();
+    if i < d { above(2000, q[i]) } else { q[i - d] }
+}
+
+// A height near that at which pyramid i is nearest; as a rule it is that one. Only the time taken rests on it.
+fn guess(q: &[u16], i: usize) -> u16
+    requires { ⌜ (length (now q) ≤ 16) × (i < length (now q) + length (now q)) ⌝ }
+    ensures { λ r. ⌜ r ≤ 1000 ⌝ }
+{
+    let at = axis_at(q, i);
+    let mut h = smaller(above(at, 1000), 1000);
+    let mut turn: u32 = 0;
+    while turn < 6 {
+        let next = approach(q, at, h);
+        if next == h {
+            return h;
+        }
+        h = next;
+        turn += 1;
+    }
+    h
+}
+
+// Where to look next between low and high: at the guess, or in the middle after some turns.
+fn probe(low: u16, high: u16, at: u16, turn: u16) -> u16
+    requires { ⌜ low < high ⌝ }
+    ensures { λ r. ⌜ (low ≤ r) × (r < high) ⌝ }
+{
+    if 4 < turn {
+        return low + (high - low) / 2;
+    }
+    greater(low, smaller(at, high - 1))
+}
+
+// The least height at which pyramid i is nearest: from the guess on, by bisection where it was not near.
 fn nearest_height(q: &[u16], i: usize) -> u16
     requires { ⌜ (length (now q) ≤ 16) × (i < length (now q) + length (now q)) ⌝ }
     ensures { λ r. ⌜ LeastAt (sliceAt square (pointOf (now (q .entry))) i) 0 1000 r ⌝ }
 {
     let mut low: u16 = 0;
     let mut high: u16 = 1000;
+    let mut at = guess(q, i);
+    let mut turn: u16 = 0;
     while low < high {
-        let mid = low + (high - low) / 2;
+        let mid = probe(low, high, at, turn);
+        turn += 1;
         if slice_in(q, i, mid) <= slice_in(q, i, mid + 1) {
             high = mid;
+            at = above(mid, 1);
         } else {
             low = mid + 1;
+            at = low;
         }
     }
     low

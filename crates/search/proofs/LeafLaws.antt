@@ -52,6 +52,10 @@ module _ {A : Type 0} (n : ℕ) (xs : List A) (slots : length xs ≡ 16) where
   pub items-end : (i : ℕ) → min n 16 ≤ i → drop i (take n xs) ≡ []
   items-end i h = drop-past i (take n xs) (omega (arith, items-length))
 
+-- the number of items of an inner page, from its count byte
+pub inner-number : (b : List ℕ) (p n r : ℕ) → n ≡ countAt b p → r ≡ min n 16 → r ≡ min (innerAt b p .count) 16
+inner-number b p n r e f = omega (arith, inner-counts b p)
+
 -- ---- COUNTING
 
 ones : (b : List ℕ) (es : List Entry) → sum (λ e. leafCount 0 b (e .child)) es ≡ length es

@@ -1,6 +1,7 @@
 pub mod RecordLaws
 pub mod FrameLaws
 pub mod DescentLaws
+pub mod RoomLaws
 pub mod SoundLaws
 pub mod Promises
 pub mod LeafLaws

@@ -30,11 +30,12 @@ use Rattle.pagestore.specs.Store.RangeLaws.{pages-same, range-same}
 use Rattle.trees.specs.Trees.{Item, pointIn, leaves, pages, treeOf, leavesOf, identOf, live}
 use Rattle.trees.specs.Sound.{SoundIndex}
 use Rattle.search.specs.Branches.{Branch, tied, before, isLeaf, pageIn, kids, rootBranch, rowOf, rowsAt}
-use Rattle.search.specs.Visit.{ranking, Answer, answerOf, visited, readsNone, found}
+use Rattle.search.specs.Visit.{ranking, Answer, answerOf, room, visited, readsNone, found}
 use Rattle.search.specs.Questions.{rowsFrom, rowsOf, leafBound, toRead, unreadPages, Kept, Exchanged, end, next, AgreeBut}
 use Rattle.search.proofs.RecordLaws.{span-floor}
 use Rattle.search.proofs.FrameLaws.{Frame, Ordered, Branching, leaf-records, parts-right, frame-range, leafBranch, leafBranches}
 use Rattle.search.proofs.DescentLaws.{branch-order, seek-is}
+use Rattle.search.proofs.RoomLaws.{room-enough}
 use Rattle.search.proofs.SoundLaws.{leafItems, records-leaves, tree-frame, tree-header, tree-hold, tree-level, tree-leaves, tree-pages, tree-ordered, tree-root, tree-once, none-held, leaves-ordered}
 
 abbrev boundIn : Branch → ℕ
@@ -111,12 +112,12 @@ module _ (b : List ℕ) (s : SoundIndex b) (q : List ℕ) (same : length q ≡ v
       let g : fieldAt root c ≡ treeOf v .0 = h .root ∙ sym (tree-root b s) in
       let e : pageIn c (fieldAt root c) ≡ treeOf v .0 = rw (g, frame-range c (v .d) (v .level) (treeOf v) (h .frame)) in
       let r : rootBranch c ≡ record { bound = 0; place = 0; level = v .level; page = treeOf v .0 } = λ i. record { bound = 0; place = 0; level = h .level i; page = e i } in
-      let few : length (leaves (v .level) (treeOf v)) ≤ 8191 = tree-leaves b s in
+      let few : length (leaves (v .level) (treeOf v)) ≤ room c = room-enough c (length (leaves (v .level) (treeOf v))) (λ n g w. tree-leaves b s n g (omega (arith, h .total))) (omega (arith, h .total, s .most)) in
       let enough : length (leaves (v .level) (treeOf v)) ≤ pagesIn b = tree-pages b s in
       let n : pagesIn c ≡ pagesIn b = h .pages in
       rw (z, w)
-      (ap (λ (x : Branch). answerOf (seek ranking boundIn (rowsAt c q) before isLeaf (kids c q) k 8192 (2 * pagesIn c) (x ∷ []) [])) r
-      ∙ seek-is c q (v .d) (s .d .0) (s .d .1) same k 8192 (2 * pagesIn c) one (v .level) (treeOf v) (h .frame) (tree-ordered b s t) (omega arith) (omega arith))
+      (ap (λ (x : Branch). answerOf (seek ranking boundIn (rowsAt c q) before isLeaf (kids c q) k (room c) (2 * pagesIn c) (x ∷ []) [])) r
+      ∙ seek-is c q (v .d) (s .d .0) (s .d .1) same k (room c) (2 * pagesIn c) one (v .level) (treeOf v) (h .frame) (tree-ordered b s t) few (omega arith))
 
   -- ---- THE ROWS AND THE LEAVES
 

@@ -1,5 +1,5 @@
--- What the search uses of a sound index: its inner pages hold its tree, records are in order and in range, and 4 levels, 8,192 branches and
--- twice as many steps as pages are enough.
+-- What the search uses of a sound index: its inner pages hold its tree, records are in order and in range, and 4 levels, room for one branch for
+-- 8 records each, and twice as many steps as pages are enough.
 use mathlib.Core.Path.{_≡_, refl, sym, ap, ap₂, _∙_}
 use mathlib.Core.Bool.{Bool, true, false}
 use mathlib.Core.List.{List, [], _∷_, _++_, map, append-nil}
@@ -99,11 +99,11 @@ root-level (suc l) t r f h =
     let w : 8 ^ 4 ≤ 8 ^ l = pow-le-pow-right (omega arith) g in absurd (omega arith))
     (λ e. omega (arith, ltb-false 3 l e))
 
--- and 8,191 leaves at most
-pub root-leaves : (l : ℕ) (t : Item (suc l)) → RootFilled l t → All (Filled l) (t .1) → length (records (suc l) t) ≤ 65535 → length (leaves l t) ≤ 8191
+-- and one leaf at most for 8 records each, or one leaf
+pub root-leaves : (n l : ℕ) (t : Item (suc l)) → RootFilled l t → All (Filled l) (t .1) → 8 ≤ n → length (records (suc l) t) ≤ n → 8 * length (leaves l t) ≤ n
 unfolding RootFilled records leaves
-root-leaves zero t r f h = omega arith
-root-leaves (suc l) t r f h = omega (arith, leaves-list l (t .1) (all-map (filled-leaves l) f))
+root-leaves n zero t r f g h = omega arith
+root-leaves n (suc l) t r f g h = omega (arith, leaves-list l (t .1) (all-map (filled-leaves l) f))
 
 pages-list : (l : ℕ) (ts : List (Item (suc l))) → All (λ t. length (leaves l t) ≤ length (pages (suc l) t)) ts → length (flat (leaves l) ts) ≤ length (flat (pages (suc l)) ts)
 unfolding flat
@@ -191,9 +191,9 @@ module _ (b : List ℕ) (s : SoundIndex b) where
   pub tree-level : v .level ≤ 4
   tree-level = root-level (v .level) tree (s .rootFill) (s .fills) (omega (arith, live-length, s .most))
 
-  pub tree-leaves : length (leavesOf v) ≤ 8191
+  pub tree-leaves : (n : ℕ) → 8 ≤ n → v .total ≤ n → 8 * length (leavesOf v) ≤ n
   unfolding leavesOf
-  tree-leaves = root-leaves (v .level) tree (s .rootFill) (s .fills) (omega (arith, live-length, s .most))
+  tree-leaves n g h = root-leaves n (v .level) tree (s .rootFill) (s .fills) g (omega (arith, live-length))
 
   pub tree-pages : length (leavesOf v) ≤ pagesIn b
   unfolding leavesOf

@@ -27,17 +27,18 @@ use Rattle.candidates.specs.Rows.{rowOrder}
 use Rattle.candidates.specs.Held.{rowsIn, Held, Stops}
 use Rattle.search.specs.Branches.{Branch, before, isLeaf, branches, opened, kids, rootBranch, rowOf, rowsAt, pageIn}
 use Rattle.search.specs.Keys.{keyOf, boundIn, placeIn, levelIn, numberIn, branchIn, Good, frontier}
-use Rattle.search.specs.Visit.{ranking, Answer, answerOf, visited}
+use Rattle.search.specs.Visit.{ranking, Answer, answerOf, room, visited}
 use Rattle.search.specs.Steps.{Asked, Heights, OfferedAll, Opens, Opened, Visits, Visited}
 use Rattle.search.proofs.LeafLaws.{items-length, page-small}
 use Rattle.search.proofs.KeyLaws.{key-back, key-good}
+use Rattle.search.proofs.RoomLaws.{room-some}
 
 abbrev boundOf : Branch → ℕ
 boundOf x = x .bound
 
 -- the search from a frontier and rows on, n steps at most
 abbrev seekOn : List ℕ → List ℕ → ℕ → ℕ → List Branch → List Row → Outcome Row Branch
-seekOn index q k n f s = seek ranking boundOf (rowsAt index q) before isLeaf (kids index q) k 8192 n f s
+seekOn index q k n f s = seek ranking boundOf (rowsAt index q) before isLeaf (kids index q) k (room index) n f s
 
 -- an outcome where m leaves have been read before
 abbrev after : ℕ → Outcome Row Branch → Answer
@@ -48,7 +49,7 @@ pub record Visiting (index q heights : List ℕ) (k : ℕ) (slots₀ distances�
   pub asked : Asked q
   pub ready : Heights q heights
   pub one : 1 ≤ k
-  pub whole : length slots ≡ 8192
+  pub whole : length slots ≡ room index
   pub lengths : length slots ≡ length slots₀
   pub lengthsD : length distances ≡ length distances₀
   pub lengthsT : length tags ≡ length tags₀
@@ -76,7 +77,7 @@ pub visiting-start : (index q heights : List ℕ) (k : ℕ) (slots distances tag
 unfolding visited
 visiting-start index q heights k slots distances tags key m v e g =
     let w : 16 ^ (fieldAt level index) ≤ 16 ^ 4 = pow-le-pow-right (omega arith) (v .low) in
-    let s : 1 ≤ length slots = omega (arith, v .room) in
+    let s : 1 ≤ length slots = omega (arith, v .room, room-some index) in
     let o : held 1 (set slots 0 key) ≡ key ∷ [] = one-held slots key s in
     let l : length (set slots 0 key) ≡ length slots = length-set slots 0 key in
     let b : branchIn key ≡ rootBranch index = ap branchIn e ∙ key-back (rootBranch index) (omega arith) (v .low) (page-small index (fieldAt root index)) in
@@ -129,7 +130,7 @@ module _ (index q heights : List ℕ) (k : ℕ) (slots₀ distances₀ tags₀ s
   unfolding sort
   visiting-empty z =
       ended index q k distances tags rows leaves (seekOn index q k steps (frontier n slots) here)
-      (rw z (seek-end ranking boundOf (rowsAt index q) before isLeaf (kids index q) k 8192 steps here)) (v .holds) (v .answer)
+      (rw z (seek-end ranking boundOf (rowsAt index q) before isLeaf (kids index q) k (room index) steps here)) (v .holds) (v .answer)
 
   -- the first branch is taken
   module _ (key : ℕ) (slots' : List ℕ) (p : Popped n slots key slots') (more : 0 < steps) where
@@ -151,7 +152,7 @@ module _ (index q heights : List ℕ) (k : ℕ) (slots₀ distances₀ tags₀ s
     unfolding branchIn
     visiting-stop x =
         ended index q k distances tags rows leaves (seekOn index q k (suc (steps - 1)) (branchIn key ∷ rest) here)
-        (seek-stop ranking boundOf (rowsAt index q) before isLeaf (kids index q) k 8192 (steps - 1) (branchIn key) rest here x) (v .holds) taken
+        (seek-stop ranking boundOf (rowsAt index q) before isLeaf (kids index q) k (room index) (steps - 1) (branchIn key) rest here x) (v .holds) taken
 
     module _ (goes : exceeds ranking k (boundIn key) here ≡ false) (kept : length slots' ≡ length slots) where
       -- a leaf is read
@@ -164,7 +165,7 @@ module _ (index q heights : List ℕ) (k : ℕ) (slots₀ distances₀ tags₀ s
           let x : Branch = branchIn key in
           let o = rw (sp, sg) at offers in
           let t : isLeaf x ≡ true = eq-eqb (levelIn key) 0 (sym sl ∙ z) in
-          let e = seek-read ranking boundOf (rowsAt index q) before isLeaf (kids index q) k 8192 (steps - 1) x rest here goes t in
+          let e = seek-read ranking boundOf (rowsAt index q) before isLeaf (kids index q) k (room index) (steps - 1) x rest here goes t in
           let a : keep (λ y. true) (rowsAt index q x) ≡ rowsAt index q x = keep-all (λ y. true) (rowsAt index q x) (all-every (λ y. refl) (rowsAt index q x)) in
           let w : offered ranking boundOf (rowsAt index q) k x here ≡ rowsIn distances' tags' r = ap (λ (ys : List Row). offerAll rowOrder k ys here) a ∙ sym (o .rows) in
           let out = seekOn index q k (steps - 1) rest (rowsIn distances' tags' r) in
@@ -210,7 +211,7 @@ module _ (index q heights : List ℕ) (k : ℕ) (slots₀ distances₀ tags₀ s
         unfolding branchIn
         visiting-full m e h =
             ended index q k distances tags rows leaves (seekOn index q k (suc (steps - 1)) (branchIn key ∷ rest) here)
-            (seek-full ranking boundOf (rowsAt index q) before isLeaf (kids index q) k 8192 (steps - 1) (branchIn key) rest here goes not-leaf
+            (seek-full ranking boundOf (rowsAt index q) before isLeaf (kids index q) k (room index) (steps - 1) (branchIn key) rest here goes not-leaf
             (let r = kids-room in let w = v .whole in omega arith)) (v .holds) taken
 
         -- an inner page can be opened
@@ -233,7 +234,7 @@ module _ (index q heights : List ℕ) (k : ℕ) (slots₀ distances₀ tags₀ s
             → Visiting index q heights k slots₀ distances₀ tags₀ slots'' distances tags r rows leaves (steps - 1)
         unfolding branchIn
         visiting-open slots'' r m c h o l =
-            let e = seek-open ranking boundOf (rowsAt index q) before isLeaf (kids index q) k 8192 (steps - 1) (branchIn key) rest here goes not-leaf (let r = kids-room in let w = v .whole in omega arith) in
+            let e = seek-open ranking boundOf (rowsAt index q) before isLeaf (kids index q) k (room index) (steps - 1) (branchIn key) rest here goes not-leaf (let r = kids-room in let w = v .whole in omega arith) in
             record {
               asked = v .asked;
               ready = v .ready;

@@ -1,5 +1,6 @@
 -- What the parts of the search do.
 use mathlib.Core.Path.{_≡_}
+use mathlib.Core.Bool.{false}
 use mathlib.Core.List.{List}
 use Prim.Native.Nat.{ℕ, _+_, _^_, _≤_}
 use lib.ListN.{length}
@@ -21,7 +22,7 @@ use Rattle.search.specs.declared.Found.{Found}
 use Rattle.search.specs.declared.Seen.{Seen}
 use Rattle.search.specs.Branches.{before, branches}
 use Rattle.search.specs.Keys.{Good, frontier}
-use Rattle.search.specs.Visit.{ranking, Answer, answerOf, visited, found}
+use Rattle.search.specs.Visit.{ranking, Answer, answerOf, room, visited, readsNone, found}
 use Rattle.search.specs.Questions.{rowsOf, toRead, unreadPages, AgreeBut}
 
 -- a point that can be asked: 1 to 16 coordinates in range, as stored
@@ -57,15 +58,23 @@ pub record Opened (slots : List ℕ) (n : ℕ) (index q : List ℕ) (level place
   pub good : All Good (held r slots')
   pub branches : frontier r slots' ≡ insAll before (branches index q level place (entriesIn (innerAt index page))) (frontier n slots)
 
--- what a visit is lent: room for 8,192 branches and for k rows
+-- what a visit is lent: room for branches and for k rows
 pub record Visits (index q heights : List ℕ) (k : ℕ) (slots distances marks : List ℕ) : Type 0 where
   pub asked : Asked q
   pub ready : Heights q heights
   pub low : fieldAt level index ≤ 4
   pub one : 1 ≤ k
-  pub room : length slots ≡ 8192
+  pub room : length slots ≡ room index
   pub rows : k ≤ length distances
   pub tags : k ≤ length marks
+
+-- what a search that reads something is lent: room for branches
+pub record Seeks (index q : List ℕ) (k : ℕ) (slots : List ℕ) : Type 0 where
+  pub asked : Asked q
+  pub one : 1 ≤ k
+  pub most : k ≤ 64
+  pub some : readsNone index ≡ false
+  pub room : length slots ≡ room index
 
 -- the visit has been made: its rows are held, and its leaves counted
 pub record Visited (index q : List ℕ) (k : ℕ) (distances tags : List ℕ) (r : Seen) : Type 0 where

@@ -25,11 +25,14 @@ pub record Answer : Type 0 where
 abbrev pub answerOf : Outcome Row Branch → Answer
 answerOf o = record { rows = o .rows; leaves = length (o .read) }
 
--- The visit from the root on. The frontier has room for 8,192 branches, and as many steps are taken at most as twice the pages:
--- in a sound index both are enough.
+-- How many branches the frontier has room for: no more than there are leaves, and a leaf but the root has 8 records or more.
+unfoldable pub room : List ℕ → ℕ
+room b = pick (ltb 4096 (fieldAt total b)) 8192 512
+
+-- The visit from the root on. As many steps are taken at most as twice the pages: in a sound index they and the room are enough.
 unfoldable pub visited : List ℕ → List ℕ → ℕ → Outcome Row Branch
-unfolding seek exceeds keep insAll offerAll spanBound pageIn branches opened rowOf
-visited b q k = seek ranking (λ x. x .bound) (rowsAt b q) before isLeaf (kids b q) k 8192 (2 * pagesIn b) (rootBranch b ∷ []) []
+unfolding seek exceeds keep insAll offerAll spanBound pageIn branches opened rowOf room
+visited b q k = seek ranking (λ x. x .bound) (rowsAt b q) before isLeaf (kids b q) k (room b) (2 * pagesIn b) (rootBranch b ∷ []) []
 
 -- nothing is read where the header's total is 0 (01), or where the root's level is above 4: no sound index has such a root
 unfoldable pub readsNone : List ℕ → Bool

@@ -11,8 +11,9 @@ use geometry::Pair;
 use geometry::bounds::bound;
 use heap::push;
 use pagestore::Entry;
+use pagestore::count_at;
+use pagestore::entry_at;
 use pagestore::in_range;
-use pagestore::inner_at;
 
 // The branch of a key, field by field.
 pub fn bound_in(key: u64) -> u64
@@ -107,13 +108,12 @@ pub fn open_page(
     requires { ⌜ Opens (now slots) n (now index) (now q) (now heights) level place page ⌝ }
     ensures { λ r. ⌜ Opened (now (slots .entry)) n (now (index .entry)) (now (q .entry)) level place page r (now (slots .exit)) ⌝ }
 {
-    let inner = inner_at(index, page);
-    let count = filled(inner.count);
+    let count = filled(count_at(index, page) as usize);
     let mut held = n;
     let mut at = place;
     let mut i = 0;
     while i < count {
-        let entry = inner.entries[i];
+        let entry = entry_at(index, page, i);
         let key = entry_key(index, q, heights, entry, level, at);
         held = push(slots, held, key);
         at += leaf_count(index, level, entry.child);

@@ -14,8 +14,8 @@ use candidates::offer;
 use geometry::points::squared_distance;
 use pagestore::Record;
 use pagestore::count_at;
+use pagestore::entry_at;
 use pagestore::in_range;
-use pagestore::inner_at;
 use pagestore::read_count;
 use pagestore::read_record;
 
@@ -34,15 +34,14 @@ pub fn leaf_count(index: &[u8], level: usize, page: u32) -> usize
     if level == 0 {
         return 1;
     }
+    let n = filled(count_at(index, page) as usize);
     if level == 1 {
-        return filled(count_at(index, page) as usize);
+        return n;
     }
-    let inner = inner_at(index, page);
-    let n = filled(inner.count);
     let mut sum = 0;
     let mut i = 0;
     while i < n {
-        let entry = inner.entries[i];
+        let entry = entry_at(index, page, i);
         sum += leaf_count(index, level - 1, entry.child);
         i += 1;
     }

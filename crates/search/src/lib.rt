@@ -4,10 +4,11 @@
 // from the highest on, and page. The first one is taken until its bound exceeds the k-th distance: an inner page gives its
 // entries to the heap, a leaf page is handed to the one function that reads leaf pages.
 ghost use Prim.Native.Nat.{_≤_};
-ghost use Rattle.search.specs.Steps.{Asked, Searched};
+ghost use Rattle.search.specs.Steps.{Asked, Seeks, Searched};
 use crate::visit::best_first;
 use crate::visit::reads_none;
 use geometry::bounds::nearest_heights;
+use pagestore::total_records;
 
 mod frontier;
 mod leaves;
@@ -32,36 +33,42 @@ pub struct Found {
     pub tags: [u64; 64],
 }
 
-// The k nearest of the index's records to the asked point, whose coordinates are as stored, and the number of leaves read.
-pub fn search(index: &[u8], q: &[u16], query: Query) -> Found
-    requires { ⌜ Asked (now q) × (1 ≤ query .k) × (query .k ≤ 64) ⌝ }
-    ensures { λ r. ⌜ Searched (now (index .entry)) (now (q .entry)) (query .k) r ⌝ }
+// The search of an index in which something is read, with room for its frontier.
+fn search_with(index: &[u8], q: &[u16], k: usize, slots: &mut [u64]) -> Found
+    requires { ⌜ Seeks (now index) (now q) k (now slots) ⌝ }
+    ensures { λ r. ⌜ Searched (now (index .entry)) (now (q .entry)) k r ⌝ }
 {
+    let heights = nearest_heights(q);
     let mut distances = [0u64; 64];
     let mut tags = [0u64; 64];
-    if reads_none(index) {
-        return Found {
-            rows: 0,
-            leaves: 0,
-            distances: distances,
-            tags: tags,
-        };
-    }
-    let heights = nearest_heights(q);
-    let mut slots = [0u64; 8192];
-    let seen = best_first(
-        index,
-        q,
-        &heights,
-        query.k,
-        &mut slots,
-        &mut distances,
-        &mut tags,
-    );
+    let seen = best_first(index, q, &heights, k, slots, &mut distances, &mut tags);
     Found {
         rows: seen.rows,
         leaves: seen.leaves,
         distances: distances,
         tags: tags,
+    }
+}
+
+// The k nearest of the index's records to the asked point, whose coordinates are as stored, and the number of leaves read.
+// An index of few records gets little room: clearing more would take most of its search's time.
+pub fn search(index: &[u8], q: &[u16], query: Query) -> Found
+    requires { ⌜ Asked (now q) × (1 ≤ query .k) × (query .k ≤ 64) ⌝ }
+    ensures { λ r. ⌜ Searched (now (index .entry)) (now (q .entry)) (query .k) r ⌝ }
+{
+    if reads_none(index) {
+        return Found {
+            rows: 0,
+            leaves: 0,
+            distances: [0u64; 64],
+            tags: [0u64; 64],
+        };
+    }
+    if 4096 < total_records(index) {
+        let mut slots = [0u64; 8192];
+        search_with(index, q, query.k, &mut slots)
+    } else {
+        let mut slots = [0u64; 512];
+        search_with(index, q, query.k, &mut slots)
     }
 }

@@ -1,31 +1,39 @@
 -- `open_page`: the invariant says what the branches still to come make of the frontier.
+use mathlib.Core.Path.{refl, ap, _∙_}
 use Prim.Native.Nat.{_-_}
 use native.Mathlib.Omega.{arith}
+use denote.Ref.{now}
 use borrow.Author.Needs.{needs}
+use Rattle.pagestore.specs.declared.Entry.{Entry}
+use Rattle.pagestore.specs.Store.{innerAt}
+use Rattle.tree.specs.Lookup.{leafCount}
+use Rattle.search.specs.Branches.{branchOf}
+use Rattle.search.specs.Keys.{keyOf}
+use Rattle.search.proofs.LeafLaws.{inner-number}
 use Rattle.search.proofs.OpenLaws.{Opening, opening-start, opening-place, opening-places, opening-next, opening-end}
 use Rattle.search.proofs.frontier.open_page.Statement.{statement}
 use Rattle.search.proofs.frontier.open_page.Tie as tie
 
 abbrev Inv-loop : tie.InvT-loop
-Inv-loop slots₀ n index q heights level place page inner count held₀ at₀ i₀ slots held at i = Opening slots₀ n index q heights level place page inner count slots held at i
+Inv-loop slots₀ n index q heights level place page count held₀ at₀ i₀ slots held at i = Opening slots₀ n index q heights level place page (innerAt index page) count slots held at i
 
 abbrev μ-loop : tie.MeasureT-loop
-μ-loop slots₀ n index q heights level place page inner count held₀ at₀ i₀ slots held at i = count - i
+μ-loop slots₀ n index q heights level place page count held₀ at₀ i₀ slots held at i = count - i
 
-inner-at-requires : tie.Need-inner-at-requires Inv-loop μ-loop
-inner-at-requires c κs = search needs
+count-at-requires : tie.Need-count-at-requires Inv-loop μ-loop
+count-at-requires c κs = search needs
+
+cast-filled : tie.Need-cast-filled Inv-loop μ-loop
+cast-filled c = search needs
 
 filled-requires : tie.Need-filled-requires Inv-loop μ-loop
 filled-requires c κs = search needs
 
 loop-holds : tie.Need-loop-holds Inv-loop μ-loop
-loop-holds c = let S = (c .before .before .before .before .before .before) in opening-start _ _ _ _ _ _ _ _ _ _ (S .pre) (c .before .inner-at .ensures) (c .filled .ensures)
+loop-holds c = let S = (c .before .before .before .before .before .before) in opening-start _ _ _ _ _ _ _ _ _ _ (S .pre) refl (inner-number (now (S .args .index)) (S .args .page) _ _ (c .before .count-at .ensures) (c .filled .ensures))
 
-mul-entry : tie.Need-mul-entry Inv-loop μ-loop
-mul-entry c = let v = c .before .loop .inv in let w = v .number in omega arith
-
-element-copy-out-entry : tie.Need-element-copy-out-entry Inv-loop μ-loop
-element-copy-out-entry c = let v = c .before .loop .inv in let w = v .number in omega arith
+entry-at-requires : tie.Need-entry-at-requires Inv-loop μ-loop
+entry-at-requires c κs = let v = c .before .loop .inv in let w = v .number in omega (arith, c .loop-test .taken)
 
 entry-key-requires : tie.Need-entry-key-requires Inv-loop μ-loop
 entry-key-requires c κs = let v = c .before .before .loop .inv in let l = v .low in (v .asked, v .ready, omega arith, opening-place _ _ _ _ _ _ _ _ _ _ _ _ _ _ v (c .before .loop-test .taken))
@@ -46,8 +54,10 @@ loop-less : tie.Need-loop-less Inv-loop μ-loop
 loop-less c = search needs
 
 loop-again : tie.Need-loop-again Inv-loop μ-loop
-loop-again c = let v = c .before .before .before .before .before .before .before .before .loop .inv in let P = c .before .before .before .push in let E = c .before .before .before .before .before .entry-key in let C = c .leaf-count in
-    opening-next _ _ _ _ _ _ _ _ _ _ _ _ _ _ v _ _ _ _ _ (c .before .before .before .before .before .before .before .loop-test .taken) (E .ensures) (P .ensures) (P .kept .0) (C .ensures .0) (C .ensures .1)
+loop-again c = let S = (c .before .before .before .before .before .before .before .before .before .before .before .before .before .before .before) in let b = now (S .args .index) in let L = c .before .before .before .before .before .before .before .before .loop in let P = c .before .before .before .push in let E = c .before .before .before .before .before .entry-key in let X = c .before .before .before .before .before .before .entry-at in let C = c .leaf-count in
+    opening-next _ _ _ _ _ _ _ _ _ _ _ _ _ _ (L .inv) _ _ _ _ _ (c .before .before .before .before .before .before .before .loop-test .taken)
+    (E .ensures ∙ ap (λ (x : Entry). keyOf (branchOf b (now (S .args .q)) (S .args .level) (L .at) x)) (X .ensures)) (P .ensures) (P .kept .0)
+    (C .ensures .0 ∙ ap (λ (x : Entry). leafCount (S .args .level) b (x .child)) (X .ensures)) (C .ensures .1)
 
 same-length : tie.Need-same-length Inv-loop μ-loop
 same-length c = c .before .loop .inv .lengths
@@ -61,11 +71,11 @@ open-page-spec =
     (tie.spec
     Inv-loop
     μ-loop
-    inner-at-requires
+    count-at-requires
+    cast-filled
     filled-requires
     loop-holds
-    mul-entry
-    element-copy-out-entry
+    entry-at-requires
     entry-key-requires
     push-requires
     leaf-count-requires

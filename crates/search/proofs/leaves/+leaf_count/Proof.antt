@@ -1,13 +1,14 @@
 -- `leaf_count` meets its contract. The measure is the level; the sum and what is left to count are the whole count.
 use Prim.Native.Nat.{ℕ, _+_, _-_, _≤_, _<_, min}
-use mathlib.Core.Path.{_≡_}
+use mathlib.Core.Path.{_≡_, refl, ap, _∙_}
 use native.Mathlib.Omega.{arith}
 use denote.Ref.{now}
 use borrow.Author.Needs.{needs}
+use Rattle.pagestore.specs.declared.Entry.{Entry}
 use Rattle.pagestore.specs.Store.{innerAt, entriesIn}
 use Rattle.pagestore.specs.Store.PageLaws.{count-fits}
 use Rattle.tree.specs.Lookup.{leafCount}
-use Rattle.search.proofs.LeafLaws.{countFrom, count-most, count-leaf, count-low, inner-slots, count-start, count-next, count-end}
+use Rattle.search.proofs.LeafLaws.{countFrom, inner-number, count-most, count-leaf, count-low, count-start, count-next, count-end}
 use Rattle.search.proofs.LeafLaws as laws
 use Prim.Native.Nat.{ℕ, _<_}
 use borrow.Fn.Kinds.{In}
@@ -16,7 +17,7 @@ use Rattle.search.proofs.leaves.leaf_count.Reads as leaf-count
 use Rattle.search.proofs.leaves.leaf_count.Kinds as leaf-count-kinds
 use Rattle.search.proofs.leaves.+leaf_count.Lts-leaf_count as leaf-count-lts
 use Rattle.pagestore.proofs.count_at.Reads as count-at-reads
-use Rattle.pagestore.proofs.inner_at.Reads as inner-at-reads
+use Rattle.pagestore.proofs.entry_at.Reads as entry-at-reads
 use Rattle.search.proofs.leaves.filled.Reads as filled-reads
 use Rattle.search.proofs.leaves.+leaf_count.{statement}
 use Rattle.search.proofs.leaves.+leaf_count.Tie.{close}
@@ -33,18 +34,18 @@ leaf-count-below t =
     and 1 leaf-count-kinds.ps (falls 1 leaf-count-kinds.ps _<_ μ-leaf-count t) leaf-count.Pre
 
 abbrev leaf-count-Inv-loop : leaf-count-lts.InvT-loop
-leaf-count-Inv-loop index level page inner n sum₀ i₀ sum i = (i ≤ n) × (level ≤ 4) × (level ≡ 0 → ⊥) × (inner ≡ innerAt index page) × (n ≡ min (inner .count) 16) × (sum + countFrom (level - 1) index (entriesIn inner) i ≡ leafCount level index page)
+leaf-count-Inv-loop index level page n sum₀ i₀ sum i = (i ≤ n) × (level ≤ 4) × (level ≡ 0 → ⊥) × (n ≡ min (innerAt index page .count) 16) × (sum + countFrom (level - 1) index (entriesIn (innerAt index page)) i ≡ leafCount level index page)
 
 abbrev leaf-count-μ-loop : leaf-count-lts.MeasureT-loop
-leaf-count-μ-loop index level page inner n sum₀ i₀ sum i = n - i
+leaf-count-μ-loop index level page n sum₀ i₀ sum i = n - i
 
 leaf-count-returns : (t : ℕ) → leaf-count-lts.Need-returns (
   count-at-reads.Asked,
   count-at-reads.Learnt,
   filled-reads.Asked,
   filled-reads.Learnt,
-  inner-at-reads.Asked,
-  inner-at-reads.Learnt,
+  entry-at-reads.Asked,
+  entry-at-reads.Learnt,
   leaf-count-below t,
   leaf-count.Post,
 ) (leaf-count-at t) leaf-count.Post leaf-count-Inv-loop leaf-count-μ-loop
@@ -55,8 +56,8 @@ leaf-count-count-at-requires : (t : ℕ) → leaf-count-lts.Need-count-at-requir
   count-at-reads.Learnt,
   filled-reads.Asked,
   filled-reads.Learnt,
-  inner-at-reads.Asked,
-  inner-at-reads.Learnt,
+  entry-at-reads.Asked,
+  entry-at-reads.Learnt,
   leaf-count-below t,
   leaf-count.Post,
 ) (leaf-count-at t) leaf-count.Post leaf-count-Inv-loop leaf-count-μ-loop
@@ -67,8 +68,8 @@ leaf-count-cast-filled : (t : ℕ) → leaf-count-lts.Need-cast-filled (
   count-at-reads.Learnt,
   filled-reads.Asked,
   filled-reads.Learnt,
-  inner-at-reads.Asked,
-  inner-at-reads.Learnt,
+  entry-at-reads.Asked,
+  entry-at-reads.Learnt,
   leaf-count-below t,
   leaf-count.Post,
 ) (leaf-count-at t) leaf-count.Post leaf-count-Inv-loop leaf-count-μ-loop
@@ -79,8 +80,8 @@ leaf-count-filled-requires : (t : ℕ) → leaf-count-lts.Need-filled-requires (
   count-at-reads.Learnt,
   filled-reads.Asked,
   filled-reads.Learnt,
-  inner-at-reads.Asked,
-  inner-at-reads.Learnt,
+  entry-at-reads.Asked,
+  entry-at-reads.Learnt,
   leaf-count-below t,
   leaf-count.Post,
 ) (leaf-count-at t) leaf-count.Post leaf-count-Inv-loop leaf-count-μ-loop
@@ -91,83 +92,47 @@ leaf-count-returns-2 : (t : ℕ) → leaf-count-lts.Need-returns-2 (
   count-at-reads.Learnt,
   filled-reads.Asked,
   filled-reads.Learnt,
-  inner-at-reads.Asked,
-  inner-at-reads.Learnt,
+  entry-at-reads.Asked,
+  entry-at-reads.Learnt,
   leaf-count-below t,
   leaf-count.Post,
 ) (leaf-count-at t) leaf-count.Post leaf-count-Inv-loop leaf-count-μ-loop
-leaf-count-returns-2 t c = count-low (now (c .before .before .before .before .before .args .index)) (c .before .before .before .before .before .args .level) (c .before .before .before .before .before .args .page) _ _ (c .before .before .if2 .taken) (c .before .count-at .ensures) (c .filled .ensures)
-
-leaf-count-inner-at-requires : (t : ℕ) → leaf-count-lts.Need-inner-at-requires (
-  count-at-reads.Asked,
-  count-at-reads.Learnt,
-  filled-reads.Asked,
-  filled-reads.Learnt,
-  inner-at-reads.Asked,
-  inner-at-reads.Learnt,
-  leaf-count-below t,
-  leaf-count.Post,
-) (leaf-count-at t) leaf-count.Post leaf-count-Inv-loop leaf-count-μ-loop
-leaf-count-inner-at-requires t c κs = search needs
-
-leaf-count-filled-requires-2 : (t : ℕ) → leaf-count-lts.Need-filled-requires-2 (
-  count-at-reads.Asked,
-  count-at-reads.Learnt,
-  filled-reads.Asked,
-  filled-reads.Learnt,
-  inner-at-reads.Asked,
-  inner-at-reads.Learnt,
-  leaf-count-below t,
-  leaf-count.Post,
-) (leaf-count-at t) leaf-count.Post leaf-count-Inv-loop leaf-count-μ-loop
-leaf-count-filled-requires-2 t c κs = search needs
+leaf-count-returns-2 t c = count-low (now (c .before .before .before .before .before .args .index)) (c .before .before .before .before .before .args .level) (c .before .before .before .before .before .args .page) _ _ (c .if2 .taken) (c .before .before .count-at .ensures) (c .before .filled .ensures)
 
 leaf-count-loop-holds : (t : ℕ) → leaf-count-lts.Need-loop-holds (
   count-at-reads.Asked,
   count-at-reads.Learnt,
   filled-reads.Asked,
   filled-reads.Learnt,
-  inner-at-reads.Asked,
-  inner-at-reads.Learnt,
+  entry-at-reads.Asked,
+  entry-at-reads.Learnt,
   leaf-count-below t,
   leaf-count.Post,
 ) (leaf-count-at t) leaf-count.Post leaf-count-Inv-loop leaf-count-μ-loop
-leaf-count-loop-holds t c = let S = (c .before .before .before .before .before) in let I = c .before .inner-at in let z = c .before .before .before .if1 .left in
-    let e = count-start (now (S .args .index)) (S .args .level) (S .args .page) (I .result) (I .ensures) (c .filled2 .result) (c .filled2 .ensures) z in
-    (omega arith, S .pre .1, z, I .ensures, c .filled2 .ensures, omega arith)
+leaf-count-loop-holds t c = let S = (c .before .before .before .before .before) in let z = c .before .before .before .if1 .left in
+    let w = inner-number (now (S .args .index)) (S .args .page) _ _ (c .before .before .count-at .ensures) (c .before .filled .ensures) in
+    let e = count-start (now (S .args .index)) (S .args .level) (S .args .page) (innerAt (now (S .args .index)) (S .args .page)) refl (c .before .filled .result) w z in
+    (omega arith, S .pre .1, z, w, omega arith)
 
-leaf-count-mul-entry : (t : ℕ) → leaf-count-lts.Need-mul-entry (
+leaf-count-entry-at-requires : (t : ℕ) → leaf-count-lts.Need-entry-at-requires (
   count-at-reads.Asked,
   count-at-reads.Learnt,
   filled-reads.Asked,
   filled-reads.Learnt,
-  inner-at-reads.Asked,
-  inner-at-reads.Learnt,
+  entry-at-reads.Asked,
+  entry-at-reads.Learnt,
   leaf-count-below t,
   leaf-count.Post,
 ) (leaf-count-at t) leaf-count.Post leaf-count-Inv-loop leaf-count-μ-loop
-leaf-count-mul-entry t c = search needs
-
-leaf-count-element-copy-out-entry : (t : ℕ) → leaf-count-lts.Need-element-copy-out-entry (
-  count-at-reads.Asked,
-  count-at-reads.Learnt,
-  filled-reads.Asked,
-  filled-reads.Learnt,
-  inner-at-reads.Asked,
-  inner-at-reads.Learnt,
-  leaf-count-below t,
-  leaf-count.Post,
-) (leaf-count-at t) leaf-count.Post leaf-count-Inv-loop leaf-count-μ-loop
-leaf-count-element-copy-out-entry t c = let S = (c .before .before .before .before .before .before .before) in let L = c .before .loop in
-    let e = inner-slots (now (S .args .index)) (S .args .level) (S .args .page) _ (L .inv .3) _ (L .inv .4) in let w = L .inv .4 in omega arith
+leaf-count-entry-at-requires t c κs = let w = c .before .loop .inv .3 in omega (arith, c .loop-test .taken)
 
 leaf-count-sub-leaf-count : (t : ℕ) → leaf-count-lts.Need-sub-leaf-count (
   count-at-reads.Asked,
   count-at-reads.Learnt,
   filled-reads.Asked,
   filled-reads.Learnt,
-  inner-at-reads.Asked,
-  inner-at-reads.Learnt,
+  entry-at-reads.Asked,
+  entry-at-reads.Learnt,
   leaf-count-below t,
   leaf-count.Post,
 ) (leaf-count-at t) leaf-count.Post leaf-count-Inv-loop leaf-count-μ-loop
@@ -178,8 +143,8 @@ leaf-count-leaf-count-requires : (t : ℕ) → leaf-count-lts.Need-leaf-count-re
   count-at-reads.Learnt,
   filled-reads.Asked,
   filled-reads.Learnt,
-  inner-at-reads.Asked,
-  inner-at-reads.Learnt,
+  entry-at-reads.Asked,
+  entry-at-reads.Learnt,
   leaf-count-below t,
   leaf-count.Post,
 ) (leaf-count-at t) leaf-count.Post leaf-count-Inv-loop leaf-count-μ-loop
@@ -190,13 +155,15 @@ leaf-count-add-sum : (t : ℕ) → leaf-count-lts.Need-add-sum (
   count-at-reads.Learnt,
   filled-reads.Asked,
   filled-reads.Learnt,
-  inner-at-reads.Asked,
-  inner-at-reads.Learnt,
+  entry-at-reads.Asked,
+  entry-at-reads.Learnt,
   leaf-count-below t,
   leaf-count.Post,
 ) (leaf-count-at t) leaf-count.Post leaf-count-Inv-loop leaf-count-μ-loop
 leaf-count-add-sum t c = let S = (c .before .before .before .before .before .before .before .before .before) in let L = c .before .before .before .loop in
-    let e = count-next (now (S .args .index)) (S .args .level) (S .args .page) _ (L .inv .3) _ (L .inv .4) (S .args .level - 1) (L .i) (L .sum) _ _ _ (c .before .before .loop-test .taken) (c .leaf-count .ensures .0) (L .inv .5) in
+    let b = now (S .args .index) in
+    let r = c .leaf-count .ensures .0 ∙ ap (λ (x : Entry). leafCount (S .args .level - 1) b (x .child)) (c .before .entry-at .ensures) in
+    let e = count-next b (S .args .level) (S .args .page) (innerAt b (S .args .page)) refl _ (L .inv .3) (S .args .level - 1) (L .i) (L .sum) _ _ _ (c .before .before .loop-test .taken) r (L .inv .4) in
     let m = laws.count-fits (S .args .level) (now (S .args .index)) (S .args .page) (L .inv .1) in omega arith
 
 leaf-count-add-i : (t : ℕ) → leaf-count-lts.Need-add-i (
@@ -204,8 +171,8 @@ leaf-count-add-i : (t : ℕ) → leaf-count-lts.Need-add-i (
   count-at-reads.Learnt,
   filled-reads.Asked,
   filled-reads.Learnt,
-  inner-at-reads.Asked,
-  inner-at-reads.Learnt,
+  entry-at-reads.Asked,
+  entry-at-reads.Learnt,
   leaf-count-below t,
   leaf-count.Post,
 ) (leaf-count-at t) leaf-count.Post leaf-count-Inv-loop leaf-count-μ-loop
@@ -216,8 +183,8 @@ leaf-count-loop-less : (t : ℕ) → leaf-count-lts.Need-loop-less (
   count-at-reads.Learnt,
   filled-reads.Asked,
   filled-reads.Learnt,
-  inner-at-reads.Asked,
-  inner-at-reads.Learnt,
+  entry-at-reads.Asked,
+  entry-at-reads.Learnt,
   leaf-count-below t,
   leaf-count.Post,
 ) (leaf-count-at t) leaf-count.Post leaf-count-Inv-loop leaf-count-μ-loop
@@ -228,29 +195,31 @@ leaf-count-loop-again : (t : ℕ) → leaf-count-lts.Need-loop-again (
   count-at-reads.Learnt,
   filled-reads.Asked,
   filled-reads.Learnt,
-  inner-at-reads.Asked,
-  inner-at-reads.Learnt,
+  entry-at-reads.Asked,
+  entry-at-reads.Learnt,
   leaf-count-below t,
   leaf-count.Post,
 ) (leaf-count-at t) leaf-count.Post leaf-count-Inv-loop leaf-count-μ-loop
 leaf-count-loop-again t c = let S = (c .before .before .before .before .before .before .before .before .before) in let L = c .before .before .before .loop in
-    let e = count-next (now (S .args .index)) (S .args .level) (S .args .page) _ (L .inv .3) _ (L .inv .4) (S .args .level - 1) (L .i) (L .sum) _ _ _ (c .before .before .loop-test .taken) (c .leaf-count .ensures .0) (L .inv .5) in
-    (omega arith, L .inv .1, L .inv .2, L .inv .3, L .inv .4, e)
+    let b = now (S .args .index) in
+    let r = c .leaf-count .ensures .0 ∙ ap (λ (x : Entry). leafCount (S .args .level - 1) b (x .child)) (c .before .entry-at .ensures) in
+    let e = count-next b (S .args .level) (S .args .page) (innerAt b (S .args .page)) refl _ (L .inv .3) (S .args .level - 1) (L .i) (L .sum) _ _ _ (c .before .before .loop-test .taken) r (L .inv .4) in
+    (omega arith, L .inv .1, L .inv .2, L .inv .3, e)
 
 leaf-count-returns-3 : (t : ℕ) → leaf-count-lts.Need-returns-3 (
   count-at-reads.Asked,
   count-at-reads.Learnt,
   filled-reads.Asked,
   filled-reads.Learnt,
-  inner-at-reads.Asked,
-  inner-at-reads.Learnt,
+  entry-at-reads.Asked,
+  entry-at-reads.Learnt,
   leaf-count-below t,
   leaf-count.Post,
 ) (leaf-count-at t) leaf-count.Post leaf-count-Inv-loop leaf-count-μ-loop
 leaf-count-returns-3 t c = let S = (c .before .before .before .before .before .before .before) in let L = c .before .loop in
-    let e = count-end (now (S .args .index)) (S .args .level) (S .args .page) _ (L .inv .3) _ (L .inv .4) (S .args .level - 1) (L .i) (omega arith) in
+    let e = count-end (now (S .args .index)) (S .args .level) (S .args .page) (innerAt (now (S .args .index)) (S .args .page)) refl _ (L .inv .3) (S .args .level - 1) (L .i) (omega arith) in
     let m = count-most (S .args .level) (now (S .args .index)) (S .args .page) in
-    let v = L .inv .5 in (omega arith, omega arith)
+    let v = L .inv .4 in (omega arith, omega arith)
 
 pub +leaf-count-spec : {M : Type 1} → statement M
 +leaf-count-spec = close μ-leaf-count λ t. leaf-count-lts.spec (
@@ -258,8 +227,8 @@ pub +leaf-count-spec : {M : Type 1} → statement M
   count-at-reads.Learnt,
   filled-reads.Asked,
   filled-reads.Learnt,
-  inner-at-reads.Asked,
-  inner-at-reads.Learnt,
+  entry-at-reads.Asked,
+  entry-at-reads.Learnt,
   leaf-count-below t,
   leaf-count.Post,
 )
@@ -272,11 +241,8 @@ pub +leaf-count-spec : {M : Type 1} → statement M
     (leaf-count-cast-filled t)
     (leaf-count-filled-requires t)
     (leaf-count-returns-2 t)
-    (leaf-count-inner-at-requires t)
-    (leaf-count-filled-requires-2 t)
     (leaf-count-loop-holds t)
-    (leaf-count-mul-entry t)
-    (leaf-count-element-copy-out-entry t)
+    (leaf-count-entry-at-requires t)
     (leaf-count-sub-leaf-count t)
     (leaf-count-leaf-count-requires t)
     (leaf-count-add-sum t)

@@ -6,6 +6,7 @@ use denote.Ref.{now}
 use borrow.Author.Needs.{needs}
 use lib.ListN.{length, length-set}
 use Rattle.pagestore.specs.Store.RangeLaws.{pages-few}
+use Rattle.search.proofs.RoomLaws.{room-some, room-most}
 use Rattle.search.proofs.TurnLaws.{Visiting, visiting-start, visiting-out, visiting-empty, taken-good, visiting-stop, visiting-leaf, visiting-full, visiting-opens, visiting-open, stops-is}
 use Rattle.search.proofs.visit.best_first.Statement.{statement}
 use Rattle.search.proofs.visit.best_first.Tie as tie
@@ -20,7 +21,7 @@ root-key-requires : tie.Need-root-key-requires Inv-loop μ-loop
 root-key-requires c κs = c .before .before .before .before .before .before .pre .low
 
 slice-write-slots : tie.Need-slice-write-slots Inv-loop μ-loop
-slice-write-slots c = let r = c .before .before .before .before .before .before .before .pre .room in omega arith
+slice-write-slots c = let S = (c .before .before .before .before .before .before .before) in let r = S .pre .room in let s = room-some (now (S .args .index)) in omega arith
 
 page-count-requires : tie.Need-page-count-requires Inv-loop μ-loop
 page-count-requires c κs = search needs
@@ -100,7 +101,7 @@ entry-count-requires : tie.Need-entry-count-requires Inv-loop μ-loop
 entry-count-requires c κs = search needs
 
 add-if4 : tie.Need-add-if4 Inv-loop μ-loop
-add-if4 c = let v = c .before .before .before .before .before .before .before .before .before .before .before .before .before .before .before .loop .inv in let w = v .whole in let f = v .heap .fits in let m = c .entry-count .ensures .1 in omega arith
+add-if4 c = let v = c .before .before .before .before .before .before .before .before .before .before .before .before .before .before .before .loop .inv in let w = v .whole in let s = room-most (now (c .before .before .before .before .before .before .before .before .before .before .before .before .before .before .before .before .before .before .before .before .before .before .before .before .args .index)) in let f = v .heap .fits in let m = c .entry-count .ensures .1 in omega arith
 
 same-length-7 : tie.Need-same-length-7 Inv-loop μ-loop
 same-length-7 c = c .before .before .before .before .before .before .before .before .before .before .before .before .pop .kept .0 ∙ c .before .before .before .before .before .before .before .before .before .before .before .before .before .before .before .before .loop .inv .lengths ∙ length-set (now (c .before .before .before .before .before .before .before .before .before .before .before .before .before .before .before .before .before .before .before .before .before .before .before .before .before .args .slots)) 0 (c .before .before .before .before .before .before .before .before .before .before .before .before .before .before .before .before .before .before .root-key .result)
