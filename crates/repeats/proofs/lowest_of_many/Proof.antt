@@ -1,18 +1,18 @@
 -- `lowest_of_many` makes blank arrays for at most 65,535 identifiers.
-use mathlib.Core.Path.{refl}
+use mathlib.Core.Path.{refl, sym}
 use Rattle.repeats.proofs.LanesLaws.{blank, long, room}
 use borrow.Author.Needs.{needs}
 use Rattle.repeats.proofs.lowest_of_many.Statement.{statement}
 use Rattle.repeats.proofs.lowest_of_many.Tie as tie
 
 slice-aggregate-chain-and-walk : tie.Need-slice-aggregate-chain-and-walk
-slice-aggregate-chain-and-walk c = search needs
+slice-aggregate-chain-and-walk c = sym (long 16384)
 
 slice-aggregate-chain-and-walk-2 : tie.Need-slice-aggregate-chain-and-walk-2
-slice-aggregate-chain-and-walk-2 c = search needs
+slice-aggregate-chain-and-walk-2 c = sym (long 65535)
 
 slice-aggregate-chain-and-walk-3 : tie.Need-slice-aggregate-chain-and-walk-3
-slice-aggregate-chain-and-walk-3 c = search needs
+slice-aggregate-chain-and-walk-3 c = sym (long 262144)
 
 chain-and-walk-requires : tie.Need-chain-and-walk-requires
 chain-and-walk-requires c κs =
