@@ -15,7 +15,7 @@ use std::time::Instant;
 const FEATURES: [usize; 5] = [1, 2, 4, 8, 16];
 const SIZES: [usize; 3] = [1_000, 10_000, 65_535];
 const ROWS: [usize; 3] = [1, 10, 64];
-const ROUNDS: usize = 7;
+const ROUNDS: usize = 15;
 
 /// Seconds that a task takes.
 fn timed(task: impl FnOnce()) -> f64 {
