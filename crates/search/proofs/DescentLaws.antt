@@ -1,11 +1,11 @@
 -- The search from the root gives what the visit of all leaves by (bound, position) gives.
 use mathlib.Core.Path.{_≡_, refl, sym, ap, _∙_}
 use mathlib.Core.Bool.{Bool, false}
-use mathlib.Core.List.{List, [], _∷_}
+use mathlib.Core.List.{List, [], _∷_, map}
 use Prim.Native.Nat.{ℕ, zero, suc, _+_, _*_, _-_, _≤_, _<_}
 use native.Mathlib.Omega.{arith}
 use native.Mathlib.Nat.{le-refl}
-use lib.ListN.{length}
+use lib.ListN.{length, length-map}
 use borrow.Author.Tests.{lt-ltb, le-ltb, lt-leb}
 use Rattle.lists.specs.Basics.{All, none, also}
 use Rattle.lists.specs.Tests.{three, false-true}
@@ -18,9 +18,9 @@ use Rattle.bestfirst.specs.VisitLaws.{visit-read}
 use Rattle.candidates.specs.declared.Row.{Row}
 use Rattle.trees.specs.Trees.{Item, leaves}
 use Rattle.search.specs.Branches.{Branch, tied, before, isLeaf, opened, kids, rowsAt}
-use Rattle.search.specs.Visit.{ranking, answerOf}
-use Rattle.search.specs.Questions.{leafBound}
-use Rattle.search.proofs.FrameLaws.{Frame, Branching, inner, itemBranch, itemBranches, leafBranch, leafBranches, opened-is, under-inner, Ordered, ordered-kids, leaves-floor}
+use Rattle.search.specs.Visit.{ranking, answerOf, placed}
+use Rattle.search.specs.Questions.{leafBound, leafBranch}
+use Rattle.search.proofs.FrameLaws.{Frame, Branching, inner, itemBranch, itemBranches, leafBranches, opened-is, under-inner, Ordered, ordered-kids, leaves-floor}
 
 abbrev boundOf : Branch → ℕ
 boundOf x = x .bound
@@ -71,6 +71,15 @@ length-branches : (q : List ℕ) (d p l : ℕ) (ts : List (Item (suc l))) → le
 unfolding itemBranches
 length-branches q d p l [] = refl
 length-branches q d p l (t ∷ ts) = ap suc (length-branches q d (p + length (leaves l t)) l ts)
+
+-- what is seen of a visit: its rows, and the leaves read, each by its position and its page
+abbrev pub shown : Outcome Row Branch → List Row × List (ℕ × ℕ)
+shown o = (o .rows, map placed (o .read))
+
+pub shown-answer : (o u : Outcome Row Branch) → shown o ≡ shown u → answerOf o ≡ answerOf u
+shown-answer o u e =
+    let n : length (o .read) ≡ length (u .read) = sym (length-map (o .read) placed) ∙ ap (λ (x : List Row × List (ℕ × ℕ)). length (x .1)) e ∙ length-map (u .read) placed in
+    λ i. record { rows = e i .0; leaves = n i }
 
 module _ (c q : List ℕ) (d : ℕ) (low : 1 ≤ d) (high : d ≤ 16) (same : length q ≡ d) where
   abbrev Down : ℕ → Branch → Type 0
@@ -135,19 +144,19 @@ module _ (c q : List ℕ) (d : ℕ) (low : 1 ≤ d) (high : d ≤ 16) (same : le
 
   -- a root leaf is read, whatever its bound
   leaf-root : (k room m : ℕ) (one : 1 ≤ k) (t : Item 1)
-      → answerOf (seekFrom k room (suc m) one (record { bound = 0; place = 0; level = 0; page = t .0 })) ≡ answerOf (visitAll k room (suc m) one (leaves 0 t))
+      → shown (seekFrom k room (suc m) one (record { bound = 0; place = 0; level = 0; page = t .0 })) ≡ shown (visitAll k room (suc m) one (leaves 0 t))
   unfolding bestFirst leaves leafBranches leafBranch sort ins visit
   leaf-root k room m one t =
       let x : Branch = record { bound = 0; place = 0; level = 0; page = t .0 } in
       let y : Branch = leafBranch q d 0 t in
-      ap answerOf (seek-read ranking boundIn (rowsAt c q) before isLeaf (kids c q) k room m x [] [] (none-exceeds k 0 one) refl
+      ap shown (seek-read ranking boundIn (rowsAt c q) before isLeaf (kids c q) k room m x [] [] (none-exceeds k 0 one) refl
       ∙ ap (reading x) (seek-end ranking boundIn (rowsAt c q) before isLeaf (kids c q) k room m (offered ranking boundIn (rowsAt c q) k x [])))
-      ∙ sym (ap answerOf (visit-read ranking boundIn (rowsAt c q) k y [] [] (none-exceeds k (leafBound d q t) one)))
+      ∙ sym (ap shown (visit-read ranking boundIn (rowsAt c q) k y [] [] (none-exceeds k (leafBound d q t) one)))
 
   -- the search from the root of a tree gives what the visit of its leaves gives
   pub seek-is : (k room n : ℕ) (one : 1 ≤ k) (l : ℕ) (t : Item (suc l)) → Frame c d l t → Ordered d l t → length (leaves l t) ≤ room → 2 * length (leaves l t) ≤ n
-      → answerOf (seekFrom k room n one (record { bound = 0; place = 0; level = l; page = t .0 })) ≡ answerOf (visitAll k room n one (leaves l t))
+      → shown (seekFrom k room n one (record { bound = 0; place = 0; level = l; page = t .0 })) ≡ shown (visitAll k room n one (leaves l t))
   unfolding leaves
   seek-is k room zero one zero t f o r s = absurd (omega arith)
   seek-is k room (suc m) one zero t f o r s = leaf-root k room m one t
-  seek-is k room n one (suc l) t f o r s = ap answerOf (inner-root k room n one l t f o r s)
+  seek-is k room n one (suc l) t f o r s = ap shown (inner-root k room n one l t f o r s)

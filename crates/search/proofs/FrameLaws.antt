@@ -18,7 +18,7 @@ use Rattle.pagestore.specs.Store.{inRange, innerAt, entriesIn}
 use Rattle.trees.specs.Trees.{Item, noRecord, rankOf, firstKey, lastKey, records, leaves, entryOf}
 use Rattle.tree.specs.Lookup.{leafCount}
 use Rattle.search.specs.Branches.{Branch, isLeaf, spanBound, pageIn, branches, opened, kids}
-use Rattle.search.specs.Questions.{leafBound}
+use Rattle.search.specs.Questions.{leafBound, leafBranch}
 use Rattle.search.proofs.RecordLaws.{Right, from-first, to-last, span-part}
 
 -- the inner pages of c hold the tree t of level l; its leaves are pages
@@ -82,16 +82,12 @@ module _ (q : List ℕ) (d : ℕ) where
   itemBranches p l (t ∷ ts) = itemBranch p l t ∷ itemBranches (p + length (leaves l t)) l ts
 
   -- those of leaves, by position
-  unfoldable pub leafBranch : ℕ → Item 1 → Branch
-  unfolding leafBound
-  leafBranch p t = record { bound = leafBound d q t; place = p; level = 0; page = t .0 }
-
   unfoldable pub leafBranches : ℕ → List (Item 1) → List Branch
   unfolding leafBranch
   leafBranches p [] = []
-  leafBranches p (t ∷ ts) = leafBranch p t ∷ leafBranches (suc p) ts
+  leafBranches p (t ∷ ts) = leafBranch q d p t ∷ leafBranches (suc p) ts
 
-  pub leaf-branch : (p : ℕ) (t : Item 1) → itemBranch p 0 t ≡ leafBranch p t
+  pub leaf-branch : (p : ℕ) (t : Item 1) → itemBranch p 0 t ≡ leafBranch q d p t
   unfolding itemBranch leafBranch leafBound
   leaf-branch p t = rw (leaf-records t)
 
@@ -99,7 +95,7 @@ module _ (q : List ℕ) (d : ℕ) where
   unfolding leafBranches
   leaf-append p [] ys = ap (λ (n : ℕ). leafBranches n ys) (omega arith)
   leaf-append p (x ∷ xs) ys =
-      ap (λ (r : List Branch). leafBranch p x ∷ r) (leaf-append (suc p) xs ys ∙ ap (λ (n : ℕ). leafBranches (suc p) xs ++ leafBranches n ys) (omega arith))
+      ap (λ (r : List Branch). leafBranch q d p x ∷ r) (leaf-append (suc p) xs ys ∙ ap (λ (n : ℕ). leafBranches (suc p) xs ++ leafBranches n ys) (omega arith))
 
 -- an inner branch with any bound
 abbrev pub inner : ℕ → ℕ → (l : ℕ) → Item (suc (suc l)) → Branch

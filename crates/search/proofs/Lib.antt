@@ -3,6 +3,7 @@ pub mod FrameLaws
 pub mod DescentLaws
 pub mod RoomLaws
 pub mod SoundLaws
+pub mod SetLaws
 pub mod Promises
 pub mod LeafLaws
 pub mod KeyLaws

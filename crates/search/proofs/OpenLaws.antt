@@ -26,7 +26,8 @@ use Rattle.search.specs.Branches.{Branch, before, spanBound, branchOf, b
 use Rattle.search.specs.Keys.{keyOf, branchIn, Good, frontier}
 use Rattle.search.specs.Steps.{Asked, Heights, Opens, Opened}
 use Rattle.search.proofs.RecordLaws.{in-range}
-use Rattle.search.proofs.LeafLaws.{items-length, items-next, items-end, inner-slots, page-small}
+use Rattle.tree.proofs.CountLaws.{items-length, items-next, items-end, inner-slots}
+use Rattle.search.proofs.LeafLaws.{page-small}
 use Rattle.search.proofs.KeyLaws.{key-back, key-good, branches-ins}
 
 -- a bound of an asked point has 26 bits

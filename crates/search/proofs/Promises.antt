@@ -4,14 +4,14 @@ use mathlib.Core.Bool.{Bool, true, false, not}
 use mathlib.Core.List.{List, [], _∷_, _++_, map}
 use Prim.Native.Nat.{ℕ, zero, suc, _+_, _*_, _≤_, _<_, _/_}
 use native.Mathlib.Omega.{arith}
-use lib.ListN.{length, getD}
+use lib.ListN.{length, getD, length-map}
 use lib.Dec.{ltb, eqb}
 use borrow.Author.Tests.{eqb-true, eqb-false, eq-eqb, ltb-true, ltb-false, lt-ltb, le-ltb, ne-eqb}
 use Rattle.lists.specs.Basics.{All, none, also, all-map, flat, upFrom}
 use Rattle.lists.specs.Tests.{cases, false-true}
 use Rattle.lists.specs.Sorting.{keep, count, sort, Order}
 use Rattle.lists.specs.Orders.{by, lower, by-weak, by-same, lower-weak, lower-same, weak-order}
-use Rattle.lists.specs.SortingLaws.{keep-first, keep-past, count-append}
+use Rattle.lists.specs.SortingLaws.{keep-first, keep-past, keep-sort, count-append}
 use Rattle.lists.specs.FlatLaws.{all-both, all-every, all-mapped, map-append}
 use Rattle.lists.specs.Counts.{mult, mult-self, mult-more, mult-append, all-of-mult}
 use Rattle.geometry.specs.Points.{distance}
@@ -30,11 +30,11 @@ use Rattle.pagestore.specs.Store.RangeLaws.{pages-same, range-same}
 use Rattle.trees.specs.Trees.{Item, pointIn, leaves, pages, treeOf, leavesOf, identOf, live}
 use Rattle.trees.specs.Sound.{SoundIndex}
 use Rattle.search.specs.Branches.{Branch, tied, before, isLeaf, pageIn, kids, rootBranch, rowOf, rowsAt}
-use Rattle.search.specs.Visit.{ranking, Answer, answerOf, room, visited, readsNone, found}
-use Rattle.search.specs.Questions.{rowsFrom, rowsOf, leafBound, toRead, unreadPages, Kept, Exchanged, end, next, AgreeBut}
+use Rattle.search.specs.Visit.{ranking, Answer, answerOf, room, visited, readsNone, found, placed, leavesRead}
+use Rattle.search.specs.Questions.{rowsFrom, rowsOf, leafBound, leafBranch, toRead, setFrom, readingOrder, unreadPages, Kept, Exchanged, end, next, AgreeBut}
 use Rattle.search.proofs.RecordLaws.{span-floor}
-use Rattle.search.proofs.FrameLaws.{Frame, Ordered, Branching, leaf-records, parts-right, frame-range, leafBranch, leafBranches}
-use Rattle.search.proofs.DescentLaws.{branch-order, seek-is}
+use Rattle.search.proofs.FrameLaws.{Frame, Ordered, Branching, leaf-records, parts-right, frame-range, leafBranches}
+use Rattle.search.proofs.DescentLaws.{branch-order, shown, shown-answer, seek-is}
 use Rattle.search.proofs.RoomLaws.{room-enough}
 use Rattle.search.proofs.SoundLaws.{leafItems, records-leaves, tree-frame, tree-header, tree-hold, tree-level, tree-leaves, tree-pages, tree-ordered, tree-root, tree-once, none-held, leaves-ordered}
 
@@ -104,20 +104,28 @@ module _ (b : List ℕ) (s : SoundIndex b) (q : List ℕ) (same : length q ≡ v
   unfolding viewOf
   like-self = record { level = refl; total = refl; root = refl; pages = refl; frame = tree-frame b s }
 
-  found-like : (c : List ℕ) → Like c → 0 < v .total → found c q k ≡ answerOf (bestFirst ranking boundIn (rowsAt c q) k tied ls)
-  unfolding found readsNone visited leavesOf pageIn
-  found-like c h t =
+  reads-some : (c : List ℕ) → Like c → 0 < v .total → readsNone c ≡ false
+  unfolding readsNone
+  reads-some c h t =
       let z : eqb (fieldAt total c) 0 ≡ false = ne-eqb (fieldAt total c) 0 (omega (arith, h .total)) in
-      let w : ltb 4 (fieldAt level c) ≡ false = le-ltb 4 (fieldAt level c) (omega (arith, h .level, tree-level b s)) in
+      let w : ltb 4 (fieldAt level c) ≡ false = le-ltb 4 (fieldAt level c) (omega (arith, h .level, tree-level b s)) in rw (z, w)
+
+  -- the visit from the root is that of all leaves by (bound, position)
+  visited-like : (c : List ℕ) → Like c → 0 < v .total → shown (visited c q k) ≡ shown (bestFirst ranking boundIn (rowsAt c q) k tied ls)
+  unfolding visited leavesOf pageIn
+  visited-like c h t =
       let g : fieldAt root c ≡ treeOf v .0 = h .root ∙ sym (tree-root b s) in
       let e : pageIn c (fieldAt root c) ≡ treeOf v .0 = rw (g, frame-range c (v .d) (v .level) (treeOf v) (h .frame)) in
       let r : rootBranch c ≡ record { bound = 0; place = 0; level = v .level; page = treeOf v .0 } = λ i. record { bound = 0; place = 0; level = h .level i; page = e i } in
       let few : length (leaves (v .level) (treeOf v)) ≤ room c = room-enough c (length (leaves (v .level) (treeOf v))) (λ n g w. tree-leaves b s n g (omega (arith, h .total))) (omega (arith, h .total, s .most)) in
       let enough : length (leaves (v .level) (treeOf v)) ≤ pagesIn b = tree-pages b s in
       let n : pagesIn c ≡ pagesIn b = h .pages in
-      rw (z, w)
-      (ap (λ (x : Branch). answerOf (seek ranking boundIn (rowsAt c q) before isLeaf (kids c q) k (room c) (2 * pagesIn c) (x ∷ []) [])) r
-      ∙ seek-is c q (v .d) (s .d .0) (s .d .1) same k (room c) (2 * pagesIn c) one (v .level) (treeOf v) (h .frame) (tree-ordered b s t) few (omega arith))
+      ap (λ (x : Branch). shown (seek ranking boundIn (rowsAt c q) before isLeaf (kids c q) k (room c) (2 * pagesIn c) (x ∷ []) [])) r
+      ∙ seek-is c q (v .d) (s .d .0) (s .d .1) same k (room c) (2 * pagesIn c) one (v .level) (treeOf v) (h .frame) (tree-ordered b s t) few (omega arith)
+
+  found-like : (c : List ℕ) → Like c → 0 < v .total → found c q k ≡ answerOf (bestFirst ranking boundIn (rowsAt c q) k tied ls)
+  unfolding found
+  found-like c h t = rw (reads-some c h t) (shown-answer (visited c q k) (bestFirst ranking boundIn (rowsAt c q) k tied ls) (visited-like c h t))
 
   -- ---- THE ROWS AND THE LEAVES
 
@@ -177,6 +185,47 @@ module _ (b : List ℕ) (s : SoundIndex b) (q : List ℕ) (same : length q ≡ v
   -- leaves-exact: the count is the number of leaves in demand 3's set
   pub leaves-exact : (found b q k) .leaves ≡ count (toRead v q k) (leavesOf v)
   leaves-exact = ap (λ (f : Answer). f .leaves) found-exact
+
+  -- ---- WHICH LEAVES ARE READ
+
+  -- the branches of the leaves of the set
+  set-branches : (p : ℕ) (ts : List (Item 1)) → All (λ u. 0 < length (u .1)) ts → keep (λ x. inSet ranking k (rowsOf v q) (x .bound)) (leafBranches q (v .d) p ts) ≡ setFrom v q k p ts
+  unfolding keep leafBranches leafBranch setFrom toRead
+  set-branches p [] none = refl
+  set-branches p (u ∷ ts) (also h a) = rw (lt-ltb 0 (length (u .1)) h, set-branches (suc p) ts a)
+
+  read-some : 0 < v .total → leavesRead b q k ≡ readingOrder v q k
+  unfolding leavesRead readingOrder
+  read-some t =
+      rw (reads-some b like-self t)
+      (ap (λ (x : List Row × List (ℕ × ℕ)). x .1) (visited-like b like-self t)
+      ∙ ap (map placed)
+      (flatly.leaves-exact ranking row-order boundIn tied branch-order ls (rowsAt b q) floors k one
+      ∙ ap (λ (xs : List Row). keep (λ x. inSet ranking k xs (x .bound)) (sort before ls)) rows-all
+      ∙ keep-sort before branch-order (λ x. inSet ranking k (rowsOf v q) (x .bound)) ls
+      ∙ ap (sort before) (set-branches 0 us (leaves-some t))))
+
+  read-nothing : (c : List ℕ) → fieldAt total c ≡ 0 → leavesRead c q k ≡ []
+  unfolding leavesRead readsNone
+  read-nothing c e = rw (e)
+
+  set-none : (p : ℕ) (ts : List (Item 1)) → All (λ u. u .1 ≡ []) ts → setFrom v q k p ts ≡ []
+  unfolding setFrom toRead
+  set-none p [] none = refl
+  set-none p (u ∷ ts) (also h a) = rw (h, set-none (suc p) ts a)
+
+  read-none : v .total ≡ 0 → leavesRead b q k ≡ readingOrder v q k
+  unfolding viewOf readingOrder sort
+  read-none e = read-nothing b e ∙ sym (ap (λ (xs : List Branch). map placed (sort before xs)) (set-none 0 us (none-held b s e)))
+
+  -- leaves-read: which leaves are read, and in which order: those of the set, by (bound, position)
+  pub leaves-read : leavesRead b q k ≡ readingOrder v q k
+  leaves-read = cases (ltb 0 (v .total)) (λ e. read-some (ltb-true 0 (v .total) e)) (λ e. read-none (omega (arith, ltb-false 0 (v .total) e)))
+
+-- the count that is returned is that of the leaves read, on any bytes
+pub leaves-counted : (b q : List ℕ) (k : ℕ) → (found b q k) .leaves ≡ length (leavesRead b q k)
+unfolding found leavesRead
+leaves-counted b q k = cases (readsNone b) (λ e. rw e) (λ e. rw (e, length-map (visited b q k .read) placed))
 
 -- ---- PAGES OF THE TREE
 

@@ -29,7 +29,8 @@ use Rattle.search.specs.Branches.{Branch, before, isLeaf, branches, open
 use Rattle.search.specs.Keys.{keyOf, boundIn, placeIn, levelIn, numberIn, branchIn, Good, frontier}
 use Rattle.search.specs.Visit.{ranking, Answer, answerOf, room, visited}
 use Rattle.search.specs.Steps.{Asked, Heights, OfferedAll, Opens, Opened, Visits, Visited}
-use Rattle.search.proofs.LeafLaws.{items-length, page-small}
+use Rattle.tree.proofs.CountLaws.{items-length}
+use Rattle.search.proofs.LeafLaws.{page-small}
 use Rattle.search.proofs.KeyLaws.{key-back, key-good}
 use Rattle.search.proofs.RoomLaws.{room-some}
 

@@ -1,18 +1,24 @@
 -- What demands 2 and 3 call for, of the tree that an index holds: its rows, and the set of leaves to be read.
 use mathlib.Core.Path.{_≡_}
 use mathlib.Core.Bool.{Bool, true, not, _&&_}
+use mathlib.Core.Logic.{_⊎_}
 use mathlib.Core.List.{List, [], _∷_, _++_, map}
-use Prim.Native.Nat.{ℕ, suc, _/_}
+use Prim.Native.Nat.{ℕ, suc, _/_, _≤_, _<_}
 use lib.Dec.{ltb}
+use lib.IntN.{ℤ}
 use lib.ListN.{length, getD}
+use Rattle.lists.specs.Basics.{pick}
 use Rattle.lists.specs.Counts.{mult}
-use Rattle.lists.specs.Sorting.{keep}
-use Rattle.bestfirst.specs.Nearest.{inSet}
+use Rattle.lists.specs.Sorting.{keep, sort}
+use Rattle.geometry.specs.Points.{InRange, heightOf, pyramidOf, PairLe, distance}
+use Rattle.geometry.specs.Stored.{pointOf}
+use Rattle.bestfirst.specs.Nearest.{nearest, lastCost, inSet}
 use Rattle.candidates.specs.declared.Row.{Row}
+use Rattle.pagestore.specs.declared.Record.{Record}
 use Rattle.pagestore.specs.Store.{View}
-use Rattle.trees.specs.Trees.{Item, firstKey, lastKey, leavesOf}
-use Rattle.search.specs.Branches.{spanBound, rowOf}
-use Rattle.search.specs.Visit.{ranking}
+use Rattle.trees.specs.Trees.{Item, firstKey, lastKey, live, leavesOf}
+use Rattle.search.specs.Branches.{Branch, before, spanBound, rowOf}
+use Rattle.search.specs.Visit.{ranking, placed}
 
 -- the rows of leaves, the first of them at position p
 unfoldable pub rowsFrom : List ℕ → ℕ → List (Item 1) → List Row
@@ -35,6 +41,41 @@ leafBound d q t = spanBound q (firstKey d (t .1)) (lastKey d (t .1))
 unfoldable pub toRead : View → List ℕ → ℕ → Item 1 → Bool
 unfolding rowsOf leafBound
 toRead v q k t = ltb 0 (length (t .1)) && inSet ranking k (rowsOf v q) (leafBound (v .d) q t)
+
+-- The same set in the letter's own words (`set-points`). The span of the records rs has a whole-number point, within the coordinate range, no farther
+-- from the asked point a than m:
+pub record Near (d : ℕ) (a : List ℤ) (rs : List Record) (m : ℕ) : Type 0 where
+  pub point : List ℤ
+  pub features : length point ≡ length a
+  pub grid : InRange point
+  pub after : PairLe (firstKey d rs .pyramid .0) (firstKey d rs .height .0) (pyramidOf point) (heightOf point)
+  pub upto : PairLe (pyramidOf point) (heightOf point) (lastKey d rs .pyramid .0) (lastKey d rs .height .0)
+  pub near : distance a point ≤ m
+
+-- the distance of the last row that demand 2 calls for
+abbrev pub lastDistance : View → List ℕ → ℕ → ℕ
+lastDistance v q k = lastCost ranking (nearest ranking k (rowsOf v q))
+
+-- a leaf that demand 3 calls for: it holds records, and fewer than k points live or its span has such a point
+pub record Called (v : View) (q : List ℕ) (k : ℕ) (t : Item 1) : Type 0 where
+  pub some : 0 < length (t .1)
+  pub reach : (length (live v) < k) ⊎ Near (v .d) (pointOf q) (t .1) (lastDistance v q k)
+
+-- the leaf at position p as the search takes it, by (bound, position)
+unfoldable pub leafBranch : List ℕ → ℕ → ℕ → Item 1 → Branch
+unfolding leafBound
+leafBranch q d p t = record { bound = leafBound d q t; place = p; level = 0; page = t .0 }
+
+-- those of the set, the first leaf at position p
+unfoldable pub setFrom : View → List ℕ → ℕ → ℕ → List (Item 1) → List Branch
+unfolding toRead leafBranch
+setFrom v q k p [] = []
+setFrom v q k p (t ∷ ts) = pick (toRead v q k t) (leafBranch q (v .d) p t ∷ setFrom v q k (suc p) ts) (setFrom v q k (suc p) ts)
+
+-- the leaves of the set in the order in which they are read, each by its position and its page
+unfoldable pub readingOrder : View → List ℕ → ℕ → List (ℕ × ℕ)
+unfolding setFrom sort
+readingOrder v q k = map placed (sort before (setFrom v q k 0 (leavesOf v)))
 
 -- the pages of the leaves left unread
 unfoldable pub unreadPages : View → List ℕ → ℕ → List ℕ

@@ -1,6 +1,6 @@
 -- The search by itself, as a function of the bytes lent and of what is asked.
 use mathlib.Core.Bool.{Bool, true, _||_}
-use mathlib.Core.List.{List, [], _∷_}
+use mathlib.Core.List.{List, [], _∷_, map}
 use Prim.Native.Nat.{ℕ, _*_}
 use lib.Dec.{eqb, ltb}
 use lib.ListN.{length}
@@ -42,3 +42,12 @@ readsNone b = eqb (fieldAt total b) 0 || ltb 4 (fieldAt level b)
 unfoldable pub found : List ℕ → List ℕ → ℕ → Answer
 unfolding visited readsNone
 found b q k = pick (readsNone b) (record { rows = []; leaves = 0 }) (answerOf (visited b q k))
+
+-- a leaf by its position and its page
+abbrev pub placed : Branch → ℕ × ℕ
+placed x = (x .place, x .page)
+
+-- the leaves that are read for it, in the order of reading
+unfoldable pub leavesRead : List ℕ → List ℕ → ℕ → List (ℕ × ℕ)
+unfolding visited readsNone
+leavesRead b q k = pick (readsNone b) [] (map placed (visited b q k .read))

@@ -5,7 +5,6 @@ ghost use Rattle.search.specs.Branches.{spanBound, pageIn, branchOf};
 ghost use Rattle.search.specs.Keys.{boundIn, placeIn, levelIn, numberIn, keyOf};
 ghost use Rattle.search.specs.Steps.{Asked, Heights, Opens, Opened};
 use crate::leaves::filled;
-use crate::leaves::leaf_count;
 use geometry::Key;
 use geometry::Pair;
 use geometry::bounds::bound;
@@ -14,6 +13,7 @@ use pagestore::Entry;
 use pagestore::count_at;
 use pagestore::entry_at;
 use pagestore::in_range;
+use tree::leaf_count;
 
 // The branch of a key, field by field.
 pub fn bound_in(key: u64) -> u64

@@ -1,11 +1,10 @@
-// Leaves: how many are under a page, and the one function that reads leaf pages.
+// Leaves: the one function that reads leaf pages.
 ghost use mathlib.Core.Path.{_≡_};
 ghost use mathlib.Core.List.{map};
-ghost use Prim.Native.Nat.{_^_, _≤_, min};
+ghost use Prim.Native.Nat.{_≤_, min};
 ghost use lib.ListN.{length};
 ghost use Rattle.pagestore.specs.Store.{leafAt, recordsIn};
 ghost use Rattle.pagestore.specs.Layout.{leafOf};
-ghost use Rattle.tree.specs.Lookup.{leafCount};
 ghost use Rattle.candidates.specs.Held.{Held};
 ghost use Rattle.search.specs.Branches.{rowOf};
 ghost use Rattle.search.specs.Steps.{OfferedAll};
@@ -13,8 +12,6 @@ use candidates::Row;
 use candidates::offer;
 use geometry::points::squared_distance;
 use pagestore::Record;
-use pagestore::count_at;
-use pagestore::entry_at;
 use pagestore::in_range;
 use pagestore::read_count;
 use pagestore::read_record;
@@ -24,28 +21,6 @@ pub fn filled(count: usize) -> usize
     ensures { λ r. ⌜ r ≡ min count 16 ⌝ }
 {
     if count < 16 { count } else { 16 }
-}
-
-// The number of leaves under a page of a level.
-pub fn leaf_count(index: &[u8], level: usize, page: u32) -> usize
-    requires { ⌜ level ≤ 4 ⌝ }
-    ensures { λ r. ⌜ (r ≡ leafCount level (now (index .entry)) page) × (r ≤ 16 ^ level) ⌝ }
-{
-    if level == 0 {
-        return 1;
-    }
-    let n = filled(count_at(index, page) as usize);
-    if level == 1 {
-        return n;
-    }
-    let mut sum = 0;
-    let mut i = 0;
-    while i < n {
-        let entry = entry_at(index, page, i);
-        sum += leaf_count(index, level - 1, entry.child);
-        i += 1;
-    }
-    sum
 }
 
 // The row of a record in the leaf at a position.

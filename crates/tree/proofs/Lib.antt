@@ -1,1 +1,2 @@
 pub mod KeyedLaws
+pub mod CountLaws

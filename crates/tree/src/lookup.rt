@@ -1,17 +1,17 @@
 // Lookup: the record of an identifier, and the number of leaves.
 ghost use mathlib.Core.Path.{_≡_};
-ghost use Prim.Native.Nat.{_%_, _^_, _<_};
+ghost use Prim.Native.Nat.{_^_, _<_, _≤_};
 ghost use Rattle.lists.specs.Ascending.{headOr};
 ghost use Rattle.pagestore.specs.Store.{recordsIn};
 ghost use Rattle.tree_parts.specs.Lookup.{blank, withIdent, findUnder, findIn, leafCount};
 use pagestore::Leaf;
 use pagestore::Record;
 use pagestore::count_at;
+use pagestore::entry_at;
 use pagestore::inner_at;
 use pagestore::leaf_at;
 use pagestore::root_level;
 use pagestore::root_page;
-use std::num::wrapping_add_u32;
 use tree_parts::filled;
 use tree_parts::place_of_ident;
 
@@ -68,22 +68,24 @@ pub fn find(index: &[u8], id: u32) -> Record
     find_under(index, root, level, id)
 }
 
-// How many leaves lie below a page, modulo 2^32; a sound index has fewer. No leaf page is read.
-pub fn leaf_count(index: &[u8], page: u32, level: u8) -> u32
-    ensures { λ r. ⌜ r ≡ leafCount level (now (index .entry)) page % 2 ^ 32 ⌝ }
+// How many leaves lie below a page of a level. No leaf page is read.
+pub fn leaf_count(index: &[u8], level: usize, page: u32) -> usize
+    requires { ⌜ level ≤ 4 ⌝ }
+    ensures { λ r. ⌜ (r ≡ leafCount level (now (index .entry)) page) × (r ≤ 16 ^ level) ⌝ }
 {
     if level == 0 {
         return 1;
     }
-    let inner = inner_at(index, page);
-    let n = filled(inner.count);
-    let mut total = 0;
+    let n = filled(count_at(index, page) as usize);
+    if level == 1 {
+        return n;
+    }
+    let mut sum = 0;
     let mut i = 0;
     while i < n {
-        let e = inner.entries[i];
-        let below = leaf_count(index, e.child, level - 1);
-        total = wrapping_add_u32(total, below);
+        let entry = entry_at(index, page, i);
+        sum += leaf_count(index, level - 1, entry.child);
         i += 1;
     }
-    total
+    sum
 }

@@ -3,7 +3,7 @@ use mathlib.Core.Path.{_≡_, refl, sym, ap, _∙_}
 use mathlib.Core.Logic.{_≢_}
 use mathlib.Core.Bool.{Bool, true, false, not}
 use mathlib.Core.List.{List, [], _∷_, _++_}
-use Prim.Native.Nat.{ℕ, zero, suc, _+_, _-_, _%_, _^_, _≤_, _<_, min}
+use Prim.Native.Nat.{ℕ, zero, suc, _+_, _-_, _≤_, _<_, min}
 use native.Mathlib.Omega.{arith}
 use native.Mathlib.Numerals.{add-one, sub-one}
 use lib.Dec.{eqb}
@@ -13,7 +13,7 @@ use borrow.Author.Tests.{eqb-true, eqb-false, eq-eqb, ne-eqb}
 use Rattle.lists.specs.Basics.{pick, flat}
 use Rattle.lists.specs.Counts.{by-cases}
 use Rattle.lists.specs.Ascending.{headOr, head-append, head-any}
-use Rattle.lists.specs.Sorting.{keep, sum}
+use Rattle.lists.specs.Sorting.{keep}
 use Rattle.lists.specs.Leading.{leading, leading-le}
 use Rattle.pagestore.specs.declared.Record.{Record}
 use Rattle.pagestore.specs.declared.Entry.{Entry}
@@ -21,7 +21,7 @@ use Rattle.pagestore.specs.declared.Leaf.{Leaf}
 use Rattle.pagestore.specs.declared.Inner.{Inner}
 use Rattle.pagestore.specs.Store.{root, level, leafAt, innerAt, recordsIn, entriesIn, fieldAt}
 use Rattle.tree_parts.specs.Entries.{noEntry}
-use Rattle.tree_parts.specs.Lookup.{recordsUnder, withIdent, blank, findUnder, findIn, leafCount}
+use Rattle.tree_parts.specs.Lookup.{recordsUnder, withIdent, blank, findUnder, findIn}
 use Rattle.tree_parts.specs.CodeTerms.{otherIdent}
 
 -- ---- in a leaf
@@ -136,36 +136,3 @@ find-leaf l b p k m z e h = h ∙ rw (e, z)
 pub find-is : (b : List ℕ) (k : ℕ) {l p : ℕ} {x : Record} → l ≡ fieldAt level b → p ≡ fieldAt root b → x ≡ findUnder l b p k → x ≡ findIn b k
 unfolding findIn
 find-is b k l= p= h = h ∙ rw (l=, p=)
-
--- ---- leaves
-
--- total leaves have been counted, modulo 2^32, below the entries before place i
-abbrev pub Counts : ℕ → List ℕ → ℕ → List Entry → ℕ → ℕ → Type 0
-Counts l b p es i total = leafCount l b p % 2 ^ 32 ≡ (total + sum (λ e. leafCount (l - 1) b (e .child)) (drop i es)) % 2 ^ 32
-
-pub counts-start : (l : ℕ) (b : List ℕ) (p : ℕ) (m : Inner) → l ≢ 0 → m ≡ innerAt b p → Counts l b p (entriesIn m) 0 0
-unfolding leafCount
-counts-start zero b p m z e = absurd (z refl)
-counts-start (suc l) b p m z e = rw (sub-one, e) (omega arith)
-
-pub counts-next : (l : ℕ) (b : List ℕ) (p : ℕ) (slots : List Entry) (c i total n r : ℕ) → Counts l b p (take c slots) i total → i < c → i < length slots
-    → n ≡ leafCount (l - 1) b (getD slots i noEntry .child) % 2 ^ 32 → r ≡ (total + n) % 2 ^ 32 → Counts l b p (take c slots) (i + 1) r
-unfolding sum
-counts-next l b p slots c i total n r h g j e f =
-    let s : sum (λ e. leafCount (l - 1) b (e .child)) (drop i (take c slots)) ≡ leafCount (l - 1) b (getD slots i noEntry .child) + sum (λ e. leafCount (l - 1) b (e .child)) (drop (suc i) (take c slots)) =
-    rw (drop-cons (take c slots) i noEntry (omega (arith, length-take c slots)), getD-take c slots i noEntry g) refl in
-    rw (add-one i) (h ∙ wrapped total n r (leafCount (l - 1) b (getD slots i noEntry .child)) _ _ s e f)
-  where
-    wrapped : (t n r a s' s : ℕ) → s ≡ a + s' → n ≡ a % 2 ^ 32 → r ≡ (t + n) % 2 ^ 32 → (t + s) % 2 ^ 32 ≡ (r + s') % 2 ^ 32
-    wrapped t n r a s' s p q o = omega arith
-
-pub counts-end : (l : ℕ) (b : List ℕ) (p : ℕ) (es : List Entry) (i total : ℕ) → Counts l b p es i total → length es ≤ i → total < 2 ^ 32 → total ≡ leafCount l b p % 2 ^ 32
-unfolding sum
-counts-end l b p es i total h g f =
-    let d : drop i es ≡ [] = drop-of-length-le es {i = i} g in
-    let q : leafCount l b p % 2 ^ 32 ≡ (total + 0) % 2 ^ 32 = h ∙ rw d in
-    omega (arith, q)
-
-pub count-leaf : (l : ℕ) (b : List ℕ) (p : ℕ) → l ≡ 0 → 1 ≡ leafCount l b p % 2 ^ 32
-unfolding leafCount
-count-leaf l b p e = rw e

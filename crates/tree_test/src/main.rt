@@ -57,7 +57,11 @@ fn show_root(index: &[u8]) {
     show(pagestore::total_records(index));
     show(root);
     show(level as u32);
-    show(tree::leaf_count(index, root, level));
+    if level <= 4 {
+        let leaves = tree::leaf_count(index, level as usize, root);
+        io::print_decimal(1, leaves as u64);
+        io::write_all(1, b" ");
+    }
 }
 
 // Pages wanted by the insertion of 17, and the pages lent, the lowest never used and the one freed last.

@@ -9,7 +9,7 @@ use Rattle.pagestore.specs.Store.{innerAt}
 use Rattle.tree.specs.Lookup.{leafCount}
 use Rattle.search.specs.Branches.{branchOf}
 use Rattle.search.specs.Keys.{keyOf}
-use Rattle.search.proofs.LeafLaws.{inner-number}
+use Rattle.tree.proofs.CountLaws.{inner-number}
 use Rattle.search.proofs.OpenLaws.{Opening, opening-start, opening-place, opening-places, opening-next, opening-end}
 use Rattle.search.proofs.frontier.open_page.Statement.{statement}
 use Rattle.search.proofs.frontier.open_page.Tie as tie
