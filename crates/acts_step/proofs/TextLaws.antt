@@ -12,7 +12,8 @@ use Rattle.trees.specs.Sound.{Permitted}
 use Rattle.index.specs.Acts.{Act, question, Done, Series, end, next, heldBy}
 use Rattle.index.specs.Acts as acts
 use Rattle.promises.specs.Series.{Stands, series}
-use Rattle.promises.specs.Answers.{Answers, question-answers}
+use Rattle.index.specs.Answers.{Answers}
+use Rattle.promises.specs.Answers.{question-answers}
 use Rattle.acts_text.specs.declared.ActLine.{ActLine}
 use Rattle.acts_text.specs.Input.{kept}
 use Rattle.acts_text.proofs.LineLaws.{act-kept}

@@ -8,9 +8,4 @@ pub mod RangesLaws
 pub mod Promises
 pub mod Frontier
 pub mod FrontierLaws
-pub mod Pages
-pub mod PagesLaws
-pub mod PagePromises
-pub mod Turns
 pub mod Examples
-pub mod Items

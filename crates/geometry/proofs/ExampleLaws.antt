@@ -27,10 +27,10 @@ bound-holds q i lo hi B l k z o t e =
 abbrev asked : List ℤ
 asked = pos 500 ∷ pos 0 ∷ []
 
--- p-examples: every example of the list holds
-pub p-examples : All Holds examples
+-- every example of the list holds
+pub figures-hold : All Holds examples
 unfolding boundOf boundTo leastIn leastFrom sliceAt sliceBy sideBy axisNo signNo heightOf axisAt axisOf pyramidOf
-p-examples =
+figures-hold =
     also (pair-holds (pos 400 ∷ pos 400 ∷ []) 2 400 refl refl)
     (also (pair-holds (pos 0 ∷ pos 0 ∷ []) 2 0 refl refl)
     (also (pair-holds (pos 0 ∷ negℤ (pos 1) ∷ []) 1 1 refl refl)

@@ -14,6 +14,7 @@ use Rattle.trees.specs.Sound.{SoundIndex}
 use Rattle.index.specs.Refusals.{Rule, First, checkRules, insertRules, deleteRules, questionRules}
 use Rattle.index.specs.RefusalLaws.{Hold, numbered, all-hold, refused-before, refused-after, later}
 use Rattle.index.specs.Outcomes.{Decides}
+use Rattle.index.specs.Answers.{FoundAnswers, search-answers}
 use Rattle.index.specs.Trusted.{Suits, trustedPoint, trustedInsert, trustedQuestion, pairRules}
 use Rattle.index.specs.Vouched.{vouchedInsert, vouchedDelete}
 
@@ -119,3 +120,8 @@ vouched-fits b i p n f e = let h = none-refuses (vouchedInsert b i p) n refl f e
 pub may-search : (b : List ℕ) (p : List ℤ) (k lent n : ℕ) → First (trustedQuestion b p k lent) n → n ≡ 0
     → (1 ≤ length p) × (length p ≤ 16) × (inRange p ≡ true) × (1 ≤ k) × (k ≤ 64)
 may-search b p k lent n f e = let h = none-refuses (trustedQuestion b p k lent) n refl f e in (h .1 .1 .0 .0, h .1 .1 .0 .1, h .1 .1 .1 .0, h .1 .1 .1 .1 .0 .0, h .1 .1 .1 .1 .0 .1)
+
+-- and what it finds on a sound index
+pub trusted-answers : (b : List ℕ) (p : List ℤ) (k lent n : ℕ) → First (trustedQuestion b p k lent) n → n ≡ 0 → SoundIndex b → FoundAnswers b p k
+trusted-answers b p k lent n f e s =
+    let h = none-refuses (trustedQuestion b p k lent) n refl f e in search-answers b s p (h .1 .1 .0 .2) (h .1 .1 .1 .0) k (h .1 .1 .1 .1 .0 .0)

@@ -3,6 +3,8 @@ pub mod RefusalLaws
 pub mod Outcomes
 pub mod OutcomeLaws
 pub mod CheckAnswers
+pub mod PointLaws
+pub mod Answers
 pub mod Questions
 pub mod QuestionLaws
 pub mod Trusted
@@ -10,4 +12,3 @@ pub mod TrustedLaws
 pub mod Vouched
 pub mod VouchedLaws
 pub mod Acts
-pub mod PointLaws

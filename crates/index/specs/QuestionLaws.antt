@@ -24,6 +24,7 @@ use Rattle.lending.specs.Delivered.{Delivered, rowsAfter, tallyAfter}
 use Rattle.index.specs.Refusals.{Rule, First, questionRules}
 use Rattle.index.specs.RefusalLaws.{all-hold}
 use Rattle.index.specs.Outcomes.{unlessRefused, foundWith, nothingFound}
+use Rattle.index.specs.Answers.{FoundAnswers}
 use Rattle.index.specs.Questions.{written, QuestionedBy, OutcomeBy, Questioned, QuestionOutcome}
 
 module _ (lent : List Row) (l : Candidates) (f : Found) where
@@ -38,14 +39,14 @@ tally-by : (n : ℕ) (t u : Tally) → pick (eqb n 0) t u ≡ unlessRefused n t 
 tally-by zero t u = refl
 tally-by (suc n) t u = rw (ne-eqb (suc n) 0 (λ (e : suc n ≡ 0). omega arith))
 
-module _ (rules : List Rule) (b : List ℕ) (p : List ℤ) (k : ℕ) (lent : List Row) (tally : Tally) (o : Outcome) (a : OutcomeBy rules b p k o) where
+module _ (rules : List Rule) (means : Type 0) (b : List ℕ) (p : List ℤ) (k : ℕ) (lent : List Row) (tally : Tally) (o : Outcome) (a : OutcomeBy rules means b p k o) where
   -- where it is carried out, there is room for the k rows asked for
   module _ (room : o .answer .code ≡ 0 → (k ≤ 64) × (k ≤ length lent)) where
-    pub handed-over : (r : Answer) (lent' : List Row) (tally' : Tally) → Delivered o lent tally r lent' tally' → QuestionedBy rules b p k lent tally r lent' tally'
+    pub handed-over : (r : Answer) (lent' : List Row) (tally' : Tally) → Delivered o lent tally r lent' tally' → QuestionedBy rules means b p k lent tally r lent' tally'
     handed-over r lent' tally' h =
         let few : o .list .count ≤ k = a .few in
         let e : o .list .count ≡ length (foundWith (o .answer .code) b p k .rows) = a .listed ∙ a .count in
-        subst (λ (x : Answer). QuestionedBy rules b p k lent tally x lent' tally') (sym (h .same))
+        subst (λ (x : Answer). QuestionedBy rules means b p k lent tally x lent' tally') (sym (h .same))
         (record {
           first = a .first;
           count = a .count;
@@ -54,6 +55,7 @@ module _ (rules : List Rule) (b : List ℕ) (p : List ℤ) (k : ℕ) (lent : Lis
               ∙ rows-by lent (o .list) (found b (map stored p) k) (o .answer .code) (a .rows) e (λ z. let top : k ≤ 64 = room z .0 in
               let most : k ≤ length lent = room z .1 in filled-is (o .list) lent (a .distances) (a .tags) (omega arith) (omega arith));
           tallying = h .count ∙ tally-by (o .answer .code) (counted tally (o .answer .leaves)) tally;
+          carried = a .carried;
         })
 
 -- the act's: where it is carried out, its rules leave room
@@ -63,4 +65,4 @@ module _ (b : List ℕ) (p : List ℤ) (k : ℕ) (lent : List Row) (tally : Tall
       let w = all-hold (questionRules b p k (length lent)) refl (subst (First (questionRules b p k (length lent))) z f) in (w .1 .1 .1 .1 .0 .1, w .1 .1 .1 .1 .1 .0)
 
   pub question-hands : QuestionOutcome b p k (length lent) o → (r : Answer) (lent' : List Row) (tally' : Tally) → Delivered o lent tally r lent' tally' → Questioned b p k lent tally r lent' tally'
-  question-hands a = handed-over (questionRules b p k (length lent)) b p k lent tally o a (room (a .first))
+  question-hands a = handed-over (questionRules b p k (length lent)) (FoundAnswers b p k) b p k lent tally o a (room (a .first))

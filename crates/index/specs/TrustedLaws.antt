@@ -22,6 +22,7 @@ use Rattle.lending.specs.declared.Tally.{Tally}
 use Rattle.lending.specs.Delivered.{Delivered}
 use Rattle.index.specs.Refusals.{Rule, First, liveTimes, insertRules, deleteRules, questionRules}
 use Rattle.index.specs.RefusalLaws.{all-hold, later}
+use Rattle.index.specs.Answers.{FoundAnswers}
 use Rattle.index.specs.Questions.{QuestionOutcome, Questioned}
 use Rattle.index.specs.QuestionLaws.{handed-over}
 use Rattle.index.specs.Trusted.{Suits, trustedInsert, trustedDelete, trustedQuestion, numbers, TrustedOutcome, TrustedQuestioned}
@@ -124,7 +125,7 @@ module _ (b : List ℕ) (s : SoundIndex b) where
   -- and its outcome by value
   pub asked-same : (p : List ℤ) (k m : ℕ) (o : Outcome) → TrustedOutcome b p k m o → QuestionOutcome b p k m o
   asked-same p k m o a =
-      record { first = question-same p k m (o .answer .code) (a .first); listed = a .listed; few = a .few; count = a .count; leaves = a .leaves; rows = a .rows; distances = a .distances; tags = a .tags }
+      record { first = question-same p k m (o .answer .code) (a .first); listed = a .listed; few = a .few; count = a .count; leaves = a .leaves; rows = a .rows; distances = a .distances; tags = a .tags; carried = λ z. a .carried z s }
 
 -- ---- AN OUTCOME HANDED OVER
 
@@ -134,10 +135,10 @@ module _ (b : List ℕ) (p : List ℤ) (k : ℕ) (lent : List Row) (tally : Tall
       let w = all-hold (trustedQuestion b p k (length lent)) refl (subst (First (trustedQuestion b p k (length lent))) z f) in (w .1 .1 .1 .1 .0 .1, w .1 .1 .1 .1 .1 .0)
 
   pub trusted-hands : TrustedOutcome b p k (length lent) o → (r : Answer) (lent' : List Row) (tally' : Tally) → Delivered o lent tally r lent' tally' → TrustedQuestioned b p k lent tally r lent' tally'
-  trusted-hands a = handed-over (trustedQuestion b p k (length lent)) b p k lent tally o a (room (a .first))
+  trusted-hands a = handed-over (trustedQuestion b p k (length lent)) (SoundIndex b → FoundAnswers b p k) b p k lent tally o a (room (a .first))
 
 -- on a sound index the trusted question is the question
 pub questioned-same : (b : List ℕ) → SoundIndex b → (p : List ℤ) (k : ℕ) (lent : List Row) (tally : Tally) (r : Answer) (lent' : List Row) (tally' : Tally)
     → TrustedQuestioned b p k lent tally r lent' tally' → Questioned b p k lent tally r lent' tally'
 questioned-same b s p k lent tally r lent' tally' q =
-    record { first = question-same b s p k (length lent) (r .code) (q .first); count = q .count; leaves = q .leaves; rows = q .rows; tallying = q .tallying }
+    record { first = question-same b s p k (length lent) (r .code) (q .first); count = q .count; leaves = q .leaves; rows = q .rows; tallying = q .tallying; carried = λ z. q .carried z s }

@@ -4,3 +4,4 @@ pub mod Series
 pub mod Identifiers
 pub mod TrustedActs
 pub mod VouchedActs
+pub mod Examples

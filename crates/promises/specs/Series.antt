@@ -24,7 +24,8 @@ use Rattle.index.specs.RefusalLaws.{all-hold}
 use Rattle.index.specs.Outcomes.{unlessRefused}
 use Rattle.index.specs.Acts.{Act, insert, delete, question, check, Done, does, Does, Series, end, next, changedBy, heldAfter, heldBy}
 use Rattle.promises.specs.NewRecords.{record-fits, record-ok}
-use Rattle.promises.specs.Answers.{Answers, question-answers}
+use Rattle.index.specs.Answers.{Answers}
+use Rattle.promises.specs.Answers.{question-answers}
 
 -- a sound index of d features whose live records are rs, in key order
 pub record Stands (d : ℕ) (rs : List Record) (b : List ℕ) : Type 0 where

@@ -49,10 +49,10 @@ holds n k rows read one e f b s h =
           ∙ f (h .first) (h .second),
     )
 
--- p-examples: every example of the list holds
-pub p-examples : All Holds examples
+-- every example of the list holds
+pub answers-hold : All Holds examples
 unfolding upFrom keep count ins sort lex headOr lastOr heightOf axisAt axisOf pyramidOf distBy sideBy sliceBy axisNo signNo sliceAt leastFrom leastIn boundTo boundOf pointOf slotsOf candidates nearest kth inSet keyOf firstKey lastKey spanBound rowOf rowsFrom leafBound recordNo
-p-examples =
+answers-hold =
     also (holds 9 1 (9 ∷ []) 1 (lit≤ tt) (λ a b. refl) (λ a b. refl))
     (also (holds 9 2 (9 ∷ 8 ∷ []) 2 (lit≤ tt) (λ a b. refl) (λ a b. refl))
     (also (holds 1 9 (upFrom 1 9) 1 (lit≤ tt) (λ a b. refl) (λ a b. refl))
