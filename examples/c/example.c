@@ -5,6 +5,7 @@
 #include <stdlib.h>
 
 #include "epoch_index.h"
+#include "epoch_index_unchecked.h"
 
 #define LENGTH ((size_t)64 * EPOCH_INDEX_PAGE_BYTES)
 #define K 2

@@ -24,10 +24,12 @@
 #![warn(missing_docs)]
 
 mod acts;
+mod bytes;
 mod refusal;
 mod sys;
 mod tabled;
 
+pub use bytes::{StableBytes, StableBytesMut};
 pub use refusal::{Fault, Refusal};
 pub use tabled::TabledIndex;
 
@@ -81,7 +83,8 @@ fn found(act: sys::Question, index: &[u8], point: &[i16], k: usize, tally: &mut 
 
 /// An index in bytes that are owned (`Vec<u8>`) or borrowed (`&[u8]` to ask and check, `&mut [u8]` to change it too).
 ///
-/// Every act checks the index first: bytes that are no sound index are refused with [`Refusal::Unsound`].
+/// Every act checks the index first: bytes that are no sound index are refused with [`Refusal::Unsound`]. So any type that gives bytes will
+/// do: an act takes them from it once, and what it returns is right about those, whatever the type gives the next time.
 #[derive(Clone, Debug)]
 pub struct Index<B> {
     bytes: B,
@@ -91,12 +94,6 @@ impl<B: AsRef<[u8]>> Index<B> {
     /// The index that these bytes hold, if they hold one: each act finds out.
     pub fn over(bytes: B) -> Index<B> {
         Index { bytes }
-    }
-
-    /// Checks the bytes once. The bytes must stay those that `as_ref` gave, as they do for every type of std.
-    pub fn open(bytes: B) -> Result<SoundIndex<B>, Fault> {
-        acts::check(bytes.as_ref())?;
-        Ok(SoundIndex { bytes })
     }
 
     /// Whether the index is sound.
@@ -122,6 +119,14 @@ impl<B: AsRef<[u8]>> Index<B> {
     /// The bytes, given back.
     pub fn into_bytes(self) -> B {
         self.bytes
+    }
+}
+
+impl<B: StableBytes> Index<B> {
+    /// Checks the bytes once.
+    pub fn open(bytes: B) -> Result<SoundIndex<B>, Fault> {
+        acts::check(bytes.as_ref())?;
+        Ok(SoundIndex { bytes })
     }
 }
 
@@ -155,12 +160,27 @@ impl<B: AsRef<[u8]> + AsMut<[u8]>> Index<B> {
 /// bytes[4] = 2;
 /// sound.question(&[0], 1, &mut Tally::default()).unwrap();
 /// ```
+///
+/// The bytes are a [`StableBytes`]: `Vec<u8>`, `Box<[u8]>`, `&[u8]` or `&mut [u8]`. A type of one's own, which could give other bytes than
+/// those that were checked, is not taken:
+///
+/// ```compile_fail
+/// # use epoch_index::Index;
+/// struct Own(Vec<u8>);
+/// impl AsRef<[u8]> for Own {
+///     fn as_ref(&self) -> &[u8] {
+///         &self.0
+///     }
+/// }
+/// let _ = Index::over(Own(vec![0; 2048])).check(); // the acts take it
+/// let _ = Index::open(Own(vec![0; 2048]));
+/// ```
 #[derive(Clone, Debug)]
 pub struct SoundIndex<B> {
     bytes: B,
 }
 
-impl<B: AsRef<[u8]>> SoundIndex<B> {
+impl<B: StableBytes> SoundIndex<B> {
     /// The k records nearest to a point. The tally counts the question and the leaves it read.
     pub fn question(&self, point: &[i16], k: usize, tally: &mut Tally) -> Result<Found, Refusal> {
         found(sys::epoch_index_trusted_question, self.as_bytes(), point, k, tally)
@@ -197,7 +217,7 @@ impl<B: AsRef<[u8]>> SoundIndex<B> {
     }
 }
 
-impl<B: AsRef<[u8]> + AsMut<[u8]>> SoundIndex<B> {
+impl<B: StableBytesMut> SoundIndex<B> {
     /// Inserts an identifier with its point.
     pub fn insert(&mut self, id: u32, point: &[i16]) -> Result<(), Refusal> {
         acts::insert(sys::epoch_index_trusted_insert, self.bytes.as_mut(), id, point)

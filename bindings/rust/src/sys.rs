@@ -1,4 +1,4 @@
-//! The functions of libcapi.a, as include/epoch_index.h declares them.
+//! The functions of libcapi.a, as the headers in include/ declare them.
 use crate::{Row, Tally};
 
 /// What a question returns.

@@ -1,6 +1,6 @@
 //! A sound index with the table of its identifiers.
 use crate::{acts, sys};
-use crate::{Found, Refusal, Row, SoundIndex, Tally, MAX_FEATURES, PAGE_BYTES};
+use crate::{Found, Refusal, Row, SoundIndex, StableBytes, StableBytesMut, Tally, MAX_FEATURES, PAGE_BYTES};
 use std::collections::hash_map::{Entry, HashMap};
 
 type Point = [i16; MAX_FEATURES];
@@ -16,7 +16,7 @@ pub struct TabledIndex<B> {
     points: HashMap<u32, Point>,
 }
 
-impl<B: AsRef<[u8]>> TabledIndex<B> {
+impl<B: StableBytes> TabledIndex<B> {
     /// Reads every leaf of the index once.
     pub(crate) fn of(sound: SoundIndex<B>) -> TabledIndex<B> {
         let bytes = sound.as_bytes();
@@ -82,7 +82,7 @@ impl<B: AsRef<[u8]>> TabledIndex<B> {
     }
 }
 
-impl<B: AsRef<[u8]> + AsMut<[u8]>> TabledIndex<B> {
+impl<B: StableBytesMut> TabledIndex<B> {
     /// Inserts an identifier with its point.
     pub fn insert(&mut self, id: u32, point: &[i16]) -> Result<(), Refusal> {
         let bytes = self.sound.bytes.as_mut();

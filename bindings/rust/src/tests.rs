@@ -1,5 +1,6 @@
 //! The specification's examples, every refusal that is quick to reach, and a series of acts against a full scan.
 use super::*;
+use std::cell::Cell;
 use std::collections::BTreeMap;
 use std::error::Error;
 use std::mem::{align_of, size_of};
@@ -132,7 +133,7 @@ fn a_damaged_index_is_refused() {
     assert_eq!(index.insert(18, &[18]), Err(Refusal::Unsound));
     assert_eq!(index.delete(1), Err(Refusal::Unsound));
     assert_eq!(index.question(&[1], 1, &mut Tally::default()), Err(Refusal::Unsound));
-    assert_eq!(Index::open(&copy).unwrap_err(), fault);
+    assert_eq!(Index::open(&copy[..]).unwrap_err(), fault);
     assert_eq!(damaged, copy);
 }
 
@@ -222,6 +223,39 @@ fn a_sound_index_asks_borrowed_bytes() {
     assert_eq!(sound.question_into(&[9], 2, &mut rows, &mut tally), Err(Refusal::FewRows));
     assert_eq!(sound.question_into(&[9], 1, &mut rows, &mut tally), Ok((1, 1)));
     assert_eq!(tally, Tally { questions: 2, leaves: 3 });
+}
+
+/// The acts take any type that gives bytes, here one that gives damaged ones every other time: each answer is right about the bytes it got.
+#[test]
+fn acts_are_right_about_bytes_that_change() {
+    struct Changing(Cell<usize>, [Vec<u8>; 2]);
+    impl AsRef<[u8]> for Changing {
+        fn as_ref(&self) -> &[u8] {
+            self.0.set(1 - self.0.get());
+            &self.1[self.0.get()]
+        }
+    }
+    let whole = upward(4, 17).into_bytes();
+    let mut damaged = whole.clone();
+    damaged[2 * PAGE_BYTES + 5] ^= 0xff;
+    let index = Index::over(Changing(Cell::new(0), [whole, damaged]));
+    let mut tally = Tally::default();
+    for _ in 0..2 {
+        assert_eq!(index.question(&[9], 2, &mut tally), Err(Refusal::Unsound));
+        assert_eq!(ids(&index.question(&[9], 2, &mut tally).unwrap()), [9, 8]);
+    }
+}
+
+#[test]
+fn a_sound_index_changes_each_kind_of_bytes() {
+    let made = upward(4, 17).into_bytes();
+    let mut boxed = Index::open(made.clone().into_boxed_slice()).unwrap().with_identifiers();
+    boxed.insert(18, &[18]).unwrap();
+    let mut lent = made.clone();
+    Index::open(&mut lent[..]).unwrap().insert(18, &[18]).unwrap();
+    let mut owned = Index::open(made).unwrap();
+    owned.insert(18, &[18]).unwrap();
+    assert_eq!((boxed.as_bytes(), &lent[..]), (owned.as_bytes(), owned.as_bytes()));
 }
 
 /// The table holds the identifiers and points that a series has left, and no others.
