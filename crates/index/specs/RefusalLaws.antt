@@ -1,7 +1,8 @@
--- Laws of the refusal table: it gives one number at most, never 12, and an act that it does not refuse has every condition.
+-- Laws of the refusal table: it gives one number at most (and one at least: NumberLaws), never 12, and an act that it does not refuse has every
+-- condition.
 use mathlib.Core.Path.{_≡_, refl, sym, _∙_}
 use mathlib.Core.Bool.{Bool, true, false}
-use mathlib.Core.Logic.{_≢_, _⊎_, inl, inr}
+use mathlib.Core.Logic.{_≢_, inl, inr}
 use mathlib.Core.List.{List, [], _∷_, _++_}
 use Prim.Native.Nat.{ℕ, _<_}
 use native.Mathlib.Omega.{arith}
@@ -21,16 +22,6 @@ first-one (rule ∷ rules) m n (inl e) (inl f) = e .0 ∙ sym (f .0)
 first-one (rule ∷ rules) m n (inl e) (inr f) = absurd (e .1 (f .0))
 first-one (rule ∷ rules) m n (inr e) (inl f) = absurd (f .1 (e .0))
 first-one (rule ∷ rules) m n (inr e) (inr f) = first-one rules m n (e .1) (f .1)
-
--- and one at least, where each condition is decided
-abbrev pub Decided : List Rule → Type 0
-Decided [] = Unit {0}
-Decided (rule ∷ rules) = ((rule .1) ⊎ ¬ (rule .1)) × Decided rules
-
-pub first-some : (rules : List Rule) → Decided rules → (n : ℕ) × First rules n
-first-some [] d = (0, refl)
-first-some (rule ∷ rules) (inl h, d) = let r = first-some rules d in (r .0, inr (h, r .1))
-first-some (rule ∷ rules) (inr w, d) = (rule .0, inl (refl, w))
 
 -- ---- ROW 12
 
