@@ -23,17 +23,17 @@ Either P = P ⊎ ¬ P
 
 -- ---- tests
 
-le? : (a b : ℕ) → Either (a ≤ b)
+pub le? : (a b : ℕ) → Either (a ≤ b)
 le? a b = by-cases (leb a b) (λ e. inl (leb-true a b e)) (λ e. inr (λ l. omega (arith, leb-false a b e)))
 
-eq? : (a b : ℕ) → Either (a ≡ b)
+pub eq? : (a b : ℕ) → Either (a ≡ b)
 eq? a b = same? a b (λ e. inl e) (λ n. inr n)
 
 either-map : {P Q : Type 0} → (P → Q) → (Q → P) → Either P → Either Q
 either-map f g (inl p) = inl (f p)
 either-map f g (inr n) = inr (λ q. n (g q))
 
-both? : {P Q : Type 0} → Either P → Either Q → Either (P × Q)
+pub both? : {P Q : Type 0} → Either P → Either Q → Either (P × Q)
 both? (inl p) (inl q) = inl (p, q)
 both? (inl p) (inr n) = inr (λ x. n (x .1))
 both? (inr n) y = inr (λ x. n (x .0))
@@ -79,7 +79,7 @@ page? (inner l n es) (inner m k fs) =
 
 -- ---- the fields of soundness
 
-permitted? : (n : ℕ) → Either (Permitted n)
+pub permitted? : (n : ℕ) → Either (Permitted n)
 permitted? n =
     either-map (λ h. record { whole = h .0; low = h .1 .0; high = h .1 .1 }) (λ p. (p .whole, (p .low, p .high)))
     (both? (eq? (n % 1024) 0) (both? (le? 2048 n) (le? n 16777216)))

@@ -1,5 +1,6 @@
 pub mod Refusals
 pub mod RefusalLaws
+pub mod NumberLaws
 pub mod Outcomes
 pub mod OutcomeLaws
 pub mod CheckAnswers

@@ -1,15 +1,20 @@
--- Laws of the refusal table: it gives one number at most, and an act that it does not refuse has every condition.
+-- Laws of the refusal table: it gives one number at most (and one at least: NumberLaws), never 12, and an act that it does not refuse has every
+-- condition.
 use mathlib.Core.Path.{_≡_, refl, sym, _∙_}
 use mathlib.Core.Bool.{Bool, true, false}
-use mathlib.Core.Logic.{_≢_, _⊎_, inl, inr}
+use mathlib.Core.Logic.{_≢_, inl, inr}
 use mathlib.Core.List.{List, [], _∷_, _++_}
-use Prim.Native.Nat.{ℕ, _≤_, zero-le}
+use Prim.Native.Nat.{ℕ, _<_}
 use native.Mathlib.Omega.{arith}
-use lib.Dec.{leb}
-use borrow.Author.Tests.{leb-true}
-use Rattle.lists.specs.Basics.{pick}
-use Rattle.lists.specs.Tests.{cases, false-true}
-use Rattle.index.specs.Refusals.{Rule, First, deleteRules}
+use lib.Dec.{leb, eqb}
+use borrow.Author.Tests.{leb-true, ne-eqb}
+use Rattle.lists.specs.Basics.{pick, All, none, also}
+use Rattle.lists.specs.Counts.{mult, all-of-mult}
+use Rattle.lists.specs.Sorting.{count}
+use Rattle.lists.specs.Tests.{false-true}
+use Rattle.trees.specs.Sound.{SoundIndex}
+use Rattle.tree_laws.specs.SpacePromises.{pages-given}
+use Rattle.index.specs.Refusals.{Rule, First, liveTimes, pagesToEven, deleteRules}
 
 pub first-one : (rules : List Rule) (m n : ℕ) → First rules m → First rules n → m ≡ n
 first-one [] m n e f = e ∙ sym f
@@ -18,23 +23,25 @@ first-one (rule ∷ rules) m n (inl e) (inr f) = absurd (e .1 (f .0))
 first-one (rule ∷ rules) m n (inr e) (inl f) = absurd (f .1 (e .0))
 first-one (rule ∷ rules) m n (inr e) (inr f) = first-one rules m n (e .1) (f .1)
 
--- and one at least, where each condition is decided
-abbrev pub Decided : List Rule → Type 0
-Decided [] = Unit {0}
-Decided (rule ∷ rules) = ((rule .1) ⊎ ¬ (rule .1)) × Decided rules
+-- ---- ROW 12
 
-pub first-some : (rules : List Rule) → Decided rules → (n : ℕ) × First rules n
-first-some [] d = (0, refl)
-first-some (rule ∷ rules) (inl h, d) = let r = first-some rules d in (r .0, inr (h, r .1))
-first-some (rule ∷ rules) (inr w, d) = (rule .0, inl (refl, w))
+none-new : {xs : List ℕ} (ys : List ℕ) → All (λ q. 0 < mult q ys) xs → count (λ q. eqb (mult q ys) 0) xs ≡ 0
+unfolding count
+none-new ys none = refl
+none-new ys (also {x = q} h a) = let z = none-new ys a in rw (ne-eqb (mult q ys) 0 (λ e. omega (arith, h, e))) (omega arith)
 
--- 12 is never given: evening out two leaves wants no page
+-- evening out two leaves takes no page: on a sound index each page that a delete leaves in the tree was in it before
+pub evening-takes-none : (b : List ℕ) (i : ℕ) → SoundIndex b → 0 < liveTimes b i → pagesToEven b i ≡ 0
+unfolding pagesToEven
+evening-takes-none b i s h = none-new _ (all-of-mult _ (λ q g. omega (arith, pages-given b i s h q)))
+
+-- so 12 is never given
 pub never-twelve : (b : List ℕ) (i n : ℕ) → First (deleteRules b i) n → n ≢ 12
 never-twelve b i n (inl e) z = omega (arith, e .0)
 never-twelve b i n (inr (p, inl e)) z = omega (arith, e .0)
 never-twelve b i n (inr (p, inr (s, inl e))) z = omega (arith, e .0)
 never-twelve b i n (inr (p, inr (s, inr (o, inl e)))) z = omega (arith, e .0)
-never-twelve b i n (inr (p, inr (s, inr (o, inr (l, inl e))))) z = e .1 zero-le
+never-twelve b i n (inr (p, inr (s, inr (o, inr (l, inl e))))) z = e .1 (omega (arith, evening-takes-none b i s l))
 never-twelve b i n (inr (p, inr (s, inr (o, inr (l, inr (w, e)))))) z = omega (arith, e)
 
 -- all conditions
@@ -70,6 +77,12 @@ refused-before (rule ∷ xs) ys n w (inr e) = inr (e .0, refused-before xs ys n 
 pub refused-after : (xs ys : List Rule) (n : ℕ) → Hold xs → First ys n → First (xs ++ ys) n
 refused-after [] ys n h e = e
 refused-after (rule ∷ xs) ys n h e = inr (h .0, refused-after xs ys n (h .1) e)
+
+-- a rule that holds where those before it do, put among others
+pub put-in : (xs ys : List Rule) (rule : Rule) (n : ℕ) → (Hold xs → rule .1) → First (xs ++ ys) n → First (xs ++ (rule ∷ ys)) n
+put-in [] ys rule n h f = inr (h tt, f)
+put-in (x ∷ xs) ys rule n h (inl e) = inl e
+put-in (x ∷ xs) ys rule n h (inr e) = inr (e .0, put-in xs ys rule n (λ w. h (e .0, w)) (e .1))
 
 -- rules without the first one
 abbrev pub later : List Rule → List Rule

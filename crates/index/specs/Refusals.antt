@@ -5,15 +5,19 @@ use mathlib.Core.Bool.{true}
 use mathlib.Core.Logic.{_⊎_}
 use mathlib.Core.List.{List, [], _∷_, map}
 use Prim.Native.Nat.{ℕ, _≤_, _<_}
+use lib.Dec.{eqb}
 use lib.IntN.{ℤ}
 use lib.ListN.{length}
 use Rattle.lists.specs.Counts.{mult}
+use Rattle.lists.specs.Sorting.{count}
 use Rattle.geometry.specs.Stored.{slotsOf, inRange}
 use Rattle.pagestore.specs.declared.Record.{Record}
 use Rattle.pagestore.specs.Store.{View, viewOf, freeAt}
 use Rattle.trees.specs.Trees.{identOf, live}
 use Rattle.trees.specs.Sound.{Permitted, SoundIndex}
 use Rattle.tree.specs.Insertion.{pagesWanted}
+use Rattle.tree_laws.specs.DeletePromises.{deleteIdent}
+use Rattle.tree_laws.specs.SpacePromises.{treePages}
 
 -- a number with its condition
 abbrev pub Rule : Type 1
@@ -32,9 +36,9 @@ recordOf i p = record { id = i; coords = slotsOf p }
 abbrev pub liveTimes : List ℕ → ℕ → ℕ
 liveTimes b i = mult i (map identOf (live (viewOf b)))
 
--- the pages that delete wants for evening out two leaves: a partner gives an entry, or the two join, so none
-abbrev pub pagesToEven : ℕ
-pagesToEven = 0
+-- how many pages the delete of identifier i takes for evening out: those in the tree afterwards that are not in it before
+unfoldable pub pagesToEven : List ℕ → ℕ → ℕ
+pagesToEven b i = count (λ p. eqb (mult p (treePages b)) 0) (treePages (deleteIdent b i))
 
 -- b: the bytes lent. d: features. i: an identifier. p: a point. k: rows asked for. n: rows lent.
 
@@ -62,7 +66,7 @@ deleteRules b i =
     ∷ (2, SoundIndex b)
     ∷ (5, 1 ≤ i)
     ∷ (7, 0 < liveTimes b i)
-    ∷ (12, pagesToEven ≤ length (freeAt b))
+    ∷ (12, pagesToEven b i ≤ length (freeAt b))
     ∷ []
 
 abbrev pub questionRules : List ℕ → List ℤ → ℕ → ℕ → List Rule

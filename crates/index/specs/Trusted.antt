@@ -1,7 +1,8 @@
 -- The acts without the check, for an index that the caller knows to be sound: the act's numbers in its order.
 -- Nothing is known of the bytes here, so some conditions are other ones. 2 asks for the part of soundness that is tested without a look at the pages:
 -- the header's level is one that a sound index can have, and an identifier is looked for along at most 16 ^ 4 paths. 3 asks for d too (01: "d, or the
--- number of coordinates, is wrong"), and 6, 7 and 8 go by what finding an identifier gives and by the header's total.
+-- number of coordinates, is wrong"), and 6, 7 and 8 go by what finding an identifier gives and by the header's total. 12 is left out: which pages
+-- a delete takes is known of sound indexes alone, and there it takes none.
 -- On a sound index each rule is the act's (TrustedLaws).
 use mathlib.Core.Path.{_≡_}
 use mathlib.Core.Bool.{true}
@@ -20,7 +21,7 @@ use Rattle.lending.specs.declared.Answer.{Answer}
 use Rattle.lending.specs.declared.Outcome.{Outcome}
 use Rattle.lending.specs.declared.Tally.{Tally}
 use Rattle.candidates.specs.declared.Row.{Row}
-use Rattle.index.specs.Refusals.{Rule, First, recordOf, pagesToEven}
+use Rattle.index.specs.Refusals.{Rule, First, recordOf}
 use Rattle.index.specs.Answers.{FoundAnswers}
 use Rattle.index.specs.Questions.{OutcomeBy, QuestionedBy}
 
@@ -46,7 +47,6 @@ trustedDelete b i =
     ∷ (2, fieldAt level b ≤ 4)
     ∷ (5, 1 ≤ i)
     ∷ (7, findIn b i .id ≢ 0)
-    ∷ (12, pagesToEven ≤ length (freeAt b))
     ∷ []
 
 abbrev pub trustedQuestion : List ℕ → List ℤ → ℕ → ℕ → List Rule

@@ -1,16 +1,16 @@
 -- On a sound index an act without the check gives the act's number.
 use mathlib.Core.Path.{_≡_, refl, sym, ap, _∙_, subst}
 use mathlib.Core.Logic.{_≢_, inl, inr}
-use mathlib.Core.List.{List, [], _∷_}
+use mathlib.Core.List.{List, [], _∷_, _++_}
 use Prim.Native.Nat.{ℕ, _≤_, _<_}
 use native.Mathlib.Omega.{arith}
 use lib.IntN.{ℤ}
 use lib.ListN.{length}
 use Rattle.lists.specs.Tests.{decide}
 use Rattle.pagestore.specs.declared.Record.{Record}
-use Rattle.pagestore.specs.Store.{View, viewOf, fieldAt, level}
+use Rattle.pagestore.specs.Store.{View, viewOf, fieldAt, level, freeAt}
 use Rattle.trees.specs.Trees.{live}
-use Rattle.trees.specs.Sound.{SoundIndex}
+use Rattle.trees.specs.Sound.{Permitted, SoundIndex}
 use Rattle.tree.specs.Lookup.{findIn}
 use Rattle.tree_laws.specs.LookupPromises.{find-ident, find-none}
 use Rattle.search.proofs.SoundLaws.{tree-level}
@@ -20,19 +20,19 @@ use Rattle.lending.specs.declared.Candidates.{Candidates}
 use Rattle.lending.specs.declared.Outcome.{Outcome}
 use Rattle.lending.specs.declared.Tally.{Tally}
 use Rattle.lending.specs.Delivered.{Delivered}
-use Rattle.index.specs.Refusals.{Rule, First, liveTimes, insertRules, deleteRules, questionRules}
-use Rattle.index.specs.RefusalLaws.{all-hold, later}
+use Rattle.index.specs.Refusals.{Rule, First, liveTimes, pagesToEven, insertRules, deleteRules, questionRules}
+use Rattle.index.specs.RefusalLaws.{evening-takes-none, all-hold, put-in, later}
 use Rattle.index.specs.Answers.{FoundAnswers}
 use Rattle.index.specs.Questions.{QuestionOutcome, Questioned}
 use Rattle.index.specs.QuestionLaws.{handed-over}
 use Rattle.index.specs.Trusted.{Suits, trustedInsert, trustedDelete, trustedQuestion, numbers, TrustedOutcome, TrustedQuestioned}
 
--- ---- THE NUMBERS: THE ACT'S, IN ITS ORDER
+-- ---- THE NUMBERS: THE ACT'S, IN ITS ORDER; A DELETE'S BUT FOR 12, ITS LAST
 
 pub insert-numbers : (b : List ℕ) (i : ℕ) (p : List ℤ) → numbers (trustedInsert b i p) ≡ numbers (insertRules b i p)
 insert-numbers b i p = refl
 
-pub delete-numbers : (b : List ℕ) (i : ℕ) → numbers (trustedDelete b i) ≡ numbers (deleteRules b i)
+pub delete-numbers : (b : List ℕ) (i : ℕ) → numbers (trustedDelete b i) ++ (12 ∷ []) ≡ numbers (deleteRules b i)
 delete-numbers b i = refl
 
 pub question-numbers : (b : List ℕ) (p : List ℤ) (k n : ℕ) → numbers (trustedQuestion b p k n) ≡ numbers (questionRules b p k n)
@@ -90,17 +90,22 @@ module _ (b : List ℕ) (s : SoundIndex b) where
       total : length (live (viewOf b)) < 65535 → viewOf b .total < 65535
       total h = omega (arith, s .total)
 
-  pub delete-same : (i n : ℕ) → First (trustedDelete b i) n → First (deleteRules b i) n
-  delete-same i n (inl e) = inl e
-  delete-same i n (inr (h, inl e)) = absurd (e .1 level-low)
-  delete-same i n (inr (h, inr f)) =
+  -- those of delete but for 12
+  abbrev liveRules : ℕ → List Rule
+  liveRules i =
+      (1, Permitted (length b))
+      ∷ (2, SoundIndex b)
+      ∷ (5, 1 ≤ i)
+      ∷ (7, 0 < liveTimes b i)
+      ∷ []
+
+  live-same : (i n : ℕ) → First (trustedDelete b i) n → First (liveRules i) n
+  live-same i n (inl e) = inl e
+  live-same i n (inr (h, inl e)) = absurd (e .1 level-low)
+  live-same i n (inr (h, inr f)) =
       inr (
         h,
-        inr (
-          s,
-          first-alike (later (later (trustedDelete b i))) (later (later (deleteRules b i)))
-              (refl, λ h. h, λ h. h, λ l. (refl, λ h. is-live h, λ h. is-found l h, λ w. (refl, λ h. h, λ h. h, λ w. tt))) n (f .1),
-        ),
+        inr (s, first-alike (later (later (trustedDelete b i))) (later (later (liveRules i))) (refl, λ h. h, λ h. h, λ l. (refl, λ h. is-live h, λ h. is-found l h, λ w. tt)) n (f .1)),
       )
     where
       is-live : findIn b i .id ≢ 0 → 0 < liveTimes b i
@@ -108,6 +113,10 @@ module _ (b : List ℕ) (s : SoundIndex b) where
 
       is-found : 1 ≤ i → 0 < liveTimes b i → findIn b i .id ≢ 0
       is-found l h e = omega (arith, not-live i l e)
+
+  -- 12 holds where the identifier is live
+  pub delete-same : (i n : ℕ) → First (trustedDelete b i) n → First (deleteRules b i) n
+  delete-same i n f = put-in (liveRules i) [] (12, pagesToEven b i ≤ length (freeAt b)) n (λ w. omega (arith, evening-takes-none b i s (w .1 .1 .1 .0))) (live-same i n f)
 
   pub question-same : (p : List ℤ) (k m n : ℕ) → First (trustedQuestion b p k m) n → First (questionRules b p k m) n
   question-same p k m n (inl e) = inl e

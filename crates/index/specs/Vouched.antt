@@ -15,7 +15,7 @@ use Rattle.tree.specs.Insertion.{pagesWanted}
 use Rattle.tree.specs.Deletion.{deleteFrom}
 use Rattle.tree.specs.Lookup.{findIn}
 use Rattle.tree.specs.Keyed.{holdsAt}
-use Rattle.index.specs.Refusals.{Rule, recordOf, liveTimes, pagesToEven}
+use Rattle.index.specs.Refusals.{Rule, recordOf, liveTimes}
 use Rattle.index.specs.Outcomes.{unlessRefused}
 use Rattle.index.specs.Trusted.{Suits}
 
@@ -38,7 +38,6 @@ vouchedDelete b i p =
     ∷ (4, inRange p ≡ true)
     ∷ (5, 1 ≤ i)
     ∷ (7, holdsAt b (recordOf i p) ≡ true)
-    ∷ (12, pagesToEven ≤ length (freeAt b))
     ∷ []
 
 -- what a delete with number n leaves; what an insert leaves is `insertedWith`

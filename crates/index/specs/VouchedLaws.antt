@@ -3,8 +3,8 @@
 use mathlib.Core.Path.{_≡_, refl, sym, ap, _∙_, subst}
 use mathlib.Core.Bool.{true}
 use mathlib.Core.Logic.{_≢_, inl, inr}
-use mathlib.Core.List.{List, [], _∷_, _++_, map}
-use Prim.Native.Nat.{ℕ, zero, suc, _+_, _-_, _≤_, _<_, zero-le}
+use mathlib.Core.List.{List, [], _∷_, map}
+use Prim.Native.Nat.{ℕ, zero, suc, _+_, _-_, _≤_, _<_}
 use native.Mathlib.Omega.{arith}
 use lib.Dec.{leb, ltb}
 use lib.IntN.{ℤ, natAbs}
@@ -25,8 +25,8 @@ use Rattle.tree.specs.Keyed.{holdsAt}
 use Rattle.tree_laws.specs.LookupPromises.{find-ident, find-none}
 use Rattle.tree_laws.specs.KeyedPromises.{Twin, holds-found, found-holds, found-all, found-fits, delete-twin}
 use Rattle.search.proofs.SoundLaws.{tree-level}
-use Rattle.index.specs.Refusals.{Rule, First, recordOf, liveTimes, insertRules, deleteRules}
-use Rattle.index.specs.RefusalLaws.{first-one, all-hold, none-fails, later}
+use Rattle.index.specs.Refusals.{First, recordOf, liveTimes, insertRules, deleteRules}
+use Rattle.index.specs.RefusalLaws.{evening-takes-none, first-one, all-hold, none-fails, put-in}
 use Rattle.index.specs.PointLaws.{slots-own}
 use Rattle.index.specs.Trusted.{Suits, trustedInsert, pairRules, roomRules}
 use Rattle.index.specs.TrustedLaws.{insert-same}
@@ -50,20 +50,13 @@ unfolding pointOf inRange
 point-ranges none = refl
 point-ranges (also {x = x} h t) = rw (le-leb (natAbs (coordOf x)) 1000 (omega (arith, coord-magnitude x))) (point-ranges t)
 
--- ---- A RULE THAT HOLDS, PUT AMONG OTHERS
-
-put-in : (xs ys : List Rule) (rule : Rule) (n : ℕ) → rule .1 → First (xs ++ ys) n → First (xs ++ (rule ∷ ys)) n
-put-in [] ys rule n h f = inr (h, f)
-put-in (x ∷ xs) ys rule n h (inl e) = inl e
-put-in (x ∷ xs) ys rule n h (inr e) = inr (e .0, put-in xs ys rule n h (e .1))
-
 -- ---- ON A SOUND INDEX
 
 module _ (b : List ℕ) (s : SoundIndex b) (i : ℕ) (p : List ℤ) where
   -- an identifier that is not live
   pub insert-vouched : liveTimes b i ≡ 0 → (n : ℕ) → First (vouchedInsert b i p) n → First (insertRules b i p) n
   insert-vouched z n f =
-      insert-same b s i p n (put-in (pairRules b i p) (roomRules b i p) (6, findIn b i .id ≡ 0) n (ap (λ (r : Record). r .id) (find-none b i s z)) f)
+      insert-same b s i p n (put-in (pairRules b i p) (roomRules b i p) (6, findIn b i .id ≡ 0) n (λ w. ap (λ (r : Record). r .id) (find-none b i s z)) f)
 
   level-low : fieldAt level b ≤ 4
   unfolding viewOf
@@ -104,11 +97,11 @@ module _ (b : List ℕ) (s : SoundIndex b) (i : ℕ) (p : List ℤ) where
     -- is not refused, by the act or by the vouched delete
     carried : First (vouchedDelete b i p) 0
     unfolding viewOf
-    carried = none-fails (vouchedDelete b i p) (s .lent, (level-low, (suits, (ranges, (some, (found-holds b s (recordOf i p) (h .0) twin, (zero-le, tt)))))))
+    carried = none-fails (vouchedDelete b i p) (s .lent, (level-low, (suits, (ranges, (some, (found-holds b s (recordOf i p) (h .0) twin, tt))))))
 
     deletes : First (deleteRules b i) 0
     unfolding viewOf
-    deletes = none-fails (deleteRules b i) (s .lent, (s, (some, (h .0, (zero-le, tt)))))
+    deletes = none-fails (deleteRules b i) (s .lent, (s, (some, (h .0, (omega (arith, evening-takes-none b i s (h .0)), tt)))))
 
     pub delete-vouched : (n : ℕ) → First (vouchedDelete b i p) n → First (deleteRules b i) n
     delete-vouched n f = subst (First (deleteRules b i)) (first-one (vouchedDelete b i p) 0 n carried f) deletes
@@ -136,5 +129,4 @@ vouched-number b i p n (inr (a, inr (c, inl e))) = omega (arith, e .0)
 vouched-number b i p n (inr (a, inr (c, inr (d, inl e)))) = omega (arith, e .0)
 vouched-number b i p n (inr (a, inr (c, inr (d, inr (f, inl e))))) = omega (arith, e .0)
 vouched-number b i p n (inr (a, inr (c, inr (d, inr (f, inr (g, inl e)))))) = omega (arith, e .0)
-vouched-number b i p n (inr (a, inr (c, inr (d, inr (f, inr (g, inr (h, inl e))))))) = absurd (e .1 zero-le)
-vouched-number b i p n (inr (a, inr (c, inr (d, inr (f, inr (g, inr (h, inr e))))))) = omega (arith, e .1)
+vouched-number b i p n (inr (a, inr (c, inr (d, inr (f, inr (g, inr e)))))) = omega (arith, e .1)

@@ -243,7 +243,7 @@ unfolding gives
 gives-below b n p q ps (two e a c f g) l h = below-more b n ps h
 gives-below b n p q ps (one e a c) l h = below-cons b n q ps l h
 
-root-level : (d l : ℕ) (b : List ℕ) (t : Item (suc l)) → Held d (suc l) b t → levelAt b (t .0) ≡ l
+pub root-level : (d l : ℕ) (b : List ℕ) (t : Item (suc l)) → Held d (suc l) b t → levelAt b (t .0) ≡ l
 unfolding Held
 root-level d l b t h = sym (page-level b (t .0)) ∙ ap levelOf (h .0) ∙ level-node d l (t .1)
 

@@ -3,6 +3,7 @@ pub mod InsertPromises
 pub mod DeletePromises
 pub mod NewPromises
 pub mod SpacePromises
+pub mod ChildPromises
 pub mod LookupPromises
 pub mod KeyedPromises
 pub mod UpwardExample

@@ -88,12 +88,12 @@ unfolding chosen choose
 chosen-lt d l k [] h = absurd (omega arith)
 chosen-lt d l k (t ∷ ts) h = omega (arith, above-le k (map (entryOf d l) ts), length-map ts (entryOf d l))
 
+pub first-rank : (d l : ℕ) (t : Item (suc l)) → keyNumber (entryOf d l t .first) ≡ rankOf d (headOr noRecord (records (suc l) t))
+unfolding entryOf firstKey rankOf
+first-rank d l t = refl
+
 -- In rising records those before the child chosen are below k, and those behind it above.
 module _ (d l k : ℕ) where
-  first-rank : (t : Item (suc l)) → keyNumber (entryOf d l t .first) ≡ rankOf d (headOr noRecord (records (suc l) t))
-  unfolding entryOf firstKey rankOf
-  first-rank t = refl
-
   from-first : (xs ys : List Record) → 0 < length xs → Rising (rankOf d) (xs ++ ys) → All (λ y. rankOf d (headOr noRecord xs) ≤ rankOf d y) (xs ++ ys)
   unfolding headOr
   from-first [] ys h r = absurd (omega arith)
@@ -105,7 +105,7 @@ module _ (d l k : ℕ) where
   low u [] r n = none
   low u (w ∷ ws) r (also p n) =
       bool-cases (λ c. All (λ x. rankOf d x < k) (flat (records (suc l)) (take (pick c (suc (notAbove k (map (entryOf d l) ws))) 0) (u ∷ w ∷ ws)))) (leb (keyNumber (entryOf d l w .first)) k)
-      (λ e. let g : rankOf d (headOr noRecord (records (suc l) w)) ≤ k = rw (← first-rank w) (leb-true _ _ e) in
+      (λ e. let g : rankOf d (headOr noRecord (records (suc l) w)) ≤ k = rw (← first-rank d l w) (leb-true _ _ e) in
       all-append
       (all-map (λ x (b : rankOf d x < rankOf d (headOr noRecord (records (suc l) w))). omega arith)
       (rising-cross (rankOf d) (records (suc l) u) _ r (headOr noRecord (records (suc l) w)) (λ P a. head-of noRecord p (all-left (records (suc l) w) _ a))))
@@ -119,7 +119,7 @@ module _ (d l k : ℕ) where
   high u (w ∷ ws) r (also p n) =
       bool-cases (λ c. All (λ x. k < rankOf d x) (flat (records (suc l)) (drop (pick c (suc (notAbove k (map (entryOf d l) ws))) 0) (w ∷ ws)))) (leb (keyNumber (entryOf d l w .first)) k)
       (λ e. high w ws (rising-right (rankOf d) (records (suc l) u) _ r) n)
-      (λ e. let g : k < rankOf d (headOr noRecord (records (suc l) w)) = rw (← first-rank w) (leb-false _ _ e) in
+      (λ e. let g : k < rankOf d (headOr noRecord (records (suc l) w)) = rw (← first-rank d l w) (leb-false _ _ e) in
       all-map (λ x (b : rankOf d (headOr noRecord (records (suc l) w)) ≤ rankOf d x). omega arith)
       (from-first (records (suc l) w) (flat (records (suc l)) ws) p (rising-right (rankOf d) (records (suc l) u) _ r)))
 

@@ -4,7 +4,7 @@ use borrow.Author.Needs.{needs}
 use borrow.Author.Tests.{not-true, not-false}
 use mathlib.Core.Path.{_≡_, refl, sym, ap, _∙_}
 use mathlib.Core.Logic.{inl, inr}
-use Prim.Native.Nat.{_≤_, zero-le}
+use Prim.Native.Nat.{_≤_}
 use native.Mathlib.Omega.{arith}
 use Rattle.pagestore.specs.declared.Record.{Record}
 use Rattle.pagestore.specs.Store.{fieldAt, level}
@@ -69,7 +69,7 @@ returns-5 c =
     let some : 1 ≤ a .id = omega (arith, c .before .before .before .before .before .before .before .before .if3 .left) in (
       inr (
         when (c .before .before .before .before .before .before .before .before .before .before .before .before .before .permitted .ensures) (not-false _ (c .before .before .before .before .before .before .before .before .before .before .before .before .if1 .left)),
-        inr (low, inr (some, inr (λ z. c .before .before .before .before .if4 .left (ap (λ (r : Record). r .id) (c .before .before .before .before .before .before .find .ensures) ∙ z), inr (zero-le, refl)))),
+        inr (low, inr (some, inr (λ z. c .before .before .before .before .if4 .left (ap (λ (r : Record). r .id) (c .before .before .before .before .before .before .find .ensures) ∙ z), refl))),
       ),
       c .before .before .delete .ensures ∙ ap (deleteFrom _) (c .before .before .before .before .before .before .find .ensures),
     )

@@ -5,7 +5,6 @@ use borrow.Author.Tests.{not-true, not-false}
 use mathlib.Core.Path.{_≡_, refl, sym, ap, _∙_}
 use mathlib.Core.Bool.{true, false}
 use mathlib.Core.Logic.{inl, inr}
-use Prim.Native.Nat.{zero-le}
 use Rattle.lists.specs.Tests.{false-true}
 use Rattle.tree.specs.Deletion.{deleteFrom}
 use Rattle.tree.specs.Keyed.{holdsAt}
@@ -56,7 +55,7 @@ returns-3 c =
     let there : holdsAt b (recordOf (a .id) p) ≡ true =
     sym (c .before .before .before .before .before .holds .ensures ∙ ap (holdsAt b) (c .before .before .before .before .before .before .before .record-of .ensures)) ∙ not-false _ (c .before .before .before .before .if2 .left) in (
       pair-passes b (a .id) p _ (c .before .before .before .before .before .before .before .before .before .refuse-pair .ensures) (c .before .before .before .before .before .before .before .before .if1 .left) (ofVouchedDelete b (a .id) p) 0
-          (inr (there, inr (zero-le, refl))),
+          (inr (there, refl)),
       c .before .before .delete .ensures ∙ ap (deleteFrom _) (c .before .before .before .before .before .before .before .record-of .ensures),
     )
 

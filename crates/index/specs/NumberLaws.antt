@@ -1,0 +1,41 @@
+-- Each condition of the refusal table is decided, so on any input an act has a number; it has no second one (`first-one`).
+use mathlib.Core.Path.{_≡_, refl, sym, _∙_}
+use mathlib.Core.Bool.{Bool, true}
+use mathlib.Core.Logic.{inl, inr}
+use mathlib.Core.List.{List, [], _∷_}
+use Prim.Native.Nat.{ℕ}
+use Rattle.lists.specs.Tests.{cases, false-true}
+use Rattle.faults.specs.Decidable.{Either, le?, eq?, both?, permitted?, sound-index?}
+use Rattle.index.specs.Refusals.{Rule, First, makeRules, insertRules, deleteRules, questionRules, checkRules}
+use Rattle.index.specs.Acts.{Act, insert, delete, question, check}
+
+abbrev Decided : List Rule → Type 0
+Decided [] = Unit {0}
+Decided (rule ∷ rules) = Either (rule .1) × Decided rules
+
+first-some : (rules : List Rule) → Decided rules → (n : ℕ) × First rules n
+first-some [] d = (0, refl)
+first-some (rule ∷ rules) (inl h, d) = let r = first-some rules d in (r .0, inr (h, r .1))
+first-some (rule ∷ rules) (inr w, d) = (rule .0, inl (refl, w))
+
+true? : (t : Bool) → Either (t ≡ true)
+true? t = cases t (λ e. inl e) (λ e. inr (λ h. false-true (sym e ∙ h)))
+
+-- the rules of an act on index b
+abbrev pub rulesOf : Act → List ℕ → List Rule
+rulesOf (insert i p) b = insertRules b i p
+rulesOf (delete i) b = deleteRules b i
+rulesOf (question p k n) b = questionRules b p k n
+rulesOf check b = checkRules b
+
+decided : (a : Act) (b : List ℕ) → Decided (rulesOf a b)
+decided (insert i p) b = (permitted? _, (sound-index? b, (eq? _ _, (true? _, (le? _ _, (eq? _ _, (le? _ _, (le? _ _, tt))))))))
+decided (delete i) b = (permitted? _, (sound-index? b, (le? _ _, (le? _ _, (le? _ _, tt)))))
+decided (question p k n) b = (permitted? _, (sound-index? b, (eq? _ _, (true? _, (both? (le? _ _) (le? _ _), (le? _ _, tt))))))
+decided check b = (permitted? _, (sound-index? b, tt))
+
+pub some-number : (a : Act) (b : List ℕ) → (n : ℕ) × First (rulesOf a b) n
+some-number a b = first-some (rulesOf a b) (decided a b)
+
+pub make-number : (bytes d : ℕ) → (n : ℕ) × First (makeRules bytes d) n
+make-number bytes d = first-some (makeRules bytes d) (permitted? _, (both? (le? _ _) (le? _ _), tt))
