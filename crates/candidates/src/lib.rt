@@ -91,7 +91,7 @@ fn lesser(a: usize, b: usize) -> usize
 }
 
 // Whether there are k rows, the k-th of them nearer than a distance: a row that far is behind all of them.
-fn behind(distances: &[u64], n: usize, k: usize, distance: u64) -> bool
+pub fn behind(distances: &[u64], n: usize, k: usize, distance: u64) -> bool
     requires { ⌜ k ≤ length (now distances) ⌝ }
     ensures { λ r. ⌜ r ≡ behindAll (now (distances .entry)) n k distance ⌝ }
 {

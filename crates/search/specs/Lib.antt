@@ -3,4 +3,5 @@ pub mod Visit
 pub mod Questions
 pub mod Keys
 pub mod Steps
+pub mod Columns
 pub mod Examples

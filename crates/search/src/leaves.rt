@@ -1,20 +1,21 @@
 // Leaves: the one function that reads leaf pages.
 ghost use mathlib.Core.Path.{_≡_};
 ghost use mathlib.Core.List.{map};
-ghost use Prim.Native.Nat.{_≤_, min};
+ghost use Prim.Native.Nat.{_≤_, _<_, min};
 ghost use lib.ListN.{length};
 ghost use Rattle.pagestore.specs.Store.{leafAt, recordsIn};
 ghost use Rattle.pagestore.specs.Layout.{leafOf};
-ghost use Rattle.candidates.specs.Held.{Held};
+ghost use Rattle.candidates.specs.Held.{Held, Offered};
 ghost use Rattle.search.specs.Branches.{rowOf};
-ghost use Rattle.search.specs.Steps.{OfferedAll};
+ghost use Rattle.search.specs.Columns.{rowAt};
+ghost use Rattle.search.specs.Steps.{Asked, OfferedAll};
+use crate::columns::add_columns;
 use candidates::Row;
+use candidates::behind;
 use candidates::offer;
-use geometry::points::squared_distance;
-use pagestore::Record;
 use pagestore::in_range;
 use pagestore::read_count;
-use pagestore::read_record;
+use pagestore::read_ident;
 
 // How many items a page with this count has: there are 16 slots.
 pub fn filled(count: usize) -> usize
@@ -23,22 +24,47 @@ pub fn filled(count: usize) -> usize
     if count < 16 { count } else { 16 }
 }
 
-// The row of a record in the leaf at a position.
-fn row_of(q: &[u16], position: u32, x: Record) -> Row
-    requires { ⌜ length (now q) ≤ 16 ⌝ }
-    ensures { λ r. ⌜ r ≡ rowOf (now (q .entry)) position x ⌝ }
+// How many slots are summed for so many records: those that fill whole lanes.
+fn lanes(count: usize) -> usize
+    requires { ⌜ count ≤ 16 ⌝ }
+    ensures { λ r. ⌜ (count ≤ r) × (r ≤ 16) ⌝ }
 {
-    let coords = x.coords;
-    let distance = squared_distance(q, &coords);
-    Row {
-        distance: distance,
-        id: x.id,
-        position: position,
+    if count <= 8 { 8 } else { 16 }
+}
+
+fn wide(x: u32) -> u64
+    ensures { λ r. ⌜ r ≡ x ⌝ }
+{
+    x as u64
+}
+
+// Offers the record in slot i of a leaf page, whose squared distance is told. Its identifier is read only where a row is taken.
+fn offer_record(
+    page: &[u8],
+    i: usize,
+    distance: u64,
+    position: u32,
+    distances: &mut [u64],
+    tags: &mut [u64],
+    n: usize,
+    k: usize,
+) -> usize
+    requires { ⌜ (length (now page) ≡ 1024) × (i < 16) × Held (now distances) (now tags) n k ⌝ }
+    ensures { λ r. ⌜ Offered (now (distances .entry)) (now (tags .entry)) n k (rowAt (now (page .entry)) i distance position) r (now (distances .exit)) (now (tags .exit)) ⌝ }
+{
+    if behind(distances, n, k, distance) {
+        return n;
     }
+    let row = Row {
+        distance: distance,
+        id: read_ident(page, i),
+        position: position,
+    };
+    offer(distances, tags, n, k, row)
 }
 
 // Offers the records of a leaf page, handed over as a part of the index, to the n rows held. No other function of the
-// search reads a leaf page.
+// search reads a leaf page. The distances come first, all together.
 fn offer_leaf(
     page: &[u8],
     q: &[u16],
@@ -48,15 +74,18 @@ fn offer_leaf(
     n: usize,
     k: usize,
 ) -> usize
-    requires { ⌜ (length (now page) ≡ 1024) × (length (now q) ≤ 16) × Held (now distances) (now tags) n k ⌝ }
+    requires { ⌜ (length (now page) ≡ 1024) × Asked (now q) × Held (now distances) (now tags) n k ⌝ }
     ensures { λ r. ⌜ OfferedAll (now (distances .entry)) (now (tags .entry)) n k (map (rowOf (now (q .entry)) position) (recordsIn (leafOf (now (page .entry))))) r (now (distances .exit)) (now (tags .exit)) ⌝ }
 {
     let count = filled(read_count(page));
+    let full = lanes(count);
+    let mut sums = [0u32; 16];
+    add_columns(page, q, full, &mut sums);
     let mut rows = n;
     let mut i = 0;
     while i < count {
-        let row = row_of(q, position, read_record(page, i));
-        rows = offer(distances, tags, rows, k, row);
+        let distance = wide(sums[i]);
+        rows = offer_record(page, i, distance, position, distances, tags, rows, k);
         i += 1;
     }
     rows
@@ -73,7 +102,7 @@ pub fn visit_leaf(
     n: usize,
     k: usize,
 ) -> usize
-    requires { ⌜ (length (now q) ≤ 16) × Held (now distances) (now tags) n k ⌝ }
+    requires { ⌜ Asked (now q) × Held (now distances) (now tags) n k ⌝ }
     ensures { λ r. ⌜ OfferedAll (now (distances .entry)) (now (tags .entry)) n k (map (rowOf (now (q .entry)) position) (recordsIn (leafAt (now (index .entry)) page))) r (now (distances .exit)) (now (tags .exit)) ⌝ }
 {
     if in_range(index, page) {

@@ -10,6 +10,7 @@ use crate::visit::reads_none;
 use geometry::bounds::nearest_heights;
 use pagestore::total_records;
 
+mod columns;
 mod frontier;
 mod leaves;
 mod visit;

@@ -1,24 +1,27 @@
--- `offer_leaf`: the invariant says what offering the records still to come makes of the rows.
+-- `offer_leaf`: the sums are the distances, and the invariant says what offering the records still to come makes of the rows.
 use Prim.Native.Nat.{ℕ, _-_, _≤_, min}
 use mathlib.Core.Path.{_≡_, refl, sym, ap, _∙_}
 use native.Mathlib.Omega.{arith}
 use denote.Ref.{now}
 use borrow.Author.Needs.{needs}
-use lib.ListN.{length}
+use lib.ListN.{length, getD}
 use Rattle.pagestore.specs.Layout.{leafOf}
+use Rattle.pagestore.specs.LayoutLaws.{noRecord}
 use Rattle.pagestore.specs.Store.{recordsIn}
 use Rattle.candidates.specs.Held.{rowsIn, Held}
 use Rattle.search.specs.Branches.{rowOf}
-use Rattle.search.proofs.LeafLaws.{offersFrom, offers-next, offers-end, offers-all}
+use Rattle.search.specs.Columns.{Sums}
+use Rattle.search.proofs.ColumnLaws.{sums-start, sums-end}
+use Rattle.search.proofs.LeafLaws.{row-is, offersFrom, offers-next, offers-end, offers-all}
 use Rattle.search.proofs.leaves.offer_leaf.Statement.{statement}
 use Rattle.search.proofs.leaves.offer_leaf.Tie as tie
 
 abbrev Inv-loop : tie.InvT-loop
-Inv-loop page q position distances₀ tags₀ n k count rows₀ i₀ distances tags rows i = (i ≤ count) × (count ≡ min (leafOf page .count) 16) × (length q ≤ 16) × (length distances ≡ length distances₀) × (length tags ≡ length tags₀) × Held distances tags rows k
+Inv-loop page q position distances₀ tags₀ n k count full sums rows₀ i₀ distances tags rows i = (i ≤ count) × (count ≡ min (leafOf page .count) 16) × (count ≤ full) × Sums page q (length q) full sums × (length distances ≡ length distances₀) × (length tags ≡ length tags₀) × Held distances tags rows k
     × (offersFrom q position k (recordsIn (leafOf page)) i (rowsIn distances tags rows) ≡ offersFrom q position k (recordsIn (leafOf page)) 0 (rowsIn distances₀ tags₀ n))
 
 abbrev μ-loop : tie.MeasureT-loop
-μ-loop page q position distances₀ tags₀ n k count rows₀ i₀ distances tags rows i = count - i
+μ-loop page q position distances₀ tags₀ n k count full sums rows₀ i₀ distances tags rows i = count - i
 
 read-count-requires : tie.Need-read-count-requires Inv-loop μ-loop
 read-count-requires c κs = c .before .before .before .before .pre .0
@@ -26,47 +29,65 @@ read-count-requires c κs = c .before .before .before .before .pre .0
 filled-requires : tie.Need-filled-requires Inv-loop μ-loop
 filled-requires c κs = tt
 
+lanes-requires : tie.Need-lanes-requires Inv-loop μ-loop
+lanes-requires c κs = omega (arith, c .filled .ensures)
+
+slice-aggregate-add-columns : tie.Need-slice-aggregate-add-columns Inv-loop μ-loop
+slice-aggregate-add-columns c = search needs
+
+add-columns-requires : tie.Need-add-columns-requires Inv-loop μ-loop
+add-columns-requires c κs = sums-start _ _ _ (c .before .before .before .before .before .before .before .before .pre .0) (c .before .before .before .before .before .before .before .before .pre .1) (c .before .lanes .ensures .1)
+
 loop-holds : tie.Need-loop-holds Inv-loop μ-loop
-loop-holds c = let S = c .before .before .before .before .before .before in (omega arith, c .filled .ensures ∙ ap (λ (x : ℕ). min x 16) (c .before .read-count .ensures), S .pre .1, refl, refl, S .pre .2, refl)
+loop-holds c =
+    (omega arith, c .before .before .before .before .filled .ensures ∙ ap (λ (x : ℕ). min x 16) (c .before .before .before .before .before .read-count .ensures), c .before .before .before .lanes .ensures .0, c .before .add-columns .ensures, refl, refl, c .before .before .before .before .before .before .before .before .before .before .pre .2, refl)
 
-read-record-requires : tie.Need-read-record-requires Inv-loop μ-loop
-read-record-requires c κs = let L = c .before .loop in (c .before .before .before .before .before .before .before .before .pre .0, omega (arith, L .inv .1, c .loop-test .taken))
+mul-wide : tie.Need-mul-wide Inv-loop μ-loop
+mul-wide c = let L = c .before .loop in omega (arith, L .inv .1, c .loop-test .taken)
 
-row-of-requires : tie.Need-row-of-requires Inv-loop μ-loop
-row-of-requires c κs = c .before .before .loop .inv .2
+array-read-wide : tie.Need-array-read-wide Inv-loop μ-loop
+array-read-wide c = let L = c .before .loop in omega (arith, L .inv .3 .slots, L .inv .1, c .loop-test .taken)
 
-offer-requires : tie.Need-offer-requires Inv-loop μ-loop
-offer-requires c κs = c .before .before .before .before .before .loop .inv .5
+wide-requires : tie.Need-wide-requires Inv-loop μ-loop
+wide-requires c κs = search needs
+
+offer-record-requires : tie.Need-offer-record-requires Inv-loop μ-loop
+offer-record-requires c κs = let L = c .before .before .before .before .loop in (c .before .before .before .before .before .before .before .before .before .before .before .before .before .before .before .pre .0, omega (arith, L .inv .1, c .before .before .before .loop-test .taken), L .inv .6)
 
 add-i : tie.Need-add-i Inv-loop μ-loop
-add-i c = search needs
+add-i c = let L = c .before .before .before .before .before .before .before .before .before .loop in omega (arith, L .inv .1, c .before .before .before .before .before .before .before .before .loop-test .taken)
 
 loop-less : tie.Need-loop-less Inv-loop μ-loop
-loop-less c = search needs
+loop-less c = omega (arith, c .before .before .before .before .before .before .before .before .loop-test .taken)
 
 loop-again : tie.Need-loop-again Inv-loop μ-loop
-loop-again c = let S = c .before .before .before .before .before .before .before .before .before .before .before .before .before .before .before .before .before in let L = c .before .before .before .before .before .before .before .before .before .before .loop in let O = c .before .before .before .before .offer in let R = c .before .before .before .before .before .before .before .row-of in let X = c .before .before .before .before .before .before .before .before .read-record in (
-  omega (arith, c .before .before .before .before .before .before .before .before .before .loop-test .taken),
-  L .inv .1,
-  L .inv .2,
-  O .kept .0 ∙ L .inv .3,
-  O .kept .1 .0 ∙ L .inv .4,
-  O .ensures .held,
-  offers-next (now (S .args .page)) (now (S .args .q)) (S .args .position) (S .args .k) (leafOf (now (S .args .page))) refl _ (L .inv .1) (L .i) _ _ _ _ (c .before .before .before .before .before .before .before .before .before .loop-test .taken) (R .ensures ∙ ap (rowOf (now (S .args .q)) (S .args .position)) (X .ensures)) (O .ensures .rows) ∙ L .inv .6,
-)
+loop-again c =
+    let a = c .before .before .before .before .before .before .before .before .before .before .before .before .before .before .before .before .before .before .before .before .args in let L = c .before .before .before .before .before .before .before .before .before .loop in let O = c .before .before .before .before .offer-record in let W = c .before .before .before .before .before .before .before .wide in let t = c .before .before .before .before .before .before .before .before .loop-test .taken in
+    let D = W .ensures ∙ sums-end (now (a .page)) (now (a .q)) _ _ (L .inv .3) (L .i) (omega (arith, L .inv .2, t)) in
+    let row = row-is (now (a .q)) (a .position) (getD (leafOf (now (a .page)) .records) (L .i) noRecord) (W .result) D in (
+      omega (arith, t),
+      L .inv .1,
+      L .inv .2,
+      L .inv .3,
+      O .kept .1 .1 .1 .1 .0 ∙ L .inv .4,
+      O .kept .1 .1 .1 .1 .1 .0 ∙ L .inv .5,
+      O .ensures .held,
+      offers-next (now (a .page)) (now (a .q)) (a .position) (a .k) (leafOf (now (a .page))) refl _ (L .inv .1) (L .i) noRecord _ _ _ t row (O .ensures .rows) ∙ L .inv .7,
+    )
 
 same-length : tie.Need-same-length Inv-loop μ-loop
-same-length c = c .before .loop .inv .3
+same-length c = c .before .loop .inv .4
 
 same-length-2 : tie.Need-same-length-2 Inv-loop μ-loop
-same-length-2 c = c .before .loop .inv .4
+same-length-2 c = c .before .loop .inv .5
 
 returns : tie.Need-returns Inv-loop μ-loop
-returns c = let S = c .before .before .before .before .before .before .before .before in let L = c .before .loop in
+returns c =
+    let a = c .before .before .before .before .before .before .before .before .before .before .before .before .args in let L = c .before .loop in
     record {
-      held = L .inv .5;
-      rows = sym (offers-end (now (S .args .page)) (now (S .args .q)) (S .args .position) (S .args .k) (leafOf (now (S .args .page))) refl _ (L .inv .1) (L .i) _ (omega arith)) ∙ L .inv .6
-          ∙ offers-all (now (S .args .page)) (now (S .args .q)) (S .args .position) (S .args .k) (leafOf (now (S .args .page))) refl _ (L .inv .1) _;
+      held = L .inv .6;
+      rows = sym (offers-end (now (a .page)) (now (a .q)) (a .position) (a .k) (leafOf (now (a .page))) refl _ (L .inv .1) (L .i) _ (c .loop-test .left)) ∙ L .inv .7
+          ∙ offers-all (now (a .page)) (now (a .q)) (a .position) (a .k) (leafOf (now (a .page))) refl _ (L .inv .1) _;
     }
 
 pub offer-leaf-spec : {M : Type 1} → statement M
@@ -77,10 +98,14 @@ offer-leaf-spec =
     μ-loop
     read-count-requires
     filled-requires
+    lanes-requires
+    slice-aggregate-add-columns
+    add-columns-requires
     loop-holds
-    read-record-requires
-    row-of-requires
-    offer-requires
+    mul-wide
+    array-read-wide
+    wide-requires
+    offer-record-requires
     add-i
     loop-less
     loop-again

@@ -83,7 +83,7 @@ place-in-requires : tie.Need-place-in-requires Inv-loop μ-loop
 place-in-requires c κs = search needs
 
 visit-leaf-requires : tie.Need-visit-leaf-requires Inv-loop μ-loop
-visit-leaf-requires c κs = let v = c .before .before .before .before .before .before .before .before .before .before .before .before .before .before .before .before .loop .inv in (v .asked .most, v .holds)
+visit-leaf-requires c κs = let v = c .before .before .before .before .before .before .before .before .before .before .before .before .before .before .before .before .loop .inv in (v .asked, v .holds)
 
 add-leaves : tie.Need-add-leaves Inv-loop μ-loop
 add-leaves c = let v = c .before .before .before .before .before .before .before .before .before .before .before .before .before .before .before .before .before .before .before .before .before .loop .inv in let f = v .few in omega arith

@@ -1,0 +1,46 @@
+-- The squared distances of a leaf's records together, coordinate by coordinate.
+use mathlib.Core.Path.{_≡_}
+use mathlib.Core.List.{List}
+use Prim.Native.Nat.{ℕ, _+_, _-_, _*_, _≤_, _<_}
+use lib.ListN.{length, getD, drop}
+use Rattle.lists.specs.Basics.{All}
+use Rattle.geometry.specs.Points.{distBy, square}
+use Rattle.geometry.specs.Stored.{pointOf}
+use Rattle.pagestore.specs.Layout.{leafOf}
+use Rattle.pagestore.specs.LayoutLaws.{noRecord}
+use Rattle.candidates.specs.declared.Row.{Row}
+
+-- the coordinates of record r of a leaf page, as stored
+abbrev pub coordsAt : List ℕ → ℕ → List ℕ
+coordsAt page r = getD (leafOf page .records) r noRecord .coords
+
+-- what the coordinates from m on add to the squared distance of record r from the asked point
+unfoldable pub costFrom : List ℕ → List ℕ → ℕ → ℕ → ℕ
+unfolding distBy pointOf
+costFrom page q m r = distBy square m (drop m (pointOf q)) (drop m (pointOf (coordsAt page r)))
+
+-- the square of the gap of two stored coordinates; of two below 2,048 it is at most `mostCost`
+abbrev pub gapSquare : ℕ → ℕ → ℕ
+gapSquare x y = ((x - y) + (y - x)) * ((x - y) + (y - x))
+
+abbrev pub mostCost : ℕ
+mostCost = 4190209
+
+-- a leaf page, an asked point whose coordinates are as stored, and n of the page's 16 slots
+pub record Sized (page q : List ℕ) (n : ℕ) : Type 0 where
+  pub bytes : length page ≡ 1024
+  pub most : length q ≤ 16
+  pub ranges : All (λ c. c < 2048) q
+  pub few : n ≤ 16
+
+-- the sums of the first n records hold what their first m coordinates cost
+pub record Sums (page q : List ℕ) (m n : ℕ) (sums : List ℕ) : Type 0 where
+  pub sized : Sized page q n
+  pub within : m ≤ length q
+  pub slots : length sums ≡ 16
+  pub each : (r : ℕ) → r < n → getD sums r 0 + costFrom page q m r ≡ costFrom page q 0 r
+  pub low : (r : ℕ) → r < n → getD sums r 0 ≤ mostCost * m
+
+-- a row of record i of a leaf page at a position
+abbrev pub rowAt : List ℕ → ℕ → ℕ → ℕ → Row
+rowAt page i distance position = record { distance = distance; id = getD (leafOf page .records) i noRecord .id; position = position }

@@ -1,0 +1,92 @@
+// The squared distances of a leaf's records together, coordinate by coordinate: a column of the page holds one coordinate of all its records, so that
+// each loop goes over neighbours.
+ghost use mathlib.Core.Path.{_≡_};
+ghost use Prim.Native.Nat.{_+_, _≤_, _<_};
+ghost use lib.ListN.{length, getD};
+ghost use Rattle.search.specs.Columns.{coordsAt, gapSquare, mostCost, Sums};
+use geometry::points::apart;
+use pagestore::read_coord;
+
+// The square of the gap of two stored coordinates.
+fn square_gap(x: u16, y: u16) -> u32
+    requires { ⌜ (x < 2048) × (y < 2048) ⌝ }
+    ensures { λ r. ⌜ (r ≡ gapSquare x y) × (r ≤ mostCost) ⌝ }
+{
+    let gap = apart(x, y) as u32;
+    gap * gap
+}
+
+// What coordinate m of record r costs, where that of the asked point is x.
+fn cost_at(page: &[u8], m: usize, r: usize, x: u16) -> u32
+    requires { ⌜ (length (now page) ≡ 1024) × (m < 16) × (r < 16) × (x < 2048) ⌝ }
+    ensures { λ c. ⌜ (c ≡ gapSquare x (getD (coordsAt (now (page .entry)) r) m 0)) × (c ≤ mostCost) ⌝ }
+{
+    square_gap(x, read_coord(page, m, r))
+}
+
+// Adds what coordinate m costs to the sums of the first n records.
+fn add_column(page: &[u8], q: &[u16], m: usize, n: usize, sums: &mut [u32])
+    requires { ⌜ Sums (now page) (now q) m n (now sums) × (m < length (now q)) ⌝ }
+    ensures { λ _. ⌜ Sums (now (page .entry)) (now (q .entry)) (m + 1) n (now (sums .exit)) ⌝ }
+{
+    let x = q[m];
+    let mut r = 0;
+    while r < n {
+        sums[r] += cost_at(page, m, r, x);
+        r += 1;
+    }
+}
+
+// The same of four coordinates at a time.
+fn add_four(page: &[u8], q: &[u16], m: usize, n: usize, sums: &mut [u32])
+    requires { ⌜ Sums (now page) (now q) m n (now sums) × (m + 4 ≤ length (now q)) ⌝ }
+    ensures { λ _. ⌜ Sums (now (page .entry)) (now (q .entry)) (m + 4) n (now (sums .exit)) ⌝ }
+{
+    let x = q[m];
+    let y = q[m + 1];
+    let z = q[m + 2];
+    let w = q[m + 3];
+    let mut r = 0;
+    while r < n {
+        let a = cost_at(page, m, r, x);
+        let b = cost_at(page, m + 1, r, y);
+        let c = cost_at(page, m + 2, r, z);
+        let e = cost_at(page, m + 3, r, w);
+        sums[r] += (a + b) + (c + e);
+        r += 1;
+    }
+}
+
+// Four coordinates after four: how many are added then.
+fn add_fours(page: &[u8], q: &[u16], n: usize, sums: &mut [u32]) -> usize
+    requires { ⌜ Sums (now page) (now q) 0 n (now sums) ⌝ }
+    ensures { λ m. ⌜ Sums (now (page .entry)) (now (q .entry)) m n (now (sums .exit)) ⌝ }
+{
+    let mut m = 0;
+    while m + 3 < q.len() {
+        add_four(page, q, m, n, sums);
+        m += 4;
+    }
+    m
+}
+
+// The coordinates that are left, one by one.
+fn add_rest(page: &[u8], q: &[u16], from: usize, n: usize, sums: &mut [u32])
+    requires { ⌜ Sums (now page) (now q) from n (now sums) ⌝ }
+    ensures { λ _. ⌜ Sums (now (page .entry)) (now (q .entry)) (length (now (q .entry))) n (now (sums .exit)) ⌝ }
+{
+    let mut m = from;
+    while m < q.len() {
+        add_column(page, q, m, n, sums);
+        m += 1;
+    }
+}
+
+// The squared distances of the first n records of a leaf page from the asked point.
+pub fn add_columns(page: &[u8], q: &[u16], n: usize, sums: &mut [u32])
+    requires { ⌜ Sums (now page) (now q) 0 n (now sums) ⌝ }
+    ensures { λ _. ⌜ Sums (now (page .entry)) (now (q .entry)) (length (now (q .entry))) n (now (sums .exit)) ⌝ }
+{
+    let m = add_fours(page, q, n, sums);
+    add_rest(page, q, m, n, sums);
+}
