@@ -1,3 +1,4 @@
 pub mod RepeatsLaws
 pub mod LanesLaws
+pub mod SpreadLaws
 pub mod Examples

@@ -111,9 +111,9 @@ lowest-unique ids pages r a =
     (λ l. let q = lowest-le ids pages s r b a (omega arith) in let p = lowest-le ids pages r s a b (q .0) in absurd (let z = p .1 in omega arith))
 
 -- the promise: it is 0 just where the identifiers are distinct
-module _ (ids pages : List ℕ) (each : length pages ≡ length ids) (real : All (λ p. 0 < p) pages) where
-  pub none-distinct : lowestRepeat ids pages ≡ 0 → Distinct ids
-  none-distinct z =
+module _ (ids pages : List ℕ) where
+  pub none-distinct : length pages ≡ length ids → All (λ p. 0 < p) pages → lowestRepeat ids pages ≡ 0 → Distinct ids
+  none-distinct each real z =
       places-distinct 0 ids (λ i k h g n e.
       let q = lowest-repeat ids pages .least i (record { here = h; other = k; there = g; apart = n; same = e }) (all-at pages i 0 (omega arith) real) in
       let p = q .0 in omega arith)

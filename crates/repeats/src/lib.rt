@@ -1,5 +1,6 @@
 // The lowest page that holds a repeated identifier, among up to 65,535 identifiers with the page of each, in linear time whatever they are.
 //
+// Where all differ by their low 12 or 16 bits, they are distinct. Else they go by lanes.
 // Identifiers with the same low 14 bits are in one lane, each lane a chain from its last identifier to its first. Up to 16,384 identifiers are compared with
 // those of their lane as they come, with at most nine each. Where that does not settle it, and for more identifiers, the lanes are walked one after
 // the other, each stamping at the high 18 bits of what it meets where that was: two identifiers of a lane with the same high bits are the same.
@@ -8,6 +9,7 @@ ghost use mathlib.Core.Bool.{true};
 ghost use mathlib.Core.Path.{_≡_};
 ghost use Prim.Native.Nat.{_+_, _≤_, _<_, _/_, _%_};
 ghost use lib.ListN.{length, getD, take};
+ghost use Rattle.lists.specs.Distinct.{Distinct};
 ghost use Rattle.repeats.specs.Repeats.{lowerPage, lowestRepeat};
 ghost use Rattle.repeats.specs.Lanes.{laneOf, latest, metOf, Heads, Chained, Room, Blank, Stage, Probed};
 
@@ -227,11 +229,58 @@ fn lowest_of_many(ids: &[u32], pages: &[u16]) -> u16
     chain_and_walk(ids, pages, &mut head, &mut next, &mut stamps)
 }
 
+// Do the identifiers differ by their low bits, the rests of division by `places`? `seen` has a place for each rest, with 1 once it was met. `true` says
+// that the identifiers are distinct. `false` says nothing, and `seen` need not be blank: only time rests on either.
+fn spread(ids: &[u32], seen: &mut [u8], places: u32) -> bool
+    requires { ⌜ (0 < places) × (places ≤ length (now seen)) ⌝ }
+    ensures { λ r. ⌜ (r ≡ true → Distinct (now (ids .entry))) ⌝ }
+{
+    let mut i = 0;
+    while i < ids.len() {
+        let at = (ids[i] % places) as usize;
+        if seen[at] == 1 {
+            return false;
+        }
+        seen[at] = 1;
+        i += 1;
+    }
+    true
+}
+
+// The array for the low 12 bits.
+fn spread_few(ids: &[u32]) -> bool
+    ensures { λ r. ⌜ (r ≡ true → Distinct (now (ids .entry))) ⌝ }
+{
+    let mut seen = [0u8; 4096];
+    spread(ids, &mut seen, 4096)
+}
+
+// The array for the low 16 bits.
+fn spread_many(ids: &[u32]) -> bool
+    ensures { λ r. ⌜ (r ≡ true → Distinct (now (ids .entry))) ⌝ }
+{
+    let mut seen = [0u8; 65536];
+    spread(ids, &mut seen, 65536)
+}
+
+// Do they differ by their low 12 bits, or by 16 where they are more than 4,096?
+fn all_spread(ids: &[u32]) -> bool
+    ensures { λ r. ⌜ (r ≡ true → Distinct (now (ids .entry))) ⌝ }
+{
+    if ids.len() <= 4096 {
+        return spread_few(ids);
+    }
+    spread_many(ids)
+}
+
 // The lowest page that holds a repeated identifier, 0 where all are distinct.
 pub fn lowest_repeat(ids: &[u32], pages: &[u16]) -> u16
     requires { ⌜ (length (now ids) ≤ 65535) × (length (now pages) ≡ length (now ids)) ⌝ }
     ensures { λ r. ⌜ r ≡ lowestRepeat (now (ids .entry)) (now (pages .entry)) ⌝ }
 {
+    if all_spread(ids) {
+        return 0;
+    }
     if ids.len() <= 16384 {
         let a = lowest_of_few(ids, pages);
         if a.settled {
