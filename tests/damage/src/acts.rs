@@ -33,8 +33,8 @@ fn small(k: usize) -> u32 {
 }
 
 impl Run {
-    /// Both carry out the act, the library without the check where `trusted` is set and the index is sound; codes, rows, tally and every byte are compared. With `exact` false, bytes that no rule names are left out where
-    /// the act was carried out.
+    /// Both carry out the act, the library without the check where `trusted` is set and the index is sound; codes, rows, tally and every byte are
+    /// compared. With `exact` false, what no rule names is left out where the act was carried out, but for the pages that it changed: 0 there.
     pub fn act(&mut self, lib: &mut [u8], model: &mut Model, act: &Act, exact: bool) -> u32 {
         let trusted = self.trusted && (!permitted(model.b.len()) || matches!(act, Act::Make(_)) || model.sound());
         self.counts.trusted += trusted as u64;
@@ -57,7 +57,11 @@ impl Run {
                 let sound = judge::sound(lib);
                 self.expect(sound, || format!("{act:?}: not sound afterwards"));
                 if sound {
-                    self.equal(&format!("{act:?}"), &canonical(lib), &canonical(&model.b));
+                    let tidy = canonical(lib);
+                    self.equal(&format!("{act:?}"), &tidy, &canonical(&model.b));
+                    let changed = |&p: &u32| page(lib, p) != page(&before, p);
+                    let left = (1..(lib.len() / PAGE) as u32).filter(changed).find(|&p| page(lib, p) != page(&tidy, p));
+                    self.expect(left.is_none(), || format!("{act:?}: unused bytes of a changed page are not 0: {left:?}"));
                 }
             }
             _ => self.equal(&format!("{act:?}"), lib, &model.b),

@@ -26,7 +26,7 @@ pub struct Plan {
     pub kind: Kind,
     pub points: usize,
     pub shape: Shape,
-    /// Any values in bytes that no rule names.
+    /// Any values in bytes and bits that no rule names.
     pub junk: bool,
 }
 
@@ -145,19 +145,23 @@ pub fn built(rng: &mut Rng, plan: Plan) -> Vec<u8> {
     b
 }
 
-/// Whether a rule or a reader names byte i of a page.
-fn named(q: &[u8], d: usize, i: usize) -> bool {
-    let (level, count) = (q[0], q[1] as usize);
-    if i < 4 {
-        i < 2
-    } else if level == 0 {
-        (i - 4) / 44 < count && (i - 4) % 44 < 4 + 2 * d
-    } else {
-        (i - 4) / 20 < count && (i - 4) % 20 != 11 && (i - 4) % 20 != 19
+/// The bits of each byte of a tree page that no rule and no reader names.
+fn unnamed(q: &[u8], d: usize) -> [u8; PAGE] {
+    let mut bits = [255; PAGE];
+    bits[..2].fill(0);
+    for i in 0..q[1] as usize {
+        if q[0] == 0 {
+            bits[identifier_at(i)..][..4].fill(0);
+            (0..d).for_each(|m| bits[coordinate_at(m, i)..][..2].copy_from_slice(&(!(COORDINATES - 1)).to_le_bytes()));
+        } else {
+            bits[4 + 20 * i..][..20].fill(0);
+            [11, 19].into_iter().for_each(|unused| bits[4 + 20 * i + unused] = 255);
+        }
     }
+    bits
 }
 
-/// Other values in the bytes of tree pages and header that nothing names.
+/// Other values in the bytes and bits of tree pages and header that nothing names.
 fn spoil(rng: &mut Rng, b: &mut [u8]) {
     let d = b[FEATURES] as usize;
     let header = [5..8, 13..16, 28..PAGE];
@@ -167,9 +171,9 @@ fn spoil(rng: &mut Rng, b: &mut [u8]) {
         if level(b, p) > 0 {
             open.extend(entries(b, p).iter().map(|e| e.child));
         }
-        let was = page(b, p).to_vec();
-        for i in (0..PAGE).filter(|&i| !named(&was, d, i)) {
-            page_mut(b, p)[i] = rng.next() as u8;
+        let unnamed = unnamed(page(b, p), d);
+        for (byte, bits) in page_mut(b, p).iter_mut().zip(unnamed) {
+            *byte = *byte & !bits | rng.next() as u8 & bits;
         }
     }
     let mut p = u32_at(b, FREED);

@@ -177,18 +177,18 @@ fn strike(rng: &mut Rng, b: &mut [u8]) {
     let p = rng.range(1, used as i64 - 1) as usize * PAGE;
     let q = rng.range(1, used as i64 - 1) as usize * PAGE;
     let slot = rng.below(16);
-    match rng.below(16) {
+    match rng.below(17) {
         0 => b[rng.pick(&[SIZE, FEATURES, ROOT, LEVEL, TOTAL, FREED, FRESH, FREED, FRESH, ROOT])] = rng.below(n + 2) as u8,
         1 => b[p] = rng.below(4) as u8,
         2 => b[p + 1] = rng.pick(&[0, 1, 7, 8, 9, 15, 16, 17, 200, 255]),
         3 => put_u32(b, p + 4 + 20 * slot, rng.below(n + 2) as u32),
         4 => b[p + 4 + 20 * slot + rng.below(20)] ^= 1 << rng.below(8),
-        5 => b[p + 4 + 44 * slot + rng.below(44)] ^= 1 << rng.below(8),
+        5 => b[p + rng.pick(&cells(slot))] ^= 1 << rng.below(8),
         6 => b.copy_within(q..q + PAGE, p),
         7 => put_u32(b, p + 4, rng.below(n) as u32),
-        8 => put_u32(b, p + 4 + 44 * slot, u32_at(b, q + 4 + 44 * rng.below(16))),
+        8 => put_u32(b, p + identifier_at(slot), u32_at(b, q + identifier_at(rng.below(16)))),
         9 => b[p + rng.below(PAGE)] = rng.next() as u8,
-        10 => b.copy_within(q + 4..q + 48, p + 4 + 44 * slot),
+        10 => cells(0).into_iter().zip(cells(slot)).for_each(|(from, to)| b[p + to] = b[q + from]),
         11 => b.copy_within(q + 4..q + 24, p + 4 + 20 * slot),
         12 => put_u32(b, TOTAL, u32_at(b, TOTAL).wrapping_add(rng.pick(&[1, 8, u32::MAX]))),
         13 => put_u32(b, rng.pick(&[FREED, FRESH, ROOT]), rng.below(n + 1) as u32),
@@ -196,6 +196,7 @@ fn strike(rng: &mut Rng, b: &mut [u8]) {
             let junk = rng.bytes(PAGE);
             b[p..p + PAGE].copy_from_slice(&junk);
         }
+        15 => put_u16(b, p + coordinate_at(rng.below(16), slot), rng.pick(&[0, 1999, 2000, 2001, 2047, 2048, 4048, 4049, u16::MAX])),
         _ => b[rng.below(used * PAGE)] = rng.next() as u8,
     }
 }

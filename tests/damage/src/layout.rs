@@ -14,6 +14,13 @@ pub const TOTAL: usize = 16;
 pub const FREED: usize = 20;
 pub const FRESH: usize = 24;
 
+/// Rooms of a leaf page for stages and for stamps, both unused.
+pub const STAGES: std::ops::Range<usize> = 16..32;
+pub const STAMPS: std::ops::Range<usize> = 640..704;
+
+/// A stored coordinate counts modulo this; the upper bits of its two bytes are unused.
+pub const COORDINATES: u16 = 2048;
+
 #[derive(Clone, Copy, PartialEq, Eq, Debug)]
 pub struct Record {
     pub id: u32,
@@ -58,6 +65,10 @@ pub fn u32_at(b: &[u8], at: usize) -> u32 {
     u32::from_le_bytes(b[at..at + 4].try_into().unwrap())
 }
 
+pub fn put_u16(b: &mut [u8], at: usize, v: u16) {
+    b[at..at + 2].copy_from_slice(&v.to_le_bytes());
+}
+
 pub fn put_u32(b: &mut [u8], at: usize, v: u32) {
     b[at..at + 4].copy_from_slice(&v.to_le_bytes());
 }
@@ -78,13 +89,23 @@ pub fn count(b: &[u8], p: u32) -> usize {
     page(b, p)[1] as usize
 }
 
+/// Where a leaf page has coordinate m of record i.
+pub fn coordinate_at(m: usize, i: usize) -> usize {
+    32 + 32 * m + 2 * i
+}
+
+/// Where it has the identifier.
+pub fn identifier_at(i: usize) -> usize {
+    576 + 4 * i
+}
+
+/// The bytes of a leaf page that hold record i: its identifier's, then its coordinates'.
+pub fn cells(i: usize) -> [usize; 36] {
+    std::array::from_fn(|n| if n < 4 { identifier_at(i) + n } else { coordinate_at((n - 4) / 2, i) + n % 2 })
+}
+
 fn record_at(q: &[u8], i: usize) -> Record {
-    let at = 4 + 44 * i;
-    let mut slots = [0; 16];
-    for (s, slot) in slots.iter_mut().enumerate() {
-        *slot = u16_at(q, at + 4 + 2 * s);
-    }
-    Record { id: u32_at(q, at), slots }
+    Record { id: u32_at(q, identifier_at(i)), slots: std::array::from_fn(|m| u16_at(q, coordinate_at(m, i)) % COORDINATES) }
 }
 
 fn key_at(q: &[u8], at: usize) -> Key {
@@ -112,17 +133,16 @@ pub fn put_leaf(b: &mut [u8], p: u32, records: &[Record]) {
     q.fill(0);
     q[1] = records.len() as u8;
     for (i, r) in records.iter().enumerate() {
-        let at = 4 + 44 * i;
-        put_u32(q, at, r.id);
-        for (s, slot) in r.slots.iter().enumerate() {
-            q[at + 4 + 2 * s..at + 6 + 2 * s].copy_from_slice(&slot.to_le_bytes());
+        put_u32(q, identifier_at(i), r.id);
+        for (m, slot) in r.slots.iter().enumerate() {
+            put_u16(q, coordinate_at(m, i), slot % COORDINATES);
         }
     }
 }
 
 fn put_key(q: &mut [u8], at: usize, key: Key) {
     put_u32(q, at, key.id);
-    q[at + 4..at + 6].copy_from_slice(&key.height.to_le_bytes());
+    put_u16(q, at + 4, key.height);
     q[at + 6] = key.pyramid;
 }
 
@@ -150,7 +170,7 @@ pub fn ends(b: &[u8], p: u32, d: usize) -> (Key, Key) {
     }
 }
 
-/// A sound index with 0 in every byte that no table of the layout names.
+/// A sound index with 0 in every byte and bit that no table of the layout names.
 pub fn canonical(bytes: &[u8]) -> Vec<u8> {
     let mut b = bytes.to_vec();
     let fields = [SIZE, ROOT, TOTAL, FREED, FRESH].map(|f| (f, u32_at(bytes, f)));

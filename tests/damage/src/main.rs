@@ -17,6 +17,7 @@ mod run;
 mod series;
 mod shapes;
 mod unread;
+mod unused;
 
 fn main() {
     let mut run = run::Run::new();
@@ -25,6 +26,7 @@ fn main() {
     series::all(&mut run);
     built::all(&mut run);
     unread::all(&mut run);
+    unused::all(&mut run);
     rules::all(&mut run);
     damage::all(&mut run);
     if !run.finish() {

@@ -55,20 +55,40 @@ impl Sound {
 
 type Rule = fn(&Sound, &mut [u8]) -> Vec<u32>;
 
-fn record(p: u32, i: usize) -> usize {
-    p as usize * PAGE + 4 + 44 * i
+fn byte(p: u32, i: usize) -> usize {
+    p as usize * PAGE + i
+}
+
+fn identifier(p: u32, i: usize) -> usize {
+    byte(p, identifier_at(i))
+}
+
+fn coordinate(p: u32, m: usize, i: usize) -> usize {
+    byte(p, coordinate_at(m, i))
 }
 
 fn entry(p: u32, i: usize) -> usize {
-    p as usize * PAGE + 4 + 20 * i
+    byte(p, 4 + 20 * i)
 }
 
-fn swap(b: &mut [u8], x: usize, y: usize, n: usize) {
-    (0..n).for_each(|i| b.swap(x + i, y + i));
+fn swap_entries(b: &mut [u8], p: u32, i: usize, j: usize) {
+    (0..20).for_each(|n| b.swap(entry(p, i) + n, entry(p, j) + n));
 }
 
-fn byte(p: u32, i: usize) -> usize {
-    p as usize * PAGE + i
+fn swap_records(b: &mut [u8], p: u32, i: usize, j: usize) {
+    cells(i).into_iter().zip(cells(j)).for_each(|(x, y)| b.swap(byte(p, x), byte(p, y)));
+}
+
+/// A stored coordinate above 2,000 in the last record of all, and its key in the entries above: no other rule fails.
+fn beyond(s: &Sound, b: &mut [u8], stored: u16) -> Vec<u32> {
+    let leaf = *s.leaves.last().unwrap();
+    put_u16(b, coordinate(leaf, 2, count(b, leaf) - 1), stored);
+    for p in [s.parent(leaf), s.root] {
+        let mut all = entries(b, p);
+        all.last_mut().unwrap().last = ends(b, leaf, 3).1;
+        put_inner(b, p, level(b, p), &all);
+    }
+    vec![leaf]
 }
 
 const HEADER: [(&str, Rule); 14] = [
@@ -131,30 +151,38 @@ const HEADER: [(&str, Rule); 14] = [
     }),
 ];
 
-const LEAVES: [(&str, Rule); 10] = [
+const LEAVES: [(&str, Rule); 12] = [
     ("identifier 0", |s, b| {
-        put_u32(b, record(s.leaves[3], 2), 0);
+        put_u32(b, identifier(s.leaves[3], 2), 0);
         vec![s.leaves[3]]
     }),
-    ("coordinate out of range", |s, b| {
-        b[record(s.leaves[3], 2) + 4..record(s.leaves[3], 2) + 6].copy_from_slice(&2001u16.to_le_bytes());
+    ("coordinate of 2,001", |s, b| {
+        put_u16(b, coordinate(s.leaves[3], 0, 2), 2001);
+        vec![s.leaves[3]]
+    }),
+    ("coordinate of 2,047", |s, b| {
+        put_u16(b, coordinate(s.leaves[3], 1, 2), 2047);
+        vec![s.leaves[3]]
+    }),
+    ("coordinate of 2,001 by its low 11 bits", |s, b| {
+        put_u16(b, coordinate(s.leaves[3], 2, 2), 2001 | 0xF800);
         vec![s.leaves[3]]
     }),
     ("records out of order", |s, b| {
-        swap(b, record(s.leaves[4], 2), record(s.leaves[4], 3), 44);
+        swap_records(b, s.leaves[4], 2, 3);
         vec![s.leaves[4]]
     }),
     ("identifier in two leaves", |s, b| {
-        put_u32(b, record(s.leaves[2], 3), u32_at(b, record(s.leaves[9], 3)));
+        put_u32(b, identifier(s.leaves[2], 3), u32_at(b, identifier(s.leaves[9], 3)));
         vec![s.leaves[2], s.leaves[9]]
     }),
     ("identifier twice in a leaf", |s, b| {
-        put_u32(b, record(s.leaves[2], 3), u32_at(b, record(s.leaves[2], 5)));
+        put_u32(b, identifier(s.leaves[2], 3), u32_at(b, identifier(s.leaves[2], 5)));
         vec![s.leaves[2]]
     }),
     ("identifier in three leaves", |s, b| {
         for p in [1, 5] {
-            put_u32(b, record(s.leaves[p], 3), u32_at(b, record(s.leaves[9], 3)));
+            put_u32(b, identifier(s.leaves[p], 3), u32_at(b, identifier(s.leaves[9], 3)));
         }
         vec![s.leaves[1], s.leaves[5], s.leaves[9]]
     }),
@@ -172,13 +200,13 @@ const LEAVES: [(&str, Rule); 10] = [
     }),
     ("leaf of 7, and its contents", |s, b| {
         b[byte(s.leaves[6], 1)] = 7;
-        put_u32(b, record(s.leaves[6], 2), 0);
+        put_u32(b, identifier(s.leaves[6], 2), 0);
         put_u32(b, TOTAL, 3);
         vec![s.parent(s.leaves[6])]
     }),
 ];
 
-const INNER: [(&str, Rule); 17] = [
+const INNER: [(&str, Rule); 18] = [
     ("root of 1", |s, b| {
         b[byte(s.root, 1)] = 1;
         vec![s.root]
@@ -207,11 +235,11 @@ const INNER: [(&str, Rule); 17] = [
         vec![s.inner[1]]
     }),
     ("entries out of order", |s, b| {
-        swap(b, entry(s.inner[0], 2), entry(s.inner[0], 3), 20);
+        swap_entries(b, s.inner[0], 2, 3);
         vec![s.inner[0]]
     }),
     ("entries out of order, and the total", |s, b| {
-        swap(b, entry(s.inner[0], 2), entry(s.inner[0], 3), 20);
+        swap_entries(b, s.inner[0], 2, 3);
         put_u32(b, TOTAL, 259);
         vec![0, s.inner[0]]
     }),
@@ -243,14 +271,17 @@ const INNER: [(&str, Rule); 17] = [
     ("a leaf that is freed too", |s, b| {
         let leaf = s.leaves[1];
         put_u32(b, byte(*s.freed.last().unwrap(), 4), leaf);
-        let (id, first) = (u32_at(b, record(leaf, 0)), s.leaves[1]);
-        assert!(id >= s.n);
-        vec![0, s.parent(first)]
+        vec![s.parent(leaf)]
+    }),
+    ("a leaf that is freed too, with a link past the end", |s, b| {
+        let leaf = s.leaves[1];
+        put_u32(b, byte(*s.freed.last().unwrap(), 4), leaf);
+        put_u32(b, byte(leaf, 4), s.n);
+        vec![0, s.parent(leaf)]
     }),
     ("a leaf within a whole chain of freed pages", |s, b| {
         let leaf = u32_at(b, entry(s.inner[0], 1));
-        put_u32(b, record(leaf, 0), s.freed[0]);
-        put_u32(b, entry(s.inner[0], 1) + 4, s.freed[0]);
+        put_u32(b, byte(leaf, 4), s.freed[0]);
         put_u32(b, FREED, leaf);
         vec![s.inner[0]]
     }),
@@ -266,7 +297,7 @@ const INNER: [(&str, Rule); 17] = [
 ];
 
 /// The judge's set, the check's page, and the codes of the other acts.
-fn rule(run: &mut Run, name: &str, s: &Sound, rule: Rule) {
+fn rule(run: &mut Run, name: &str, s: &Sound, rule: impl Fn(&Sound, &mut [u8]) -> Vec<u32>) {
     let mut b = s.b.clone();
     let want: BTreeSet<u32> = rule(s, &mut b).into_iter().collect();
     let got = judge::fails(&b);
@@ -310,9 +341,17 @@ pub fn all(run: &mut Run) {
             let mut rng = Rng(8);
             for _ in 0..20 {
                 let s = Sound::new(&mut rng);
-                rules.iter().for_each(|(name, r)| rule(run, name, &s, *r));
+                rules.iter().for_each(|(name, r)| rule(run, name, &s, r));
             }
         });
     }
+    run.case("rule by rule: each coordinate out of range, all keys in order", |run| {
+        let s = Sound::new(&mut Rng(11));
+        for stored in 2001..COORDINATES {
+            for upper in 0..32 {
+                rule(run, &format!("{stored}, upper bits {upper}"), &s, |s, b| beyond(s, b, stored | upper << 11));
+            }
+        }
+    });
     run.case("entries that lead back", |run| [0, 1, 2, 3, 4, 5, 6, 7, 100, 255].iter().for_each(|&level| ring(run, level)));
 }
