@@ -5,6 +5,27 @@ use std::collections::hash_map::{Entry, HashMap};
 
 type Point = [i16; MAX_FEATURES];
 
+// What is read here of the byte layout. docs/LAYOUT.md rules: a change there is made here too.
+/// Of the header: features, root page, the root's level, total of records.
+const FEATURES: usize = 4;
+const ROOT: usize = 8;
+const LEVEL: usize = 12;
+const TOTAL: usize = 16;
+/// Of every page of the tree: the count of its items.
+const COUNT: usize = 1;
+/// Of an inner page: its entries, each of which begins with the child page.
+const ENTRIES: usize = 4;
+const ENTRY_BYTES: usize = 20;
+/// Of a leaf: its columns, each with one coordinate of all records, and their identifiers.
+const COLUMNS: usize = 32;
+const COLUMN_BYTES: usize = 32;
+const COORDINATE_BYTES: usize = 2;
+const IDENTIFIERS: usize = 576;
+const IDENTIFIER_BYTES: usize = 4;
+/// Of a coordinate's bytes the low 11 bits count, as a number below this; it is stored as 1,000 more than it is.
+const STORED_BELOW: u16 = 2048;
+const STORED_MORE: i16 = 1000;
+
 /// A sound index that keeps its live identifiers with their points in a table: [`SoundIndex::with_identifiers`] makes it.
 ///
 /// Its methods do what those of [`SoundIndex`] do, with the same refusals and the same bytes. Insert and delete ask the table whether an
@@ -20,20 +41,19 @@ impl<B: StableBytes> TabledIndex<B> {
     /// Reads every leaf of the index once.
     pub(crate) fn of(sound: SoundIndex<B>) -> TabledIndex<B> {
         let bytes = sound.as_bytes();
-        let mut points = HashMap::with_capacity(word(bytes, 16) as usize);
-        let mut pages = vec![(word(bytes, 8), bytes[12])];
+        let mut points = HashMap::with_capacity(word(bytes, TOTAL) as usize);
+        let mut pages = vec![(word(bytes, ROOT), bytes[LEVEL])];
         while let Some((page, level)) = pages.pop() {
             let page = &bytes[page as usize * PAGE_BYTES..][..PAGE_BYTES];
-            for i in 0..usize::from(page[1]) {
+            for i in 0..usize::from(page[COUNT]) {
                 if level == 0 {
-                    let record = &page[4 + 44 * i..][..44];
-                    points.insert(word(record, 0), point_of(record));
+                    points.insert(word(page, IDENTIFIERS + IDENTIFIER_BYTES * i), point_of(page, i));
                 } else {
-                    pages.push((word(page, 4 + 20 * i), level - 1));
+                    pages.push((word(page, ENTRIES + ENTRY_BYTES * i), level - 1));
                 }
             }
         }
-        TabledIndex { features: usize::from(bytes[4]), sound, points }
+        TabledIndex { features: usize::from(bytes[FEATURES]), sound, points }
     }
 
     /// The k records nearest to a point. The tally counts the question and the leaves it read.
@@ -113,12 +133,16 @@ impl<B: StableBytesMut> TabledIndex<B> {
     }
 }
 
-/// Four bytes as a number (docs/LAYOUT.md).
+/// Four bytes as a number.
 fn word(bytes: &[u8], at: usize) -> u32 {
     u32::from_le_bytes([bytes[at], bytes[at + 1], bytes[at + 2], bytes[at + 3]])
 }
 
-/// The coordinates of a record: each is stored as 1,000 more, in two bytes. Slots past the index's features mean nothing.
-fn point_of(record: &[u8]) -> Point {
-    std::array::from_fn(|m| u16::from_le_bytes([record[4 + 2 * m], record[5 + 2 * m]]).wrapping_sub(1000) as i16)
+/// The coordinates of record i of a leaf. Those past the index's features mean nothing.
+fn point_of(leaf: &[u8], i: usize) -> Point {
+    std::array::from_fn(|m| {
+        let at = COLUMNS + COLUMN_BYTES * m + COORDINATE_BYTES * i;
+        let stored = u16::from_le_bytes([leaf[at], leaf[at + 1]]) % STORED_BELOW;
+        stored as i16 - STORED_MORE
+    })
 }

@@ -9,6 +9,9 @@ fn bytes(pages: usize) -> Vec<u8> {
     vec![0xa5; pages * PAGE_BYTES]
 }
 
+/// The second byte of the first identifier in page 2, where that is a leaf (docs/LAYOUT.md).
+const IN_IDENTIFIER: usize = 2 * PAGE_BYTES + 577;
+
 /// d = 1, identifiers 1..=n at 1..=n, inserted upward.
 fn upward(pages: usize, n: u32) -> Index<Vec<u8>> {
     let mut index = Index::make(bytes(pages), 1).unwrap();
@@ -124,7 +127,7 @@ fn rows_past_those_returned_keep_their_contents() {
 #[test]
 fn a_damaged_index_is_refused() {
     let mut damaged = upward(4, 17).into_bytes();
-    damaged[2 * PAGE_BYTES + 5] ^= 0xff;
+    damaged[IN_IDENTIFIER] ^= 0xff;
     let copy = damaged.clone();
     let mut index = Index::over(&mut damaged[..]);
     let fault = index.check().unwrap_err();
@@ -237,7 +240,7 @@ fn acts_are_right_about_bytes_that_change() {
     }
     let whole = upward(4, 17).into_bytes();
     let mut damaged = whole.clone();
-    damaged[2 * PAGE_BYTES + 5] ^= 0xff;
+    damaged[IN_IDENTIFIER] ^= 0xff;
     let index = Index::over(Changing(Cell::new(0), [whole, damaged]));
     let mut tally = Tally::default();
     for _ in 0..2 {
@@ -317,6 +320,40 @@ fn a_tabled_index_does_what_a_sound_one_does() {
         tabled_series(d, reach, 20, 1500);
         tabled_series(d, reach, 400, 4000);
     }
+}
+
+/// Bytes and bits of a leaf that docs/LAYOUT.md leaves unused do not come into the table.
+#[test]
+fn a_table_reads_nothing_unused() {
+    let mut random = Random(3);
+    let mut index = Index::make(bytes(20), 3).unwrap();
+    let mut points = BTreeMap::new();
+    for id in 1..=100 {
+        let point = random.point(3, 1000);
+        index.insert(id, &point).unwrap();
+        points.insert(id, point);
+    }
+    let mut bytes = index.into_bytes();
+    let mut leaves = 0;
+    for page in bytes.chunks_mut(PAGE_BYTES).skip(1).filter(|page| page[0] == 0 && page[1] <= 16) {
+        let count = usize::from(page[1]);
+        for column in page[32..544].chunks_mut(32).take(3) {
+            column.chunks_mut(2).take(count).for_each(|stored| stored[1] |= 0xf8);
+            column[2 * count..].fill(0xff);
+        }
+        page[2..32].fill(0xff);
+        page[32 + 3 * 32..576].fill(0xff);
+        page[576 + 4 * count..].fill(0xff);
+        leaves += 1;
+    }
+    assert!(leaves > 6);
+    let mut tabled = Index::open(bytes).unwrap().with_identifiers();
+    table_is(&tabled, &points);
+    for id in 1..=100 {
+        tabled.delete(id).unwrap();
+    }
+    assert!(tabled.is_empty());
+    Index::open(tabled.into_bytes()).unwrap();
 }
 
 #[test]
