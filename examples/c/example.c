@@ -46,7 +46,8 @@ int main(void)
     }
     printf("tally: %" PRIu32 " questions, %" PRIu32 " leaves\n", tally.questions, tally.leaves);
 
-    index[EPOCH_INDEX_PAGE_BYTES + 9] = 0xff;
+    /* page 1 then counts more records than a page can hold */
+    index[EPOCH_INDEX_PAGE_BYTES + 1] = 0xff;
     code = epoch_index_check(index, LENGTH, &page);
     printf("check of a damaged page: code %" PRIu32 ", page %" PRIu32 "\n", code, page);
     print(epoch_index_question(index, LENGTH, asked, 2, K, rows, K, &tally), rows);

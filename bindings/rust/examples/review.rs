@@ -30,7 +30,8 @@ fn main() -> Result<(), Box<dyn std::error::Error>> {
     println!("tally: {} questions, {} leaves", tally.questions, tally.leaves);
 
     let mut damaged = sound.into_bytes();
-    damaged[PAGE_BYTES + 9] = 0xff;
+    // page 1 then counts more records than a page can hold
+    damaged[PAGE_BYTES + 1] = 0xff;
     if let Err(fault) = Index::open(damaged) {
         println!("open refused: {} ({fault})", fault.refusal.code());
     }
