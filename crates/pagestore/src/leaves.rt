@@ -3,7 +3,8 @@ ghost use mathlib.Core.Path.{_≡_};
 ghost use mathlib.Core.List.{[]};
 ghost use Prim.Native.Nat.{_<_};
 ghost use lib.ListN.{length, getD};
-ghost use Rattle.pagestore.specs.Layout.{coordRoom, recordAt, leafOf, putCoords, putRecord, leafBytes};
+ghost use Rattle.pagestore.specs.Bytes.{leAt};
+ghost use Rattle.pagestore.specs.Layout.{coordRoom, coordAt, recordAt, leafOf, putCoords, putRecord, leafBytes};
 ghost use Rattle.pagestore.specs.LayoutLaws.{noRecord};
 ghost use Rattle.pagestore.specs.Store.{recordsIn, setLeaf};
 use crate::Leaf;
@@ -54,12 +55,20 @@ pub fn read_count(page: &[u8]) -> usize
     get_u8(page, 1) as usize
 }
 
+// The two bytes of a coordinate, apart from the mask: so compiled they are one load, and a loop over records has lanes.
+fn coord_bytes(page: &[u8], m: usize, i: usize) -> u16
+    requires { ⌜ (length (now page) ≡ 1024) × (m < 16) × (i < 16) ⌝ }
+    ensures { λ r. ⌜ r ≡ leAt 2 (now (page .entry)) (coordAt m i) ⌝ }
+{
+    get_u16(page, COLUMNS + WIDTH * m + 2 * i)
+}
+
 // One coordinate of a record, as stored.
 pub fn read_coord(page: &[u8], m: usize, i: usize) -> u16
     requires { ⌜ (length (now page) ≡ 1024) × (m < 16) × (i < 16) ⌝ }
     ensures { λ r. ⌜ (r ≡ getD (getD (leafOf (now (page .entry)) .records) i noRecord .coords) m 0) × (r < coordRoom) ⌝ }
 {
-    get_u16(page, COLUMNS + WIDTH * m + 2 * i) % ROOM
+    coord_bytes(page, m, i) % ROOM
 }
 
 // The identifier of a record.
