@@ -5,6 +5,7 @@ pub mod RoomLaws
 pub mod SoundLaws
 pub mod SetLaws
 pub mod Promises
+pub mod WordLaws
 pub mod ColumnLaws
 pub mod LeafLaws
 pub mod KeyLaws

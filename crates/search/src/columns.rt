@@ -1,19 +1,36 @@
 // The squared distances of a leaf's records together, coordinate by coordinate: a column of the page holds one coordinate of all its records, so that
 // each loop goes over neighbours.
 ghost use mathlib.Core.Path.{_≡_};
-ghost use Prim.Native.Nat.{_+_, _≤_, _<_};
+ghost use Prim.Native.Nat.{_+_, _*_, _≤_, _<_};
+ghost use lib.IntN.{pos, natAbs, _-ℤ_};
 ghost use lib.ListN.{length, getD};
 ghost use Rattle.search.specs.Columns.{coordsAt, gapSquare, mostCost, Sums};
-use geometry::points::apart;
 use pagestore::read_coord;
+
+// The gap of two stored coordinates, in 16 bits with its sign: so much a lane of the loops below holds.
+fn gap_of(x: u16, y: u16) -> i16
+    requires { ⌜ (x < 2048) × (y < 2048) ⌝ }
+    ensures { λ r. ⌜ r ≡ pos x -ℤ pos y ⌝ }
+{
+    let a = x as i16;
+    let b = y as i16;
+    a - b
+}
+
+fn squared(gap: i16) -> u32
+    requires { ⌜ natAbs gap ≤ 2047 ⌝ }
+    ensures { λ r. ⌜ r ≡ natAbs gap * natAbs gap ⌝ }
+{
+    let g = gap as i32;
+    (g * g) as u32
+}
 
 // The square of the gap of two stored coordinates.
 fn square_gap(x: u16, y: u16) -> u32
     requires { ⌜ (x < 2048) × (y < 2048) ⌝ }
     ensures { λ r. ⌜ (r ≡ gapSquare x y) × (r ≤ mostCost) ⌝ }
 {
-    let gap = apart(x, y) as u32;
-    gap * gap
+    squared(gap_of(x, y))
 }
 
 // What coordinate m of record r costs, where that of the asked point is x.
