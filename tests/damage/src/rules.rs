@@ -244,14 +244,12 @@ const INNER: [(&str, Rule); 17] = [
     ("a leaf that is freed too", |s, b| {
         let leaf = s.leaves[1];
         put_u32(b, byte(*s.freed.last().unwrap(), 4), leaf);
-        let (id, first) = (u32_at(b, identifier(leaf, 0)), s.leaves[1]);
-        assert!(id >= s.n);
-        vec![0, s.parent(first)]
+        put_u32(b, byte(leaf, 4), s.n);
+        vec![0, s.parent(leaf)]
     }),
     ("a leaf within a whole chain of freed pages", |s, b| {
         let leaf = u32_at(b, entry(s.inner[0], 1));
-        put_u32(b, identifier(leaf, 0), s.freed[0]);
-        put_u32(b, entry(s.inner[0], 1) + 4, s.freed[0]);
+        put_u32(b, byte(leaf, 4), s.freed[0]);
         put_u32(b, FREED, leaf);
         vec![s.inner[0]]
     }),
