@@ -2,7 +2,7 @@
 use mathlib.Core.Path.{refl}
 use borrow.Author.Tests.{not-true, not-false}
 use Rattle.acts.specs.Running.{stays, closed, fails}
-use Rattle.acts.proofs.RunLaws.{cleared-broken, cleared-open, cleared-same, close-needs}
+use Rattle.acts.proofs.RunLaws.{cleared-broken, close-needs}
 use borrow.Author.Needs.{needs}
 use Rattle.acts.proofs.close.Statement.{statement}
 use Rattle.acts.proofs.close.Tie as tie

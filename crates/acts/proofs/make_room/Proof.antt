@@ -1,8 +1,6 @@
 -- `make_room` meets its contract. Assumes nothing.
-use mathlib.Core.Path.{refl, _∙_}
-use mathlib.Core.Logic.{inl, inr}
-use native.Mathlib.Omega.{arith}
-use Rattle.acts.specs.Running.{roomy, flushed, broken}
+use mathlib.Core.Path.{refl}
+use Rattle.acts.specs.Running.{roomy}
 use Rattle.acts.proofs.RunLaws.{flush-makes, flush-ends}
 use borrow.Author.Needs.{needs}
 use Rattle.acts.proofs.make_room.Statement.{statement}

@@ -5,7 +5,6 @@ use native.Mathlib.Omega.{arith}
 use lib.ListN.{length}
 use borrow.Author.Tests.{ltb-true, ltb-false}
 use Rattle.acts.proofs.RunLaws.{Chunked, chunk-start, chunk-turn, chunk-done}
-use borrow.Author.Needs.{needs}
 use Rattle.acts.proofs.run_chunk.Statement.{statement}
 use Rattle.acts.proofs.run_chunk.Tie as tie
 
