@@ -1,11 +1,12 @@
 // The acts program (01): runs the acts of a text, read from standard input, on a 64-page index, and writes what they print to standard output.
 ghost use mathlib.Core.Path.{_≡_};
-ghost use mathlib.Core.Bool.{true};
+ghost use mathlib.Core.Bool.{true, false};
 ghost use Prim.Native.Nat.{_≤_};
 ghost use lib.ListN.{length};
 ghost use Rattle.io.specs.Counts.{Counts};
 ghost use Rattle.acts_step.specs.Steps.{indexBytes, mostPrinted};
-ghost use Rattle.acts.specs.Running.{Fits, Roomy, Turned, Ran};
+ghost use Rattle.acts_step.specs.Advances.{Flushed};
+ghost use Rattle.acts.specs.Running.{Fits, Placed, Open, Full, Cleared, Ran, UsedUp, Taken, Closed, Whole};
 use acts_step::Progress;
 use acts_step::end_input;
 use acts_step::take_line;
@@ -20,7 +21,7 @@ const LAST: u64 = 18446744073709551614;
 
 // The progress with other places of chunk and output.
 fn placed(s: Progress, going: bool, at: usize, end: usize) -> Progress
-    ensures { λ r. ⌜ (r .d ≡ s .d) × (r .number ≡ s .number) × (r .held ≡ s .held) × (r .at ≡ at) × (r .end ≡ end) × (r .going ≡ going) ⌝ }
+    ensures { λ r. ⌜ Placed s going at end r ⌝ }
 {
     Progress {
         going: going,
@@ -32,43 +33,43 @@ fn placed(s: Progress, going: bool, at: usize, end: usize) -> Progress
     }
 }
 
-// Writes what is printed. Where that fails the run does not go on.
+// Hands over what is printed, to be written. Where that fails the run does not go on.
 fn flush(out: &[u8], s: Progress) -> Progress
     requires { ⌜ s .end ≤ length (now out) ⌝ }
-    ensures { λ r. ⌜ (r .d ≡ s .d) × (r .number ≡ s .number) × (r .held ≡ s .held) × (r .at ≡ s .at) × (r .end ≡ 0) ⌝ }
+    ensures { λ r. ⌜ Flushed s r ⌝ }
 {
     let end = s.end;
     let is_written = io::write_all(STDOUT_FILENO, &out[..end]);
     placed(s, s.going && is_written, s.at, 0)
 }
 
-// Makes room for what a line prints.
-fn make_room(out: &[u8], s: Progress) -> Progress
-    requires { ⌜ (s .end ≤ length (now out)) × (mostPrinted ≤ length (now out)) ⌝ }
-    ensures { λ r. ⌜ Roomy (now (out .entry)) s r ⌝ }
-{
-    if ROOM <= out.len() - s.end {
-        return s;
-    }
-    flush(out, s)
-}
-
-// Takes the chunk up to the end of a line, or to its own end.
-fn turn(index: &mut [u8], held: &mut [u8], chunk: &[u8], out: &mut [u8], s: Progress) -> Progress
-    requires { ⌜ Fits (now index) (now held) (now out) s × (s .at ≤ length (now chunk)) ⌝ }
-    ensures { λ r. ⌜ Turned (now (index .entry)) (now (held .entry)) (now (chunk .entry)) s (now (index .exit)) (now (held .exit)) (now (out .exit)) r ⌝ }
+// Whether a line can be done: there is room for what it prints, and a number for it.
+fn has_room(s: Progress, space: usize) -> bool
+    requires { ⌜ s .end ≤ space ⌝ }
+    ensures { λ r. ⌜ (r ≡ true → Open space s) × (r ≡ false → Full space s) ⌝ }
 {
     if LAST < s.number {
-        return placed(s, false, s.at, s.end);
+        return false;
     }
-    let t = make_room(out, s);
-    if !t.going {
-        return t;
-    }
-    take_line(index, held, chunk, out, t)
+    ROOM <= space - s.end
 }
 
-// Does the lines that end in a chunk.
+// Makes room for a line. Where it has no number the run does not go on.
+fn make_room(out: &[u8], s: Progress) -> Progress
+    requires { ⌜ (s .end ≤ length (now out)) × (mostPrinted ≤ length (now out)) ⌝ }
+    ensures { λ r. ⌜ Cleared (now (out .entry)) s r ⌝ }
+{
+    if has_room(s, out.len()) {
+        return s;
+    }
+    let t = flush(out, s);
+    if LAST < t.number {
+        return placed(t, false, t.at, 0);
+    }
+    t
+}
+
+// Does the lines that end in a chunk, from `s.at` on, as far as there is room for what they print.
 fn run_chunk(
     index: &mut [u8],
     held: &mut [u8],
@@ -76,12 +77,28 @@ fn run_chunk(
     out: &mut [u8],
     s: Progress,
 ) -> Progress
-    requires { ⌜ Fits (now index) (now held) (now out) s × (s .going ≡ true) ⌝ }
-    ensures { λ r. ⌜ Ran (now (index .entry)) (now (held .entry)) (now (chunk .entry)) s (now (index .exit)) (now (held .exit)) (now (out .exit)) r ⌝ }
+    requires { ⌜ Fits (now index) (now held) (now out) s × (s .at ≤ length (now chunk)) ⌝ }
+    ensures { λ r. ⌜ Ran (now (index .entry)) (now (held .entry)) (now (chunk .entry)) (now (out .entry)) s (now (index .exit)) (now (held .exit)) (now (out .exit)) r ⌝ }
+{
+    let mut t = s;
+    while t.going && t.at < chunk.len() && has_room(t, out.len()) {
+        t = take_line(index, held, chunk, out, t);
+    }
+    t
+}
+
+// Does all lines that end in a chunk, and hands over what they print where there is no room for more.
+fn use_up(index: &mut [u8], held: &mut [u8], chunk: &[u8], out: &mut [u8], s: Progress) -> Progress
+    requires { ⌜ Fits (now index) (now held) (now out) s ⌝ }
+    ensures { λ r. ⌜ UsedUp (now (index .entry)) (now (held .entry)) (now (chunk .entry)) (now (out .entry)) s (now (index .exit)) (now (held .exit)) (now (out .exit)) r ⌝ }
 {
     let mut t = placed(s, s.going, 0, s.end);
     while t.going && t.at < chunk.len() {
-        t = turn(index, held, chunk, out, t);
+        let u = make_room(out, t);
+        if !u.going {
+            return u;
+        }
+        t = run_chunk(index, held, chunk, out, u);
     }
     t
 }
@@ -103,7 +120,7 @@ fn run_input(
     s: Progress,
 ) -> Progress
     requires { ⌜ Fits (now index) (now held) (now out) s ⌝ }
-    ensures { λ r. ⌜ Fits (now (index .exit)) (now (held .exit)) (now (out .exit)) r ⌝ }
+    ensures { λ r. ⌜ Taken (now (index .entry)) (now (held .entry)) (now (out .entry)) s (now (index .exit)) (now (held .exit)) (now (out .exit)) r ⌝ }
 {
     let mut t = s;
     let mut turns = u64::MAX;
@@ -112,32 +129,31 @@ fn run_input(
         if n == 0 {
             return t;
         }
-        t = run_chunk(index, held, &chunk[..n], out, t);
+        t = use_up(index, held, &chunk[..n], out, t);
         turns -= 1;
     }
     t
 }
 
 // The end of input ends a last line, unless the run has ended before.
-fn close(index: &mut [u8], held: &[u8], out: &mut [u8], s: Progress)
+fn close(index: &mut [u8], held: &[u8], out: &mut [u8], s: Progress) -> Progress
     requires { ⌜ Fits (now index) (now held) (now out) s ⌝ }
+    ensures { λ r. ⌜ Closed (now (index .entry)) (now (held .entry)) (now (out .entry)) s (now (index .exit)) (now (out .exit)) r ⌝ }
 {
     if !s.going {
-        flush(out, s);
-        return;
-    }
-    if LAST < s.number {
-        flush(out, s);
-        return;
+        return s;
     }
     let t = make_room(out, s);
-    let u = end_input(index, held, out, t);
-    flush(out, u);
+    if !t.going {
+        return t;
+    }
+    end_input(index, held, out, t)
 }
 
-// A whole run, from its first line to the end of input.
-fn run(index: &mut [u8], held: &mut [u8], chunk: &mut [u8], out: &mut [u8])
+// A whole run, from its first line to the end of input. What is left in `out` is still to be written.
+fn run(index: &mut [u8], held: &mut [u8], chunk: &mut [u8], out: &mut [u8]) -> Progress
     requires { ⌜ (length (now index) ≡ indexBytes) × (257 ≤ length (now held)) × (mostPrinted ≤ length (now out)) ⌝ }
+    ensures { λ r. ⌜ Whole (now (index .entry)) (now (index .exit)) (now (out .exit)) r ⌝ }
 {
     let s = Progress {
         going: true,
@@ -148,7 +164,7 @@ fn run(index: &mut [u8], held: &mut [u8], chunk: &mut [u8], out: &mut [u8])
         end: 0,
     };
     let t = run_input(index, held, chunk, out, s);
-    close(index, held, out, t);
+    close(index, held, out, t)
 }
 
 fn main() {
@@ -156,5 +172,6 @@ fn main() {
     let mut chunk = io::large_buffer();
     let mut out = io::large_buffer();
     let mut held = [0u8; 257];
-    run(&mut index, &mut held, &mut chunk, &mut out);
+    let r = run(&mut index, &mut held, &mut chunk, &mut out);
+    flush(&out, r);
 }

@@ -1,5 +1,5 @@
--- A whole input. `text-prints`: turns over all of an input and then its end print what the input's lines call for. `text-ends`: after an unreadable first line
--- nothing more is looked at. `prints-stands`: the index that an input leaves.
+-- A whole input. `text-prints`: of turns over all of an input and then its end, what is handed over and what stands in the buffer is what the input's lines
+-- call for. `text-ends`: after an unreadable first line nothing more is looked at. `prints-stands`: the index that an input leaves.
 use mathlib.Core.Path.{_≡_, refl, sym, ap, _∙_, subst}
 use mathlib.Core.Logic.{_≢_, _⊎_, inl, inr}
 use mathlib.Core.Bool.{Bool, true, false, not}
@@ -17,13 +17,13 @@ use Rattle.acts_text.specs.Input.{linesOf, kept, ended, current, lastLine}
 use Rattle.acts_text.proofs.InputLaws.{lines-kept}
 use Rattle.acts_text.proofs.NameLaws.{names-kept}
 use Rattle.acts_step.specs.Steps.{indexBytes, Steps, Begins, ends, begins}
-use Rattle.acts_step.specs.Advances.{Does, first, later, Closes, closed, last, Goings, Advances}
+use Rattle.acts_step.specs.Advances.{Does, first, later, Closes, closed, last, Goings, Advances, Hands, Fresh}
 use Rattle.acts_step.specs.Advances as goings
 use Rattle.acts_step.specs.Texts.{Runs, firstOf, laterOf, Prints}
 use Rattle.acts_step.specs.Texts as texts
 use Rattle.acts_step.specs.declared.Progress.{Progress}
 use Rattle.acts_step.proofs.StepLaws.{lent, few-features}
-use Rattle.acts_step.proofs.AdvanceLaws.{advances-more}
+use Rattle.acts_step.proofs.AdvanceLaws.{advances-more, written-taken, text-handed}
 use Rattle.acts_step.proofs.TextLaws.{runs-append, runs-kept, runs-series, text-stands}
 
 -- ---- THE FIRST LINE AND THE LATER ONES, AS KEPT
@@ -125,7 +125,7 @@ prints-all {b = b} {i = i} {m = m} {c = c} {l = l} {u = u} {n = n} {d' = d'} {n'
     (goes-on b i d₁ x made s c (t ++ u) (ls ++ lastLine l) (v .0) (v .1) (named d₁ g₁ (goings-going r e) h) g (subst (λ (y : ℕ). Runs d₁ made y (ls ++ lastLine l) c (t ++ u)) two all))
 
 -- what the end of input prints
-abbrev pub lastText : {b held out : List ℕ} {s : Progress} {c out' : List ℕ} {r : Progress} → Closes b held out s c out' r → List ℕ
+abbrev lastText : {b held out : List ℕ} {s : Progress} {c out' : List ℕ} {r : Progress} → Closes b held out s c out' r → List ℕ
 lastText (closed n z e f g) = []
 lastText (last w e) = e .done .text
 
@@ -137,15 +137,34 @@ close-last {held = held} fit (closed n z e f g) = none n (ap (λ (x : ℕ). take
 close-last fit (last (inl w) e) = some (inl w) (e .done .says)
 close-last {held = held} {r = r} fit (last (inr w) e) = some (inr (held-some (r .held) held fit w)) (e .done .says)
 
--- an input i that a run which begins has taken whole, and its end: what is printed is what the lines of i call for
-pub text-prints : (b held i : List ℕ) (s : Progress) (m held' : List ℕ) (r : Progress) → s .number ≡ 1 → s .held ≡ 0 → (p : Advances b held i s m held' [] r) → r .going ≡ true
-    → (out c out' : List ℕ) (q : Progress) → r .held ≤ length held' → (k : Closes m held' out r c out' q) → Prints b i c (p .text ++ lastText k)
+-- the lines of an input i that is taken whole, and its end
+lines-print : (b held i : List ℕ) (s : Progress) (m held' : List ℕ) (r : Progress) (t : List ℕ) → Fresh s → Advances b held i s m held' [] r t → r .going ≡ true
+    → (out c out' : List ℕ) (q : Progress) → r .held ≤ length held' → (k : Closes m held' out r c out' q) → Prints b i c (t ++ lastText k)
 unfolding ended current
-text-prints b held i s m held' r o h p e out c out' q fit k =
-    let start : take (s .held) held ≡ [] = ap (λ (x : ℕ). take x held) h in
+lines-print b held i s m held' r t f p e out c out' q fit k =
+    let start : take (s .held) held ≡ [] = ap (λ (x : ℕ). take x held) (f .held) in
     let lines : ended [] i ≡ p .lines = ap (λ (x : List ℕ). ended x i) (sym start) ∙ p .ends ∙ append-nil (p .lines) in
     let rest : current [] i ≡ take (r .held) held' = ap (λ (x : List ℕ). current x i) (sym start) ∙ p .rest in
-    prints-all o (p .does) (p .goes e) (lines-kept i ∙ (λ j. lines j ++ lastLine (rest j))) (close-last fit k)
+    prints-all (f .number) (subst (λ (x : Bool). Goings (s .d) (s .number) b x (p .lines) (r .d) (r .number) m (r .going) t) (f .going) (p .does)) e
+    (lines-kept i ∙ (λ j. lines j ++ lastLine (rest j))) (close-last fit k)
+
+-- what the end of input prints is written behind what stood in the buffer
+close-taken : {m held out c out' : List ℕ} {r q : Progress} → r .end ≤ length out → (k : Closes m held out r c out' q) → take (q .end) out' ≡ take (r .end) out ++ lastText k
+close-taken {out = out} {out' = out'} {r = r} fit (closed n z e f g) = ap (λ (x : Progress). take (x .end) out') e ∙ ap (take (r .end)) g ∙ sym (append-nil (take (r .end) out))
+close-taken {out = out} {out' = out'} {r = r} {q = q} fit (last w e) = written-taken out out' (r .end) (q .end) (e .done .text) fit (e .done .written)
+
+none-taken : (s : Progress) (out t : List ℕ) → Fresh s → take (s .end) out ++ t ≡ t
+none-taken s out t f = ap (λ (x : ℕ). take x out ++ t) (f .empty)
+
+-- an input i that a run which begins has taken whole, and its end: what is handed over, and then what stands in the buffer, is the text that i calls for
+pub text-prints : (b held out i : List ℕ) (s : Progress) (m held' out₁ : List ℕ) (r : Progress) (w : List ℕ) → Fresh s → Hands b held out i s m held' out₁ [] r w → r .going ≡ true
+    → (c out₂ : List ℕ) (q : Progress) → r .held ≤ length held' → r .end ≤ length out₁ → Closes m held' out₁ r c out₂ q → Prints b i c (w ++ take (q .end) out₂)
+text-prints b held out i s m held' out₁ r w f h e c out₂ q fit room k =
+    let p = text-handed h in
+    subst (Prints b i c)
+    (ap (λ (x : List ℕ). x ++ lastText k) (sym (none-taken s out (p .text) f) ∙ p .bytes) ∙ append-assoc w (take (r .end) out₁) (lastText k)
+    ∙ ap (λ (x : List ℕ). w ++ x) (sym (close-taken room k)))
+    (lines-print b held i s m held' r (p .text) f (p .advance) e out₁ c out₂ q fit k)
 
 -- ---- AN UNREADABLE FIRST LINE
 
@@ -165,16 +184,24 @@ prints-none {b = b} {i = i} {c = c} ks o (goings.next {d₁ = d₁} {l = l} {s =
 prints-none {n = n} ks o (goings.next (first z g h) (goings.next k r)) e f =
     false-true (sym e ∙ goings-keeps (let v : 2 ≤ n + 1 = omega arith in v) (goings.next k r) refl)
 
--- a run that has ended by its first line has printed what the input calls for, whatever comes behind what it has taken
-pub text-ends : (b held i : List ℕ) (s : Progress) (c held' i' : List ℕ) (r : Progress) → s .number ≡ 1 → s .held ≡ 0 → (p : Advances b held i s c held' i' r) → p .going ≡ false
-    → (j : List ℕ) → Prints b (i ++ j) c (p .text)
-unfolding advances-more
-text-ends b held i s c held' i' r o h p e j =
-    let q = advances-more b held i s c held' i' r j p in
-    let start : take (s .held) held ≡ [] = ap (λ (x : ℕ). take x held) h in
-    let lines : map kept (linesOf (i ++ j)) ≡ (p .lines ++ ended (take (r .held) held') (i' ++ j)) ++ lastLine (current [] (i ++ j)) =
+lines-end : (b held i : List ℕ) (s : Progress) (c held' i' : List ℕ) (r : Progress) (t : List ℕ) → Fresh s → Advances b held i s c held' i' r t → r .going ≡ false
+    → (j : List ℕ) → Prints b (i ++ j) c t
+lines-end b held i s c held' i' r t f p e j =
+    let q = advances-more b held i s c held' i' r t j p in
+    let start : take (s .held) held ≡ [] = ap (λ (x : ℕ). take x held) (f .held) in
+    let lines : map kept (linesOf (i ++ j)) ≡ (q .lines ++ ended (take (r .held) held') (i' ++ j)) ++ lastLine (current [] (i ++ j)) =
     lines-kept (i ++ j) ∙ ap (λ (x : List (List ℕ)). x ++ lastLine (current [] (i ++ j))) (ap (λ (x : List ℕ). ended x (i ++ j)) (sym start) ∙ q .ends) in
-    prints-none (ended (take (r .held) held') (i' ++ j) ++ lastLine (current [] (i ++ j))) o (p .does) e (lines ∙ append-assoc (p .lines) (ended (take (r .held) held') (i' ++ j)) (lastLine (current [] (i ++ j))))
+    prints-none (ended (take (r .held) held') (i' ++ j) ++ lastLine (current [] (i ++ j))) (f .number)
+    (subst (λ (x : Bool). Goings (s .d) (s .number) b x (q .lines) (r .d) (r .number) c (r .going) t) (f .going) (q .does)) e
+    (lines ∙ append-assoc (q .lines) (ended (take (r .held) held') (i' ++ j)) (lastLine (current [] (i ++ j))))
+
+-- a run that has ended by its first line: what is handed over, and then what stands in the buffer, is the text that the input calls for, whatever comes
+-- behind what was taken
+pub text-ends : (b held out i : List ℕ) (s : Progress) (c held' out' i' : List ℕ) (r : Progress) (w : List ℕ) → Fresh s → Hands b held out i s c held' out' i' r w → r .going ≡ false
+    → (j : List ℕ) → Prints b (i ++ j) c (w ++ take (r .end) out')
+text-ends b held out i s c held' out' i' r w f h e j =
+    let p = text-handed h in
+    subst (Prints b (i ++ j) c) (sym (none-taken s out (p .text) f) ∙ p .bytes) (lines-end b held i s c held' i' r (p .text) f (p .advance) e j)
 
 -- ---- THE INDEX THAT AN INPUT LEAVES
 

@@ -6,6 +6,7 @@ use mathlib.Core.List.{List, [], _∷_, _++_}
 use Prim.Native.Nat.{ℕ, suc, _+_, _≤_, _<_}
 use lib.Dec.{eqb}
 use lib.ListN.{length, take, drop}
+use Rattle.acts_text.specs.Bytes.{Written}
 use Rattle.acts_text.specs.Input.{ended, current}
 use Rattle.acts_text.specs.Lines.{limit}
 use Rattle.acts_step.specs.Steps.{indexBytes, mostPrinted, Steps, Begins, Puts}
@@ -68,13 +69,35 @@ pub data Goings : (d n : ℕ) → List ℕ → Bool → List (List ℕ) → (d' 
   next : {d n d₁ d' n' : ℕ} {b l m s c t : List ℕ} {g₁ g' : Bool} {ls : List (List ℕ)}
       → Does d n b l true d₁ g₁ m s → Goings d₁ (n + 1) m g₁ ls d' n' c g' t → Goings d n b true (l ∷ ls) d' n' c g' (s ++ t)
 
--- from progress s to progress r on the input i, of which i' is left: the lines that ended in it, as kept, are done. A run that has ended otherwise,
--- since what it prints could not be written, is told by r alone.
-pub record Advances (b held i : List ℕ) (s : Progress) (c held' i' : List ℕ) (r : Progress) : Type 0 where
+-- from progress s to progress r on the input i, of which i' is left: the lines that ended in it, as kept, are done, and t is the text that they print
+pub record Advances (b held i : List ℕ) (s : Progress) (c held' i' : List ℕ) (r : Progress) (t : List ℕ) : Type 0 where
   pub lines : List (List ℕ)
-  pub text : List ℕ
-  pub going : Bool
   pub ends : ended (take (s .held) held) i ≡ lines ++ ended (take (r .held) held') i'
   pub rest : current (take (s .held) held) i ≡ current (take (r .held) held') i'
-  pub does : Goings (s .d) (s .number) b true lines (r .d) (r .number) c going text
-  pub goes : r .going ≡ true → going ≡ true
+  pub does : Goings (s .d) (s .number) b (s .going) lines (r .d) (r .number) c (r .going) t
+
+-- r is s with nothing in the output buffer; whether the run goes on is told by r
+pub record Flushed (s r : Progress) : Type 0 where
+  pub d : r .d ≡ s .d
+  pub number : r .number ≡ s .number
+  pub held : r .held ≡ s .held
+  pub at : r .at ≡ s .at
+  pub empty : r .end ≡ 0
+
+-- from progress s to progress r on the input i, of which i' is left, with w handed over to be written
+pub data Hands : (b held out i : List ℕ) → Progress → (c held' out' i' : List ℕ) → Progress → List ℕ → Type 0 where
+  -- lines are done, and their text is written in the buffer behind what stood there
+  adds : {b held out i : List ℕ} {s : Progress} {c held' out' i' : List ℕ} {r : Progress} {t : List ℕ}
+      → Advances b held i s c held' i' r t → s .end ≤ length out → Written out out' (s .end) (r .end) t → Hands b held out i s c held' out' i' r []
+  -- there is no room for what a line prints: all that stands in the buffer is handed over
+  flush : {b held out i : List ℕ} {s r : Progress}
+      → length out < s .end + mostPrinted → Flushed s r → r .going ≡ s .going → Hands b held out i s b held out i r (take (s .end) out)
+  both : {b held out i : List ℕ} {s : Progress} {m held₁ out₁ j : List ℕ} {t : Progress} {c held₂ out₂ k : List ℕ} {r : Progress} {u v : List ℕ}
+      → Hands b held out i s m held₁ out₁ j t u → Hands m held₁ out₁ j t c held₂ out₂ k r v → Hands b held out i s c held₂ out₂ k r (u ++ v)
+
+-- a run that begins: at line 1, with nothing held and nothing in the output buffer
+pub record Fresh (s : Progress) : Type 0 where
+  pub going : s .going ≡ true
+  pub number : s .number ≡ 1
+  pub held : s .held ≡ 0
+  pub empty : s .end ≡ 0

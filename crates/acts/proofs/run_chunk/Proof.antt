@@ -1,63 +1,81 @@
 -- `run_chunk` meets its contract. Assumes nothing.
-use mathlib.Core.Path.{sym, _∙_}
-use denote.Ref.{now}
-use borrow.Author.Needs.{needs}
+use mathlib.Core.Logic.{inl, inr}
+use Prim.Native.Nat.{_-_}
+use native.Mathlib.Omega.{arith}
+use lib.ListN.{length}
 use borrow.Author.Tests.{ltb-true, ltb-false}
-use Rattle.lists.specs.Tests.{false-true}
-use Rattle.acts.proofs.RunLaws.{Chunked, left, left-less, chunk-start, chunk-turn, chunk-done}
+use Rattle.acts.proofs.RunLaws.{Chunked, chunk-start, chunk-turn, chunk-done}
 use Rattle.acts.proofs.run_chunk.Statement.{statement}
 use Rattle.acts.proofs.run_chunk.Tie as tie
 
 abbrev Inv-loop : tie.InvT-loop
-Inv-loop index₀ held₀ chunk out₀ t₀ index held out t = Chunked index₀ held₀ out₀ chunk t₀ index held out t
+Inv-loop index₀ held₀ chunk out₀ t₀ index held out t = Chunked index₀ held₀ chunk out₀ t₀ index held out t
 
 abbrev μ-loop : tie.MeasureT-loop
-μ-loop index₀ held₀ chunk out₀ t₀ index held out t = left chunk t
-
-placed-requires : tie.Need-placed-requires Inv-loop μ-loop
-placed-requires c κs = search needs
+μ-loop index₀ held₀ chunk out₀ t₀ index held out t = length chunk - t .at
 
 loop-holds : tie.Need-loop-holds Inv-loop μ-loop
-loop-holds c = let P = c .placed in let e = P .ensures in chunk-start _ _ _ _ (c .before .before .before .before .before .args .s) (P .result) (c .before .before .before .before .before .pre .0) (e .2) (e .3) (e .4)
+loop-holds c = chunk-start _ _ _ _ (c .before .before .before .before .args .s) (c .before .before .before .before .pre .0) (c .before .before .before .before .pre .1)
 
-turn-requires : tie.Need-turn-requires Inv-loop μ-loop
-turn-requires c κs = let w = c .before .before .before .before .before .before .loop .inv in (w .fits, w .within)
+has-room-requires : tie.Need-has-room-requires Inv-loop μ-loop
+has-room-requires c κs = c .before .before .before .loop .inv .fits .space
+
+take-line-requires : tie.Need-take-line-requires Inv-loop μ-loop
+take-line-requires c κs =
+    let w = c .before .before .before .before .before .before .before .before .loop .inv in let o = c .before .before .before .before .has-room .ensures .0 (c .before .before .before .if2 .taken) in
+    (record { pages = w .fits .pages; room = o .room; numbers = o .numbers }, record { line = w .fits .line; few = w .fits .few; at = w .within })
 
 loop-less : tie.Need-loop-less Inv-loop μ-loop
-loop-less c = let T = c .before .before .before .before .before .before .turn in left-less (now (c .before .before .before .before .before .before .before .before .before .before .before .before .before .before .before .before .before .before .before .args .chunk)) (c .before .before .before .before .before .before .before .before .before .before .before .before .before .loop .t) (T .result) (c .before .before .before .before .before .before .before .before .before .before .before .before .loop-test .taken) (ltb-true _ _ (c .before .before .before .before .before .before .before .before .before .before .if1 .taken)) (T .ensures .onward)
+loop-less c =
+    let h = ltb-true _ _ (c .before .before .before .before .before .before .before .before .before .before .before .before .if1 .taken) in let g = c .before .before .before .before .before .before .take-line .ensures .onward h in
+    omega arith
 
 loop-again : tie.Need-loop-again Inv-loop μ-loop
 loop-again c =
-    let T = c .before .before .before .before .before .before .turn in let L = c .before .before .before .before .before .before .before .before .before .before .before .before .before .loop in
-    chunk-turn _ _ _ _ _ (L .index) (L .held) (L .out) _ _ _ (L .t) (T .result) (L .inv) (c .before .before .before .before .before .before .before .before .before .before .before .before .loop-test .taken) (T .kept .0) (T .kept .1 .0) (T .kept .1 .1 .1 .0) (T .ensures)
+    let T = c .before .before .before .before .before .before .take-line in let L = c .before .before .before .before .before .before .before .before .before .before .before .before .before .before .before .loop in
+    chunk-turn _ _ _ _ _ (L .index) (L .held) (L .out) _ _ _ (L .t) (T .result) (L .inv) (c .before .before .before .before .before .before .before .before .before .before .before .before .before .before .loop-test .taken) (ltb-true _ _ (c .before .before .before .before .before .before .before .before .before .before .before .before .if1 .taken)) (c .before .before .before .before .before .before .before .before .before .before .before .has-room .ensures .0 (c .before .before .before .before .before .before .before .before .before .before .if2 .taken)) (T .kept .0) (T .kept .1 .0) (T .kept .1 .1 .1 .0) (T .ensures)
 
 same-length : tie.Need-same-length Inv-loop μ-loop
-same-length c = c .before .before .before .loop .inv .pages
+same-length c = c .before .before .before .before .before .loop .inv .pages
 
 same-length-2 : tie.Need-same-length-2 Inv-loop μ-loop
-same-length-2 c = c .before .before .before .loop .inv .lines
+same-length-2 c = c .before .before .before .before .before .loop .inv .lines
 
 same-length-3 : tie.Need-same-length-3 Inv-loop μ-loop
-same-length-3 c = c .before .before .before .loop .inv .space
+same-length-3 c = c .before .before .before .before .before .loop .inv .space
 
 returns : tie.Need-returns Inv-loop μ-loop
 returns c =
-    let P = c .before .before .before .before .placed in let e = P .ensures in let L = c .before .before .before .loop in
-    chunk-done _ _ _ _ (c .before .before .before .before .before .before .before .before .before .args .s) (P .result) (L .index) (L .held) (L .out) (L .t) (c .before .before .before .before .before .before .before .before .before .pre .1) (e .5) (e .0) (e .1) (e .2) (λ g. ltb-false _ _ (c .if1 .left)) (L .inv)
+    let L = c .before .before .before .before .before .loop in
+    chunk-done _ _ _ _ (c .before .before .before .before .before .before .before .before .before .before .args .s) (L .index) (L .held) (L .out) (L .t) (inr (inr (c .before .has-room .ensures .1 (c .if2 .left)))) (L .inv)
 
 same-length-4 : tie.Need-same-length-4 Inv-loop μ-loop
-same-length-4 c = c .before .loop .inv .pages
+same-length-4 c = c .before .before .before .loop .inv .pages
 
 same-length-5 : tie.Need-same-length-5 Inv-loop μ-loop
-same-length-5 c = c .before .loop .inv .lines
+same-length-5 c = c .before .before .before .loop .inv .lines
 
 same-length-6 : tie.Need-same-length-6 Inv-loop μ-loop
-same-length-6 c = c .before .loop .inv .space
+same-length-6 c = c .before .before .before .loop .inv .space
 
 returns-2 : tie.Need-returns-2 Inv-loop μ-loop
 returns-2 c =
-    let P = c .before .before .placed in let e = P .ensures in let L = c .before .loop in
-    chunk-done _ _ _ _ (c .before .before .before .before .before .before .before .args .s) (P .result) (L .index) (L .held) (L .out) (L .t) (c .before .before .before .before .before .before .before .pre .1) (e .5) (e .0) (e .1) (e .2) (λ g. false-true (sym (c .loop-test .left) ∙ g)) (L .inv)
+    let L = c .before .before .before .loop in
+    chunk-done _ _ _ _ (c .before .before .before .before .before .before .before .before .args .s) (L .index) (L .held) (L .out) (L .t) (inr (inl (ltb-false _ _ (c .if1 .left)))) (L .inv)
+
+same-length-7 : tie.Need-same-length-7 Inv-loop μ-loop
+same-length-7 c = c .before .loop .inv .pages
+
+same-length-8 : tie.Need-same-length-8 Inv-loop μ-loop
+same-length-8 c = c .before .loop .inv .lines
+
+same-length-9 : tie.Need-same-length-9 Inv-loop μ-loop
+same-length-9 c = c .before .loop .inv .space
+
+returns-3 : tie.Need-returns-3 Inv-loop μ-loop
+returns-3 c =
+    let L = c .before .loop in
+    chunk-done _ _ _ _ (c .before .before .before .before .before .before .args .s) (L .index) (L .held) (L .out) (L .t) (inl (c .loop-test .left)) (L .inv)
 
 pub run-chunk-spec : {M : Type 1} → statement M
 run-chunk-spec =
@@ -65,9 +83,9 @@ run-chunk-spec =
     (tie.spec
     Inv-loop
     μ-loop
-    placed-requires
     loop-holds
-    turn-requires
+    has-room-requires
+    take-line-requires
     loop-less
     loop-again
     same-length
@@ -77,4 +95,8 @@ run-chunk-spec =
     same-length-4
     same-length-5
     same-length-6
-    returns-2)
+    returns-2
+    same-length-7
+    same-length-8
+    same-length-9
+    returns-3)
