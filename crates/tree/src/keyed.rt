@@ -1,18 +1,17 @@
 // Whether a record stands where its key leads: one page of each level is read.
 ghost use mathlib.Core.Path.{_≡_};
-ghost use Rattle.pagestore.specs.Store.{recordsIn};
+ghost use Rattle.pagestore.specs.Store.{leafAt, recordsIn};
 ghost use Rattle.tree.specs.Keyed.{leafFor, samePoint, heldAmong, holdsAt};
-use pagestore::Leaf;
 use pagestore::Record;
 use pagestore::features_of;
-use pagestore::inner_at;
-use pagestore::leaf_at;
+use pagestore::record_at;
 use pagestore::root_level;
 use pagestore::root_page;
-use tree_parts::child_at;
-use tree_parts::choose_child;
+use tree_parts::child_of;
+use tree_parts::choose_at;
 use tree_parts::filled;
-use tree_parts::place_of_ident;
+use tree_parts::filled_at;
+use tree_parts::ident_place;
 use tree_parts::record_rank;
 
 // The leaf to which a rank leads from a page; the level falls at each call.
@@ -22,9 +21,8 @@ fn leaf_for(index: &[u8], page: u32, level: u8, rank: u64) -> u32
     if level == 0 {
         return page;
     }
-    let inner = inner_at(index, page);
-    let i = choose_child(inner, rank);
-    let child = child_at(inner, i);
+    let i = choose_at(index, page, rank);
+    let child = child_of(index, page, i);
     leaf_for(index, child, level - 1, rank)
 }
 
@@ -45,14 +43,14 @@ fn same_point(x: Record, y: Record, d: u8) -> bool
     true
 }
 
-// Whether a leaf's first record of an identifier has the point of the record asked for.
-fn held_among(leaf: Leaf, x: Record, d: u8) -> bool
-    ensures { λ r. ⌜ r ≡ heldAmong d x (recordsIn leaf) ⌝ }
+// Whether the leaf at a page has, as its first record of an identifier, one with the point of the record asked for.
+fn held_among(index: &[u8], page: u32, x: Record, d: u8) -> bool
+    ensures { λ r. ⌜ r ≡ heldAmong d x (recordsIn (leafAt (now (index .entry)) page)) ⌝ }
 {
-    let n = filled(leaf.count);
-    let i = place_of_ident(leaf, x.id);
+    let n = filled_at(index, page);
+    let i = ident_place(index, page, x.id);
     if i < n {
-        return same_point(leaf.records[i], x, d);
+        return same_point(record_at(index, page, i), x, d);
     }
     false
 }
@@ -66,5 +64,5 @@ pub fn holds(index: &[u8], x: Record) -> bool
     let root = root_page(index);
     let rank = record_rank(x, d);
     let page = leaf_for(index, root, level, rank);
-    held_among(leaf_at(index, page), x, d)
+    held_among(index, page, x, d)
 }

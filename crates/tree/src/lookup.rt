@@ -2,18 +2,15 @@
 ghost use mathlib.Core.Path.{_≡_};
 ghost use Prim.Native.Nat.{_^_, _<_, _≤_};
 ghost use Rattle.lists.specs.Ascending.{headOr};
-ghost use Rattle.pagestore.specs.Store.{recordsIn};
+ghost use Rattle.pagestore.specs.Store.{leafAt, recordsIn};
 ghost use Rattle.tree_parts.specs.Lookup.{blank, withIdent, findUnder, findIn, leafCount};
-use pagestore::Leaf;
 use pagestore::Record;
-use pagestore::count_at;
 use pagestore::entry_at;
-use pagestore::inner_at;
-use pagestore::leaf_at;
+use pagestore::record_at;
 use pagestore::root_level;
 use pagestore::root_page;
-use tree_parts::filled;
-use tree_parts::place_of_ident;
+use tree_parts::filled_at;
+use tree_parts::ident_place;
 
 // In the place of a record, where there is none.
 fn blank_record() -> Record
@@ -25,13 +22,14 @@ fn blank_record() -> Record
     }
 }
 
-fn find_in_leaf(leaf: Leaf, id: u32) -> Record
-    ensures { λ r. ⌜ r ≡ headOr blank (withIdent id (recordsIn leaf)) ⌝ }
+// The record of an identifier in the leaf at a page, or the blank: only identifiers are read, and the record where it is found.
+fn find_in_leaf(index: &[u8], page: u32, id: u32) -> Record
+    ensures { λ r. ⌜ r ≡ headOr blank (withIdent id (recordsIn (leafAt (now (index .entry)) page))) ⌝ }
 {
-    let n = filled(leaf.count);
-    let i = place_of_ident(leaf, id);
+    let n = filled_at(index, page);
+    let i = ident_place(index, page, id);
     if i < n {
-        return leaf.records[i];
+        return record_at(index, page, i);
     }
     blank_record()
 }
@@ -42,13 +40,12 @@ fn find_under(index: &[u8], page: u32, level: u8, id: u32) -> Record
     ensures { λ r. ⌜ r ≡ findUnder level (now (index .entry)) page id ⌝ }
 {
     if level == 0 {
-        return find_in_leaf(leaf_at(index, page), id);
+        return find_in_leaf(index, page, id);
     }
-    let inner = inner_at(index, page);
-    let n = filled(inner.count);
+    let n = filled_at(index, page);
     let mut i = 0;
     while i < n {
-        let e = inner.entries[i];
+        let e = entry_at(index, page, i);
         let x = find_under(index, e.child, level - 1, id);
         if x.id == id {
             return x;
@@ -76,7 +73,7 @@ pub fn leaf_count(index: &[u8], level: usize, page: u32) -> usize
     if level == 0 {
         return 1;
     }
-    let n = filled(count_at(index, page) as usize);
+    let n = filled_at(index, page);
     if level == 1 {
         return n;
     }

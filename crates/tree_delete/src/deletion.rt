@@ -3,10 +3,11 @@ ghost use mathlib.Core.Path.{_≡_};
 ghost use mathlib.Core.List.{List, [], _∷_, _++_};
 ghost use Prim.Native.Nat.{_+_, _-_, _<_, _≤_};
 ghost use lib.ListN.{take, drop, set};
+ghost use lib.Seq.{slice};
 ghost use Rattle.pagestore.specs.Store.{recordsIn, entriesIn};
 ghost use Rattle.trees.specs.Trees.{rankOf};
 ghost use Rattle.tree_parts.specs.Held.{Held};
-ghost use Rattle.tree_parts.specs.Deletion.{deleteRecord, leftOf, leave, mend, deleteAt, lowerRoot, takeFromTotal, deleteFrom};
+ghost use Rattle.tree_parts.specs.Deletion.{leftOf, leave, mend, deleteAt, lowerRoot, takeFromTotal, deleteFrom};
 ghost use Rattle.tree_parts.specs.CodeTerms.{grownList, LeftDone, deletedOf, evenedOut};
 use crate::evening::even_pages;
 use free_pages::free_page;
@@ -30,23 +31,24 @@ use tree_parts::Left;
 use tree_parts::add_entries;
 use tree_parts::add_records;
 use tree_parts::child_at;
-use tree_parts::choose_child;
+use tree_parts::child_of;
+use tree_parts::choose_at;
 use tree_parts::filled;
+use tree_parts::ident_place;
 use tree_parts::inner_entry;
 use tree_parts::inner_of;
 use tree_parts::leaf_entry;
 use tree_parts::leaf_of;
 use tree_parts::no_entries;
 use tree_parts::no_records;
-use tree_parts::place_of_ident;
 use tree_parts::push_grown;
 use tree_parts::record_rank;
 
-// The leaf without the record of an identifier.
-fn without_record(leaf: Leaf, id: u32) -> Leaf
-    ensures { λ r. ⌜ Held (r .count) (r .records) (deleteRecord id (recordsIn leaf)) ⌝ }
+// The leaf without the record at a place.
+fn without_record(leaf: Leaf, i: usize) -> Leaf
+    requires { ⌜ i ≤ 16 ⌝ }
+    ensures { λ r. ⌜ Held (r .count) (r .records) (slice 0 i (recordsIn leaf) ++ slice (i + 1) 16 (recordsIn leaf)) ⌝ }
 {
-    let i = place_of_ident(leaf, id);
     let any = leaf.records[0];
     let before = add_records(no_records(any), leaf, 0, i);
     let all = add_records(before, leaf, i + 1, 16);
@@ -57,7 +59,8 @@ fn delete_leaf(index: &mut [u8], page: u32, x: Record, d: u8) -> Left
     ensures { λ r. ⌜ LeftDone (deleteAt d 0 (now (index .entry)) page x) (now (index .exit)) r ⌝ }
 {
     let old = leaf_at(index, page);
-    let leaf = without_record(old, x.id);
+    let i = ident_place(index, page, x.id);
+    let leaf = without_record(old, i);
     set_leaf(index, page, leaf);
     let entry = leaf_entry(page, leaf, d);
     Left {
@@ -159,8 +162,8 @@ fn delete_at(index: &mut [u8], page: u32, level: u8, x: Record, rank: u64, d: u8
         return delete_leaf(index, page, x, d);
     }
     let inner = inner_at(index, page);
-    let i = choose_child(inner, rank);
-    let child = child_at(inner, i);
+    let i = choose_at(index, page, rank);
+    let child = child_of(index, page, i);
     let left = delete_at(index, child, level - 1, x, rank, d);
     mend_page(index, page, level, inner, i, left, d)
 }
@@ -170,8 +173,7 @@ fn give_way(index: &mut [u8], level: u8, page: u32)
     requires { ⌜ 0 < level ⌝ }
     ensures { λ _. ⌜ now (index .exit) ≡ lowerRoot level (now (index .entry)) page 1 ⌝ }
 {
-    let inner = inner_at(index, page);
-    let child = child_at(inner, 0);
+    let child = child_of(index, page, 0);
     set_root_page(index, child);
     set_root_level(index, level - 1);
     free_page(index, page);

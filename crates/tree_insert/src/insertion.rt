@@ -23,8 +23,8 @@ use tree_parts::Grown;
 use tree_parts::RecordList;
 use tree_parts::append_entries;
 use tree_parts::append_records;
-use tree_parts::child_at;
-use tree_parts::choose_child;
+use tree_parts::child_of;
+use tree_parts::choose_at;
 use tree_parts::filled;
 use tree_parts::inner_entry;
 use tree_parts::inner_of;
@@ -203,8 +203,8 @@ pub fn insert_at(index: &mut [u8], page: u32, level: u8, x: Record, rank: u64, d
         return insert_leaf(index, page, x, rank, d);
     }
     let inner = inner_at(index, page);
-    let i = choose_child(inner, rank);
-    let child = child_at(inner, i);
+    let i = choose_at(index, page, rank);
+    let child = child_of(index, page, i);
     let grown = insert_at(index, child, level - 1, x, rank, d);
     put_inner(index, page, level, inner, i, grown)
 }

@@ -15,7 +15,6 @@ use pagestore::Inner;
 use pagestore::Record;
 use pagestore::count_at;
 use pagestore::features_of;
-use pagestore::inner_at;
 use pagestore::root_level;
 use pagestore::root_page;
 use pagestore::set_inner;
@@ -24,8 +23,8 @@ use pagestore::set_root_page;
 use pagestore::set_total_records;
 use pagestore::total_records;
 use tree_parts::Grown;
-use tree_parts::child_at;
-use tree_parts::choose_child;
+use tree_parts::child_of;
+use tree_parts::choose_at;
 use tree_parts::inner_of;
 use tree_parts::no_entries;
 use tree_parts::push_entry;
@@ -115,9 +114,8 @@ fn full_run(index: &[u8], page: u32, level: u8, rank: u64) -> u32
     if level == 0 {
         return full;
     }
-    let inner = inner_at(index, page);
-    let i = choose_child(inner, rank);
-    let child = child_at(inner, i);
+    let i = choose_at(index, page, rank);
+    let child = child_of(index, page, i);
     let n = full_run(index, child, level - 1, rank);
     run_on(n, level, full)
 }

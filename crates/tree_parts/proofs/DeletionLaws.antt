@@ -184,7 +184,7 @@ pub delete-zero : (d l : ℕ) (b : List ℕ) (p : ℕ) (x : Record) {y : List �
 delete-zero d l b p x e h = rw e h
 
 pub delete-inner : (d l : ℕ) (b : List ℕ) (p : ℕ) (x : Record) {k i child : ℕ} {es : List Entry} {b1 y : List ℕ} {o z : Left}
-    → l ≢ 0 → k ≡ rankOf d x → es ≡ entriesIn (innerAt b p) → i ≡ choose k es → child ≡ childAt es i
+    → l ≢ 0 → k ≡ rankOf d x → es ≡ entriesIn (innerAt b p) → i ≡ choose k (entriesIn (innerAt b p)) → child ≡ childAt (entriesIn (innerAt b p)) i
     → LeftDone (deleteAt d (l - 1) b child x) b1 o → LeftDone (mend d (l - 1) p es i (deletedOf b1 o)) y z → LeftDone (deleteAt d l b p x) y z
 unfolding deleteAt
 delete-inner d zero b p x n k= es= i= c= h q = absurd (n refl)

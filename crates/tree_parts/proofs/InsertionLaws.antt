@@ -111,7 +111,7 @@ pub level-zero : (d level : ℕ) (b : List ℕ) (p : ℕ) (x : Record) {y : List
 level-zero d level b p x e h = rw e h
 
 pub inner-step : (d level : ℕ) (b : List ℕ) (p : ℕ) (x : Record) {k i child : ℕ} {es : List Entry} {b1 y : List ℕ} {g r : Grown}
-    → level ≢ 0 → k ≡ rankOf d x → es ≡ entriesIn (innerAt b p) → i ≡ choose k es → child ≡ childAt es i
+    → level ≢ 0 → k ≡ rankOf d x → es ≡ entriesIn (innerAt b p) → i ≡ choose k (entriesIn (innerAt b p)) → child ≡ childAt (entriesIn (innerAt b p)) i
     → Done (insertAt d (level - 1) b child x) b1 g → Done (put (writeInner level) innerEntry b1 p (replaced i (grownList g) es)) y r → Done (insertAt d level b p x) y r
 unfolding insertAt
 inner-step d zero b p x z e₀ e₁ e₂ e₃ h h' = absurd (z refl)

@@ -2,9 +2,10 @@
 ghost use mathlib.Core.Path.{_≡_};
 ghost use mathlib.Core.List.{[]};
 ghost use Prim.Native.Nat.{_≤_};
-ghost use Rattle.pagestore.specs.Store.{recordsIn, entriesIn};
+ghost use Rattle.pagestore.specs.Store.{innerAt, recordsIn, entriesIn};
 ghost use Rattle.tree_parts.specs.Entries.{choose, childAt, leafEntry, innerEntry};
 use crate::keys::filled;
+use crate::keys::filled_at;
 use crate::keys::record_key;
 use geometry::Height;
 use geometry::Key;
@@ -13,16 +14,17 @@ use geometry::keys::key_number;
 use pagestore::Entry;
 use pagestore::Inner;
 use pagestore::Leaf;
+use pagestore::entry_at;
 
-// The place of the last child whose first key is not above the rank, else of the first child.
-pub fn choose_child(inner: Inner, rank: u64) -> usize
-    ensures { λ r. ⌜ (r ≡ choose rank (entriesIn inner)) × (r ≤ 15) × (r ≤ inner .count) ⌝ }
+// In the inner page at a page number, the place of the last child whose first key is not above the rank, else of the first child.
+pub fn choose_at(index: &[u8], page: u32, rank: u64) -> usize
+    ensures { λ r. ⌜ (r ≡ choose rank (entriesIn (innerAt (now (index .entry)) page))) × (r ≤ 15) × (r ≤ innerAt (now (index .entry)) page .count) ⌝ }
 {
-    let n = filled(inner.count);
+    let n = filled_at(index, page);
     let mut at = 0;
     let mut i = 1;
     while i < n {
-        let e = inner.entries[i];
+        let e = entry_at(index, page, i);
         if rank < key_number(e.first) {
             return at;
         }
@@ -32,7 +34,19 @@ pub fn choose_child(inner: Inner, rank: u64) -> usize
     at
 }
 
-// The child at a place; no page where there is none.
+// The child at a place of that page; no page where there is none.
+pub fn child_of(index: &[u8], page: u32, i: usize) -> u32
+    ensures { λ r. ⌜ r ≡ childAt (entriesIn (innerAt (now (index .entry)) page)) i ⌝ }
+{
+    let n = filled_at(index, page);
+    if i < n {
+        let e = entry_at(index, page, i);
+        return e.child;
+    }
+    0
+}
+
+// The same of a page held by value.
 pub fn child_at(inner: Inner, i: usize) -> u32
     ensures { λ r. ⌜ r ≡ childAt (entriesIn inner) i ⌝ }
 {

@@ -1,6 +1,7 @@
 // Keys of records.
 ghost use mathlib.Core.Path.{_≡_};
 ghost use Prim.Native.Nat.{min};
+ghost use Rattle.pagestore.specs.Store.{countAt};
 ghost use Rattle.trees.specs.Trees.{keyOf, rankOf};
 use geometry::Height;
 use geometry::Key;
@@ -9,12 +10,20 @@ use geometry::keys::key_number;
 use geometry::keys::key_of;
 use geometry::points::pair_of;
 use pagestore::Record;
+use pagestore::count_at;
 
 // Of a stored count, the slots that it takes in: there are 16.
 pub fn filled(count: usize) -> usize
     ensures { λ r. ⌜ r ≡ min 16 count ⌝ }
 {
     if count < 16 { count } else { 16 }
+}
+
+// The slots that the count of a page takes in.
+pub fn filled_at(index: &[u8], page: u32) -> usize
+    ensures { λ r. ⌜ r ≡ min 16 (countAt (now (index .entry)) page) ⌝ }
+{
+    filled(count_at(index, page) as usize)
 }
 
 pub fn lesser(a: usize, b: usize) -> usize

@@ -8,7 +8,8 @@ mod keys;
 mod places;
 
 pub use entries::child_at;
-pub use entries::choose_child;
+pub use entries::child_of;
+pub use entries::choose_at;
 pub use entries::inner_entry;
 pub use entries::leaf_entry;
 pub use items::add_entries;
@@ -23,8 +24,9 @@ pub use items::push_entry;
 pub use items::push_grown;
 pub use items::push_record;
 pub use keys::filled;
+pub use keys::filled_at;
 pub use keys::record_rank;
-pub use places::place_of_ident;
+pub use places::ident_place;
 
 // Items gathered one after the other: up to 17, one more than a page holds.
 pub struct RecordList {

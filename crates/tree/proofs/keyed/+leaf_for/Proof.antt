@@ -1,9 +1,8 @@
-use mathlib.Core.Path.{ap}
+use mathlib.Core.Path.{refl}
 use native.Mathlib.Nat.{pos-of-ne-zero}
 use native.Mathlib.Omega.{arith}
 use denote.Ref.{now}
 use borrow.Author.Needs.{needs}
-use Rattle.pagestore.specs.Store.{entriesIn}
 use Rattle.tree.proofs.KeyedLaws.{for-leaf, for-inner}
 use Prim.Native.Nat.{ℕ, _<_}
 use borrow.Fn.Kinds.{In}
@@ -11,9 +10,8 @@ use borrow.Fn.PlainCycle.{Measures, is, falls, and}
 use Rattle.tree.proofs.keyed.leaf_for.Reads as leaf-for
 use Rattle.tree.proofs.keyed.leaf_for.Kinds as leaf-for-kinds
 use Rattle.tree.proofs.keyed.+leaf_for.Lts-leaf_for as leaf-for-lts
-use Rattle.pagestore.proofs.inner_at.Reads as inner-at-reads
-use Rattle.tree_parts.proofs.child_at.Reads as child-at-reads
-use Rattle.tree_parts.proofs.choose_child.Reads as choose-child-reads
+use Rattle.tree_parts.proofs.child_of.Reads as child-of-reads
+use Rattle.tree_parts.proofs.choose_at.Reads as choose-at-reads
 use Rattle.tree.proofs.keyed.+leaf_for.{statement}
 use Rattle.tree.proofs.keyed.+leaf_for.Tie.{close}
 
@@ -29,12 +27,10 @@ leaf-for-below t =
 
 abbrev calls : ℕ → leaf-for-lts.Claims
 calls t = (
-  inner-at-reads.Asked,
-  inner-at-reads.Learnt,
-  choose-child-reads.Asked,
-  choose-child-reads.Learnt,
-  child-at-reads.Asked,
-  child-at-reads.Learnt,
+  choose-at-reads.Asked,
+  choose-at-reads.Learnt,
+  child-of-reads.Asked,
+  child-of-reads.Learnt,
   leaf-for-below t,
   leaf-for.Post,
 )
@@ -42,34 +38,29 @@ calls t = (
 leaf-for-returns : (t : ℕ) → leaf-for-lts.Need-returns (calls t) (leaf-for-at t) leaf-for.Post
 leaf-for-returns t c = let a = c .before .before .args in for-leaf (a .level) (now (a .index)) (a .page) (a .rank) (c .if1 .taken)
 
-leaf-for-inner-at-requires : (t : ℕ) → leaf-for-lts.Need-inner-at-requires (calls t) (leaf-for-at t) leaf-for.Post
-leaf-for-inner-at-requires t c κs = search needs
+leaf-for-choose-at-requires : (t : ℕ) → leaf-for-lts.Need-choose-at-requires (calls t) (leaf-for-at t) leaf-for.Post
+leaf-for-choose-at-requires t c κs = search needs
 
-leaf-for-choose-child-requires : (t : ℕ) → leaf-for-lts.Need-choose-child-requires (calls t) (leaf-for-at t) leaf-for.Post
-leaf-for-choose-child-requires t c κs = search needs
-
-leaf-for-child-at-requires : (t : ℕ) → leaf-for-lts.Need-child-at-requires (calls t) (leaf-for-at t) leaf-for.Post
-leaf-for-child-at-requires t c κs = search needs
+leaf-for-child-of-requires : (t : ℕ) → leaf-for-lts.Need-child-of-requires (calls t) (leaf-for-at t) leaf-for.Post
+leaf-for-child-of-requires t c κs = search needs
 
 leaf-for-sub-leaf-for : (t : ℕ) → leaf-for-lts.Need-sub-leaf-for (calls t) (leaf-for-at t) leaf-for.Post
-leaf-for-sub-leaf-for t c = omega (arith, pos-of-ne-zero (c .before .before .before .if1 .left))
+leaf-for-sub-leaf-for t c = omega (arith, pos-of-ne-zero (c .before .before .if1 .left))
 
 leaf-for-leaf-for-requires : (t : ℕ) → leaf-for-lts.Need-leaf-for-requires (calls t) (leaf-for-at t) leaf-for.Post
-leaf-for-leaf-for-requires t c κs = (omega (arith, pos-of-ne-zero (c .before .before .before .if1 .left), c .before .before .before .before .before .pre .0), tt)
+leaf-for-leaf-for-requires t c κs = (omega (arith, pos-of-ne-zero (c .before .before .if1 .left), c .before .before .before .before .pre .0), tt)
 
 leaf-for-returns-2 : (t : ℕ) → leaf-for-lts.Need-returns-2 (calls t) (leaf-for-at t) leaf-for.Post
-leaf-for-returns-2 t c = let a = c .before .before .before .before .before .before .args in
-    for-inner (a .level) (now (a .index)) (a .page) (a .rank) (c .before .before .before .before .if1 .left) (ap entriesIn (c .before .before .before .inner-at .ensures))
-    (c .before .before .choose-child .ensures .0) (c .before .child-at .ensures) (c .leaf-for .ensures)
+leaf-for-returns-2 t c = let a = c .before .before .before .before .before .args in
+    for-inner (a .level) (now (a .index)) (a .page) (a .rank) (c .before .before .before .if1 .left) refl (c .before .before .choose-at .ensures .0) (c .before .child-of .ensures) (c .leaf-for .ensures)
 
 pub +leaf-for-spec : {M : Type 1} → statement M
 +leaf-for-spec = close μ-leaf-for λ t. leaf-for-lts.spec (calls t)
     (leaf-for-at t)
     leaf-for.Post
     (leaf-for-returns t)
-    (leaf-for-inner-at-requires t)
-    (leaf-for-choose-child-requires t)
-    (leaf-for-child-at-requires t)
+    (leaf-for-choose-at-requires t)
+    (leaf-for-child-of-requires t)
     (leaf-for-sub-leaf-for t)
     (leaf-for-leaf-for-requires t)
     (leaf-for-returns-2 t)

@@ -1,56 +1,58 @@
-use mathlib.Core.Path.{_≡_}
+use mathlib.Core.Path.{_≡_, ap, _∙_}
+use Prim.Native.Nat.{min}
 use native.Mathlib.Omega.{arith}
-use lib.ListN.{length}
-use Rattle.tree_parts.proofs.HeldLaws.{unmapped}
+use denote.Ref.{now}
+use Rattle.pagestore.specs.declared.Record.{Record}
+use Rattle.pagestore.specs.Store.{leafAt}
+use Rattle.pagestore.specs.Store.PageLaws.{leaf-counts, records-slots}
+use Rattle.tree.specs.Keyed.{samePoint}
 use Rattle.tree.proofs.KeyedLaws.{among-here, among-none}
 use borrow.Author.Needs.{needs}
 use Rattle.tree.proofs.keyed.held_among.Statement.{statement}
 use Rattle.tree.proofs.keyed.held_among.Tie as tie
 use Rattle.tree.proofs.keyed.held_among.Reads as reads
 use Rattle.tree.proofs.keyed.held_among.Lts as lts
-use Rattle.tree_parts.proofs.filled.Reads as filled-reads
-use Rattle.tree_parts.proofs.place_of_ident.Reads as place-of-ident-reads
+use Rattle.pagestore.proofs.record_at.Reads as record-at-reads
+use Rattle.tree_parts.proofs.filled_at.Reads as filled-at-reads
+use Rattle.tree_parts.proofs.ident_place.Reads as ident-place-reads
 use Rattle.tree.proofs.keyed.same_point.Reads as same-point-reads
 
-filled-requires : tie.Need-filled-requires
-filled-requires c κs = search needs
+filled-at-requires : tie.Need-filled-at-requires
+filled-at-requires c κs = search needs
 
-place-of-ident-requires : tie.Need-place-of-ident-requires
-place-of-ident-requires c κs = search needs
+ident-place-requires : tie.Need-ident-place-requires
+ident-place-requires c κs = search needs
 
-mul-same-point : tie.Need-mul-same-point
-mul-same-point c = search needs
-
-element-copy-out-same-point : tie.Need-element-copy-out-same-point
-element-copy-out-same-point c = search needs
+record-at-requires : tie.Need-record-at-requires
+record-at-requires c κs = search needs
 
 same-point-requires : tie.Need-same-point-requires
 same-point-requires c κs = search needs
 
 returns : tie.Need-returns
-returns c =
-    let a = c .before .before .before .before .before .args in
-    let G = c .before .before .before .before .before .good in
-    let slots : length (a .t1 .records) ≡ 16 = search (unmapped, needs) in
-    let P = c .before .before .before .place-of-ident in
-    among-here (a .d) (a .x) (a .t1 .records) _ (a .t1 .count) (P .result) slots (c .before .before .before .before .filled .ensures) (P .ensures .0) _ (c .before .before .if1 .taken) (c .same-point .ensures)
+returns c = let a = c .before .before .before .before .before .before .args in
+    let F = c .before .before .before .before .filled-at in
+    let P = c .before .before .before .ident-place in
+    let M = leafAt (now (a .index)) (a .page) in
+    let n : F .result ≡ min 16 (M .count) = omega (arith, F .ensures, leaf-counts (now (a .index)) (a .page)) in
+    among-here (a .d) (a .x) (M .records) (F .result) (M .count) (P .result) (records-slots (now (a .index)) (a .page)) n (P .ensures .0) _ (c .before .before .if1 .taken)
+    (c .same-point .ensures ∙ ap (λ (y : Record). samePoint (a .d) y (a .x)) (c .before .record-at .ensures))
 
 returns-2 : tie.Need-returns-2
-returns-2 c =
-    let a = c .before .before .before .args in
-    let G = c .before .before .before .good in
-    let slots : length (a .t1 .records) ≡ 16 = search (unmapped, needs) in
-    let P = c .before .place-of-ident in
-    among-none (a .d) (a .x) (a .t1 .records) _ (a .t1 .count) (P .result) slots (c .before .before .filled .ensures) (P .ensures .0) (c .if1 .left)
+returns-2 c = let a = c .before .before .before .before .args in
+    let F = c .before .before .filled-at in
+    let P = c .before .ident-place in
+    let M = leafAt (now (a .index)) (a .page) in
+    let n : F .result ≡ min 16 (M .count) = omega (arith, F .ensures, leaf-counts (now (a .index)) (a .page)) in
+    among-none (a .d) (a .x) (M .records) (F .result) (M .count) (P .result) (records-slots (now (a .index)) (a .page)) n (P .ensures .0) (c .if1 .left)
 
 pub held-among-spec : {M : Type 1} → statement M
 held-among-spec =
     tie.close
     (tie.spec
-    filled-requires
-    place-of-ident-requires
-    mul-same-point
-    element-copy-out-same-point
+    filled-at-requires
+    ident-place-requires
+    record-at-requires
     same-point-requires
     returns
     returns-2)

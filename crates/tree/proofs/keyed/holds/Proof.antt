@@ -1,3 +1,4 @@
+use mathlib.Core.Path.{refl}
 use denote.Ref.{now}
 use Rattle.tree.proofs.KeyedLaws.{holds-is}
 use borrow.Author.Needs.{needs}
@@ -8,7 +9,6 @@ use Rattle.tree.proofs.keyed.holds.Lts as lts
 use Rattle.pagestore.proofs.features_of.Reads as features-of-reads
 use Rattle.pagestore.proofs.root_level.Reads as root-level-reads
 use Rattle.pagestore.proofs.root_page.Reads as root-page-reads
-use Rattle.pagestore.proofs.leaf_at.Reads as leaf-at-reads
 use Rattle.tree.proofs.keyed.held_among.Reads as held-among-reads
 use Rattle.tree.proofs.keyed.leaf_for.Reads as leaf-for-reads
 use Rattle.tree_parts.proofs.record_rank.Reads as record-rank-reads
@@ -28,17 +28,14 @@ record-rank-requires c κs = search needs
 leaf-for-requires : tie.Need-leaf-for-requires
 leaf-for-requires c κs = search needs
 
-leaf-at-requires : tie.Need-leaf-at-requires
-leaf-at-requires c κs = search needs
-
 held-among-requires : tie.Need-held-among-requires
 held-among-requires c κs = search needs
 
 returns : tie.Need-returns
 returns c =
-    let a = c .before .before .before .before .before .before .before .before .args in
-    holds-is (now (a .index)) (a .x) (c .before .before .before .before .before .before .features-of .ensures) (c .before .before .before .before .before .root-level .ensures) (c .before .before .before .before .root-page .ensures)
-    (c .before .before .before .record-rank .ensures) (c .before .before .leaf-for .ensures) (c .before .leaf-at .ensures) (c .held-among .ensures)
+    let a = c .before .before .before .before .before .before .before .args in
+    holds-is (now (a .index)) (a .x) (c .before .before .before .before .before .features-of .ensures) (c .before .before .before .before .root-level .ensures) (c .before .before .before .root-page .ensures)
+    (c .before .before .record-rank .ensures) (c .before .leaf-for .ensures) refl (c .held-among .ensures)
 
 pub holds-spec : {M : Type 1} → statement M
 holds-spec =
@@ -49,6 +46,5 @@ holds-spec =
     root-page-requires
     record-rank-requires
     leaf-for-requires
-    leaf-at-requires
     held-among-requires
     returns)

@@ -1,10 +1,12 @@
-use mathlib.Core.Path.{_≡_, refl, sym, ap, _∙_}
-use Prim.Native.Nat.{ℕ, _+_, _-_, _%_, _^_, _≤_, _<_, min}
+use mathlib.Core.Path.{_≡_, refl, ap, _∙_}
+use Prim.Native.Nat.{ℕ, _-_, _≤_, _<_, min}
 use native.Mathlib.Nat.{pos-of-ne-zero}
 use native.Mathlib.Omega.{arith}
-use lib.ListN.{length, take, length-take}
 use denote.Ref.{now}
-use Rattle.tree_parts.proofs.HeldLaws.{unmapped}
+use Rattle.pagestore.specs.declared.Entry.{Entry}
+use Rattle.pagestore.specs.Store.{leafAt, innerAt, entriesIn}
+use Rattle.pagestore.specs.Store.PageLaws.{inner-counts, entries-slots}
+use Rattle.tree_parts.specs.Lookup.{findUnder}
 use Rattle.tree_parts.proofs.EntryLaws.{length-filled}
 use Rattle.tree_parts.proofs.LookupLaws.{Seeks, seeks-start, seeks-found, seeks-next, seeks-end, find-leaf}
 use borrow.Author.Needs.{needs}
@@ -13,9 +15,8 @@ use borrow.Fn.PlainCycle.{Measures, is, falls, and}
 use Rattle.tree.proofs.lookup.find_under.Reads as find-under
 use Rattle.tree.proofs.lookup.find_under.Kinds as find-under-kinds
 use Rattle.tree.proofs.lookup.+find_under.Lts-find_under as find-under-lts
-use Rattle.pagestore.proofs.inner_at.Reads as inner-at-reads
-use Rattle.pagestore.proofs.leaf_at.Reads as leaf-at-reads
-use Rattle.tree_parts.proofs.filled.Reads as filled-reads
+use Rattle.pagestore.proofs.entry_at.Reads as entry-at-reads
+use Rattle.tree_parts.proofs.filled_at.Reads as filled-at-reads
 use Rattle.tree.proofs.lookup.blank_record.Reads as blank-record-reads
 use Rattle.tree.proofs.lookup.find_in_leaf.Reads as find-in-leaf-reads
 use Rattle.tree.proofs.lookup.+find_under.{statement}
@@ -33,69 +34,57 @@ find-under-below t =
     and 1 find-under-kinds.ps (falls 1 find-under-kinds.ps _<_ μ-find-under t) find-under.Pre
 
 abbrev find-under-Inv-loop : find-under-lts.InvT-loop
-find-under-Inv-loop index page level id inner n i₀ i = (n ≡ min 16 (inner .count)) × (length (inner .entries) ≡ 16) × (i ≤ n) × Seeks level index page id (take (inner .count) (inner .entries)) i
+find-under-Inv-loop index page level id n i₀ i = (n ≡ min 16 (innerAt index page .count)) × (i ≤ n) × Seeks level index page id (entriesIn (innerAt index page)) i
 
 abbrev find-under-μ-loop : find-under-lts.MeasureT-loop
-find-under-μ-loop index page level id inner n i₀ i = n - i
+find-under-μ-loop index page level id n i₀ i = n - i
 
 abbrev calls : ℕ → find-under-lts.Claims
 calls t = (
-  leaf-at-reads.Asked,
-  leaf-at-reads.Learnt,
   find-in-leaf-reads.Asked,
   find-in-leaf-reads.Learnt,
-  inner-at-reads.Asked,
-  inner-at-reads.Learnt,
-  filled-reads.Asked,
-  filled-reads.Learnt,
+  filled-at-reads.Asked,
+  filled-at-reads.Learnt,
+  entry-at-reads.Asked,
+  entry-at-reads.Learnt,
   find-under-below t,
   find-under.Post,
   blank-record-reads.Asked,
   blank-record-reads.Learnt,
 )
 
-find-under-leaf-at-requires : (t : ℕ) → find-under-lts.Need-leaf-at-requires (calls t) (find-under-at t) find-under.Post find-under-Inv-loop find-under-μ-loop
-find-under-leaf-at-requires t c κs = tt
-
 find-under-find-in-leaf-requires : (t : ℕ) → find-under-lts.Need-find-in-leaf-requires (calls t) (find-under-at t) find-under.Post find-under-Inv-loop find-under-μ-loop
-find-under-find-in-leaf-requires t c κs = tt
+find-under-find-in-leaf-requires t c κs = search needs
 
 find-under-returns : (t : ℕ) → find-under-lts.Need-returns (calls t) (find-under-at t) find-under.Post find-under-Inv-loop find-under-μ-loop
-find-under-returns t c = let a = c .before .before .before .before .args in
-    find-leaf (a .level) (now (a .index)) (a .page) (a .id) (c .before .leaf-at .result) (c .before .before .if1 .taken) (c .before .leaf-at .ensures) (c .find-in-leaf .ensures)
+find-under-returns t c = let a = c .before .before .before .args in
+    find-leaf (a .level) (now (a .index)) (a .page) (a .id) (leafAt (now (a .index)) (a .page)) (c .before .if1 .taken) refl (c .find-in-leaf .ensures)
 
-find-under-inner-at-requires : (t : ℕ) → find-under-lts.Need-inner-at-requires (calls t) (find-under-at t) find-under.Post find-under-Inv-loop find-under-μ-loop
-find-under-inner-at-requires t c κs = search needs
-
-find-under-filled-requires : (t : ℕ) → find-under-lts.Need-filled-requires (calls t) (find-under-at t) find-under.Post find-under-Inv-loop find-under-μ-loop
-find-under-filled-requires t c κs = search needs
+find-under-filled-at-requires : (t : ℕ) → find-under-lts.Need-filled-at-requires (calls t) (find-under-at t) find-under.Post find-under-Inv-loop find-under-μ-loop
+find-under-filled-at-requires t c κs = search needs
 
 find-under-loop-holds : (t : ℕ) → find-under-lts.Need-loop-holds (calls t) (find-under-at t) find-under.Post find-under-Inv-loop find-under-μ-loop
-find-under-loop-holds t c = let a = c .before .before .before .before .args in
-    let I = c .before .inner-at in
-    let G = I .ok in
-    let slots : length (I .result .entries) ≡ 16 = search (unmapped, needs) in
-    (c .filled .ensures, slots, omega arith, seeks-start (a .level) (now (a .index)) (a .page) (a .id) (I .result) (c .before .before .if1 .left) (I .ensures))
+find-under-loop-holds t c = let a = c .before .before .before .args in
+    let M = innerAt (now (a .index)) (a .page) in
+    (omega (arith, c .filled-at .ensures, inner-counts (now (a .index)) (a .page)), omega arith, seeks-start (a .level) (now (a .index)) (a .page) (a .id) M (c .before .if1 .left) refl)
 
-find-under-mul-e : (t : ℕ) → find-under-lts.Need-mul-e (calls t) (find-under-at t) find-under.Post find-under-Inv-loop find-under-μ-loop
-find-under-mul-e t c = search needs
-
-find-under-element-copy-out-e : (t : ℕ) → find-under-lts.Need-element-copy-out-e (calls t) (find-under-at t) find-under.Post find-under-Inv-loop find-under-μ-loop
-find-under-element-copy-out-e t c = search needs
+find-under-entry-at-requires : (t : ℕ) → find-under-lts.Need-entry-at-requires (calls t) (find-under-at t) find-under.Post find-under-Inv-loop find-under-μ-loop
+find-under-entry-at-requires t c κs = search needs
 
 find-under-sub-find-under : (t : ℕ) → find-under-lts.Need-sub-find-under (calls t) (find-under-at t) find-under.Post find-under-Inv-loop find-under-μ-loop
-find-under-sub-find-under t c = omega (arith, pos-of-ne-zero (c .before .before .before .before .before .if1 .left))
+find-under-sub-find-under t c = omega (arith, pos-of-ne-zero (c .before .before .before .before .if1 .left))
 
 find-under-find-under-requires : (t : ℕ) → find-under-lts.Need-find-under-requires (calls t) (find-under-at t) find-under.Post find-under-Inv-loop find-under-μ-loop
-find-under-find-under-requires t c κs = (omega (arith, pos-of-ne-zero (c .before .before .before .before .before .if1 .left), c .before .before .before .before .before .before .before .pre .0), c .before .before .before .before .before .before .before .pre .1)
+find-under-find-under-requires t c κs = (omega (arith, pos-of-ne-zero (c .before .before .before .before .if1 .left), c .before .before .before .before .before .before .pre .0), c .before .before .before .before .before .before .pre .1)
 
 find-under-returns-2 : (t : ℕ) → find-under-lts.Need-returns-2 (calls t) (find-under-at t) find-under.Post find-under-Inv-loop find-under-μ-loop
-find-under-returns-2 t c = let a = c .before .before .before .before .before .before .before .before .before .before .args in
-    let I = c .before .before .before .before .before .before .before .inner-at .result in
+find-under-returns-2 t c = let a = c .before .before .before .before .before .before .before .before .before .args in
+    let M = innerAt (now (a .index)) (a .page) in
     let L = c .before .before .before .before .before .loop in
     let T = c .before .before .before .before .loop-test .taken in
-    seeks-found (a .level) (now (a .index)) (a .page) (a .id) (I .entries) (I .count) (L .i) (c .before .before .find-under .result) (L .inv .3) (c .before .before .before .before .before .before .before .before .before .before .pre .1) (omega arith) (omega arith)
-    (c .before .before .find-under .ensures) (c .if2 .taken)
+    let slots = entries-slots (now (a .index)) (a .page) in
+    seeks-found (a .level) (now (a .index)) (a .page) (a .id) (M .entries) (M .count) (L .i) (c .before .before .find-under .result) (L .inv .2) (c .before .before .before .before .before .before .before .before .before .pre .1) (omega arith) (omega arith)
+    (c .before .before .find-under .ensures ∙ ap (λ (e : Entry). findUnder (a .level - 1) (now (a .index)) (e .child) (a .id)) (c .before .before .before .entry-at .ensures)) (c .if2 .taken)
 
 find-under-add-i : (t : ℕ) → find-under-lts.Need-add-i (calls t) (find-under-at t) find-under.Post find-under-Inv-loop find-under-μ-loop
 find-under-add-i t c = search needs
@@ -104,26 +93,26 @@ find-under-loop-less : (t : ℕ) → find-under-lts.Need-loop-less (calls t) (fi
 find-under-loop-less t c = search needs
 
 find-under-loop-again : (t : ℕ) → find-under-lts.Need-loop-again (calls t) (find-under-at t) find-under.Post find-under-Inv-loop find-under-μ-loop
-find-under-loop-again t c = let a = c .before .before .before .before .before .before .before .before .before .before .args in
-    let I = c .before .before .before .before .before .before .before .inner-at .result in
+find-under-loop-again t c = let a = c .before .before .before .before .before .before .before .before .before .args in
+    let M = innerAt (now (a .index)) (a .page) in
     let L = c .before .before .before .before .before .loop in
-    let T = c .before .before .before .before .loop-test .taken in (
+    let T = c .before .before .before .before .loop-test .taken in
+    let slots = entries-slots (now (a .index)) (a .page) in (
       L .inv .0,
-      L .inv .1,
       omega arith,
-      seeks-next (a .level) (now (a .index)) (a .page) (a .id) (I .entries) (I .count) (L .i) (c .before .before .find-under .result) (L .inv .3) (c .before .before .before .before .before .before .before .before .before .before .pre .1) (omega arith) (omega arith)
-          (c .before .before .find-under .ensures) (c .if2 .left),
+      seeks-next (a .level) (now (a .index)) (a .page) (a .id) (M .entries) (M .count) (L .i) (c .before .before .find-under .result) (L .inv .2) (c .before .before .before .before .before .before .before .before .before .pre .1) (omega arith) (omega arith)
+          (c .before .before .find-under .ensures ∙ ap (λ (e : Entry). findUnder (a .level - 1) (now (a .index)) (e .child) (a .id)) (c .before .before .before .entry-at .ensures)) (c .if2 .left),
     )
 
 find-under-blank-record-requires : (t : ℕ) → find-under-lts.Need-blank-record-requires (calls t) (find-under-at t) find-under.Post find-under-Inv-loop find-under-μ-loop
-find-under-blank-record-requires t c κs = tt
+find-under-blank-record-requires t c κs = search needs
 
 find-under-returns-3 : (t : ℕ) → find-under-lts.Need-returns-3 (calls t) (find-under-at t) find-under.Post find-under-Inv-loop find-under-μ-loop
-find-under-returns-3 t c = let a = c .before .before .before .before .before .before .before .args in
-    let I = c .before .before .before .before .inner-at .result in
+find-under-returns-3 t c = let a = c .before .before .before .before .before .before .args in
+    let M = innerAt (now (a .index)) (a .page) in
     let L = c .before .before .loop in
-    c .blank-record .ensures ∙ seeks-end (a .level) (now (a .index)) (a .page) (a .id) (take (I .count) (I .entries)) (L .i) (L .inv .3)
-    (omega (arith, length-filled (I .entries) _ (I .count) (L .inv .1) (L .inv .0), c .before .loop-test .left))
+    c .blank-record .ensures ∙ seeks-end (a .level) (now (a .index)) (a .page) (a .id) (entriesIn M) (L .i) (L .inv .2)
+    (omega (arith, length-filled (M .entries) _ (M .count) (entries-slots (now (a .index)) (a .page)) (L .inv .0), c .before .loop-test .left))
 
 pub +find-under-spec : {M : Type 1} → statement M
 +find-under-spec = close μ-find-under λ t. find-under-lts.spec (calls t)
@@ -131,14 +120,11 @@ pub +find-under-spec : {M : Type 1} → statement M
     find-under.Post
     find-under-Inv-loop
     find-under-μ-loop
-    (find-under-leaf-at-requires t)
     (find-under-find-in-leaf-requires t)
     (find-under-returns t)
-    (find-under-inner-at-requires t)
-    (find-under-filled-requires t)
+    (find-under-filled-at-requires t)
     (find-under-loop-holds t)
-    (find-under-mul-e t)
-    (find-under-element-copy-out-e t)
+    (find-under-entry-at-requires t)
     (find-under-sub-find-under t)
     (find-under-find-under-requires t)
     (find-under-returns-2 t)

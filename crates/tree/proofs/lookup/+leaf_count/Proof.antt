@@ -6,7 +6,6 @@ use denote.Ref.{now}
 use borrow.Author.Needs.{needs}
 use Rattle.pagestore.specs.declared.Entry.{Entry}
 use Rattle.pagestore.specs.Store.{innerAt, entriesIn}
-use Rattle.pagestore.specs.Store.PageLaws.{count-fits}
 use Rattle.tree_parts.specs.Lookup.{leafCount}
 use Rattle.tree.proofs.CountLaws.{countFrom, inner-number, swapped, count-most, count-leaf, count-low, count-start, count-next, count-end}
 use Rattle.tree.proofs.CountLaws as laws
@@ -16,9 +15,8 @@ use borrow.Fn.PlainCycle.{Measures, is, falls, and}
 use Rattle.tree.proofs.lookup.leaf_count.Reads as leaf-count
 use Rattle.tree.proofs.lookup.leaf_count.Kinds as leaf-count-kinds
 use Rattle.tree.proofs.lookup.+leaf_count.Lts-leaf_count as leaf-count-lts
-use Rattle.pagestore.proofs.count_at.Reads as count-at-reads
 use Rattle.pagestore.proofs.entry_at.Reads as entry-at-reads
-use Rattle.tree_parts.proofs.filled.Reads as filled-reads
+use Rattle.tree_parts.proofs.filled_at.Reads as filled-at-reads
 use Rattle.tree.proofs.lookup.+leaf_count.{statement}
 use Rattle.tree.proofs.lookup.+leaf_count.Tie.{close}
 
@@ -39,207 +37,74 @@ leaf-count-Inv-loop index level page n sum₀ i₀ sum i = (i ≤ n) × (level �
 abbrev leaf-count-μ-loop : leaf-count-lts.MeasureT-loop
 leaf-count-μ-loop index level page n sum₀ i₀ sum i = n - i
 
-leaf-count-returns : (t : ℕ) → leaf-count-lts.Need-returns (
-  count-at-reads.Asked,
-  count-at-reads.Learnt,
-  filled-reads.Asked,
-  filled-reads.Learnt,
-  entry-at-reads.Asked,
-  entry-at-reads.Learnt,
-  leaf-count-below t,
-  leaf-count.Post,
-) (leaf-count-at t) leaf-count.Post leaf-count-Inv-loop leaf-count-μ-loop
-leaf-count-returns t c = count-leaf (now (c .before .before .args .index)) (c .before .before .args .level) (c .before .before .args .page) (c .if1 .taken)
-
-leaf-count-count-at-requires : (t : ℕ) → leaf-count-lts.Need-count-at-requires (
-  count-at-reads.Asked,
-  count-at-reads.Learnt,
-  filled-reads.Asked,
-  filled-reads.Learnt,
-  entry-at-reads.Asked,
-  entry-at-reads.Learnt,
-  leaf-count-below t,
-  leaf-count.Post,
-) (leaf-count-at t) leaf-count.Post leaf-count-Inv-loop leaf-count-μ-loop
-leaf-count-count-at-requires t c κs = search needs
-
-leaf-count-cast-filled : (t : ℕ) → leaf-count-lts.Need-cast-filled (
-  count-at-reads.Asked,
-  count-at-reads.Learnt,
-  filled-reads.Asked,
-  filled-reads.Learnt,
-  entry-at-reads.Asked,
-  entry-at-reads.Learnt,
-  leaf-count-below t,
-  leaf-count.Post,
-) (leaf-count-at t) leaf-count.Post leaf-count-Inv-loop leaf-count-μ-loop
-leaf-count-cast-filled t c = search needs
-
-leaf-count-filled-requires : (t : ℕ) → leaf-count-lts.Need-filled-requires (
-  count-at-reads.Asked,
-  count-at-reads.Learnt,
-  filled-reads.Asked,
-  filled-reads.Learnt,
-  entry-at-reads.Asked,
-  entry-at-reads.Learnt,
-  leaf-count-below t,
-  leaf-count.Post,
-) (leaf-count-at t) leaf-count.Post leaf-count-Inv-loop leaf-count-μ-loop
-leaf-count-filled-requires t c κs = search needs
-
-leaf-count-returns-2 : (t : ℕ) → leaf-count-lts.Need-returns-2 (
-  count-at-reads.Asked,
-  count-at-reads.Learnt,
-  filled-reads.Asked,
-  filled-reads.Learnt,
-  entry-at-reads.Asked,
-  entry-at-reads.Learnt,
-  leaf-count-below t,
-  leaf-count.Post,
-) (leaf-count-at t) leaf-count.Post leaf-count-Inv-loop leaf-count-μ-loop
-leaf-count-returns-2 t c = count-low (now (c .before .before .before .before .before .args .index)) (c .before .before .before .before .before .args .level) (c .before .before .before .before .before .args .page) _ _ (c .if2 .taken) (c .before .before .count-at .ensures) (swapped _ _ (c .before .filled .ensures))
-
-leaf-count-loop-holds : (t : ℕ) → leaf-count-lts.Need-loop-holds (
-  count-at-reads.Asked,
-  count-at-reads.Learnt,
-  filled-reads.Asked,
-  filled-reads.Learnt,
-  entry-at-reads.Asked,
-  entry-at-reads.Learnt,
-  leaf-count-below t,
-  leaf-count.Post,
-) (leaf-count-at t) leaf-count.Post leaf-count-Inv-loop leaf-count-μ-loop
-leaf-count-loop-holds t c = let S = (c .before .before .before .before .before) in let z = c .before .before .before .if1 .left in
-    let w = inner-number (now (S .args .index)) (S .args .page) _ _ (c .before .before .count-at .ensures) (swapped _ _ (c .before .filled .ensures)) in
-    let e = count-start (now (S .args .index)) (S .args .level) (S .args .page) (innerAt (now (S .args .index)) (S .args .page)) refl (c .before .filled .result) w z in
-    (omega arith, S .pre .1, z, w, omega arith)
-
-leaf-count-entry-at-requires : (t : ℕ) → leaf-count-lts.Need-entry-at-requires (
-  count-at-reads.Asked,
-  count-at-reads.Learnt,
-  filled-reads.Asked,
-  filled-reads.Learnt,
-  entry-at-reads.Asked,
-  entry-at-reads.Learnt,
-  leaf-count-below t,
-  leaf-count.Post,
-) (leaf-count-at t) leaf-count.Post leaf-count-Inv-loop leaf-count-μ-loop
-leaf-count-entry-at-requires t c κs = let w = c .before .loop .inv .3 in omega (arith, c .loop-test .taken)
-
-leaf-count-sub-leaf-count : (t : ℕ) → leaf-count-lts.Need-sub-leaf-count (
-  count-at-reads.Asked,
-  count-at-reads.Learnt,
-  filled-reads.Asked,
-  filled-reads.Learnt,
-  entry-at-reads.Asked,
-  entry-at-reads.Learnt,
-  leaf-count-below t,
-  leaf-count.Post,
-) (leaf-count-at t) leaf-count.Post leaf-count-Inv-loop leaf-count-μ-loop
-leaf-count-sub-leaf-count t c = let L = c .before .before .loop in omega (arith, L .inv .2)
-
-leaf-count-leaf-count-requires : (t : ℕ) → leaf-count-lts.Need-leaf-count-requires (
-  count-at-reads.Asked,
-  count-at-reads.Learnt,
-  filled-reads.Asked,
-  filled-reads.Learnt,
-  entry-at-reads.Asked,
-  entry-at-reads.Learnt,
-  leaf-count-below t,
-  leaf-count.Post,
-) (leaf-count-at t) leaf-count.Post leaf-count-Inv-loop leaf-count-μ-loop
-leaf-count-leaf-count-requires t c κs = let S = (c .before .before .before .before .before .before .before .before) in let L = c .before .before .loop in let w = S .pre .0 in (omega (arith, L .inv .2), omega arith)
-
-leaf-count-add-sum : (t : ℕ) → leaf-count-lts.Need-add-sum (
-  count-at-reads.Asked,
-  count-at-reads.Learnt,
-  filled-reads.Asked,
-  filled-reads.Learnt,
-  entry-at-reads.Asked,
-  entry-at-reads.Learnt,
-  leaf-count-below t,
-  leaf-count.Post,
-) (leaf-count-at t) leaf-count.Post leaf-count-Inv-loop leaf-count-μ-loop
-leaf-count-add-sum t c = let S = (c .before .before .before .before .before .before .before .before .before) in let L = c .before .before .before .loop in
-    let b = now (S .args .index) in
-    let r = c .leaf-count .ensures .0 ∙ ap (λ (x : Entry). leafCount (S .args .level - 1) b (x .child)) (c .before .entry-at .ensures) in
-    let e = count-next b (S .args .level) (S .args .page) (innerAt b (S .args .page)) refl _ (L .inv .3) (S .args .level - 1) (L .i) (L .sum) _ _ _ (c .before .before .loop-test .taken) r (L .inv .4) in
-    let m = laws.count-fits (S .args .level) (now (S .args .index)) (S .args .page) (L .inv .1) in omega arith
-
-leaf-count-add-i : (t : ℕ) → leaf-count-lts.Need-add-i (
-  count-at-reads.Asked,
-  count-at-reads.Learnt,
-  filled-reads.Asked,
-  filled-reads.Learnt,
-  entry-at-reads.Asked,
-  entry-at-reads.Learnt,
-  leaf-count-below t,
-  leaf-count.Post,
-) (leaf-count-at t) leaf-count.Post leaf-count-Inv-loop leaf-count-μ-loop
-leaf-count-add-i t c = search needs
-
-leaf-count-loop-less : (t : ℕ) → leaf-count-lts.Need-loop-less (
-  count-at-reads.Asked,
-  count-at-reads.Learnt,
-  filled-reads.Asked,
-  filled-reads.Learnt,
-  entry-at-reads.Asked,
-  entry-at-reads.Learnt,
-  leaf-count-below t,
-  leaf-count.Post,
-) (leaf-count-at t) leaf-count.Post leaf-count-Inv-loop leaf-count-μ-loop
-leaf-count-loop-less t c = search needs
-
-leaf-count-loop-again : (t : ℕ) → leaf-count-lts.Need-loop-again (
-  count-at-reads.Asked,
-  count-at-reads.Learnt,
-  filled-reads.Asked,
-  filled-reads.Learnt,
-  entry-at-reads.Asked,
-  entry-at-reads.Learnt,
-  leaf-count-below t,
-  leaf-count.Post,
-) (leaf-count-at t) leaf-count.Post leaf-count-Inv-loop leaf-count-μ-loop
-leaf-count-loop-again t c = let S = (c .before .before .before .before .before .before .before .before .before) in let L = c .before .before .before .loop in
-    let b = now (S .args .index) in
-    let r = c .leaf-count .ensures .0 ∙ ap (λ (x : Entry). leafCount (S .args .level - 1) b (x .child)) (c .before .entry-at .ensures) in
-    let e = count-next b (S .args .level) (S .args .page) (innerAt b (S .args .page)) refl _ (L .inv .3) (S .args .level - 1) (L .i) (L .sum) _ _ _ (c .before .before .loop-test .taken) r (L .inv .4) in
-    (omega arith, L .inv .1, L .inv .2, L .inv .3, e)
-
-leaf-count-returns-3 : (t : ℕ) → leaf-count-lts.Need-returns-3 (
-  count-at-reads.Asked,
-  count-at-reads.Learnt,
-  filled-reads.Asked,
-  filled-reads.Learnt,
-  entry-at-reads.Asked,
-  entry-at-reads.Learnt,
-  leaf-count-below t,
-  leaf-count.Post,
-) (leaf-count-at t) leaf-count.Post leaf-count-Inv-loop leaf-count-μ-loop
-leaf-count-returns-3 t c = let S = (c .before .before .before .before .before .before .before) in let L = c .before .loop in
-    let e = count-end (now (S .args .index)) (S .args .level) (S .args .page) (innerAt (now (S .args .index)) (S .args .page)) refl _ (L .inv .3) (S .args .level - 1) (L .i) (omega arith) in
-    let m = count-most (S .args .level) (now (S .args .index)) (S .args .page) in
-    let v = L .inv .4 in (omega arith, omega arith)
-
-pub +leaf-count-spec : {M : Type 1} → statement M
-+leaf-count-spec = close μ-leaf-count λ t. leaf-count-lts.spec (
-  count-at-reads.Asked,
-  count-at-reads.Learnt,
-  filled-reads.Asked,
-  filled-reads.Learnt,
+abbrev calls : ℕ → leaf-count-lts.Claims
+calls t = (
+  filled-at-reads.Asked,
+  filled-at-reads.Learnt,
   entry-at-reads.Asked,
   entry-at-reads.Learnt,
   leaf-count-below t,
   leaf-count.Post,
 )
+
+leaf-count-returns : (t : ℕ) → leaf-count-lts.Need-returns (calls t) (leaf-count-at t) leaf-count.Post leaf-count-Inv-loop leaf-count-μ-loop
+leaf-count-returns t c = count-leaf (now (c .before .before .args .index)) (c .before .before .args .level) (c .before .before .args .page) (c .if1 .taken)
+
+leaf-count-filled-at-requires : (t : ℕ) → leaf-count-lts.Need-filled-at-requires (calls t) (leaf-count-at t) leaf-count.Post leaf-count-Inv-loop leaf-count-μ-loop
+leaf-count-filled-at-requires t c κs = search needs
+
+leaf-count-returns-2 : (t : ℕ) → leaf-count-lts.Need-returns-2 (calls t) (leaf-count-at t) leaf-count.Post leaf-count-Inv-loop leaf-count-μ-loop
+leaf-count-returns-2 t c = let a = c .before .before .before .before .args in count-low (now (a .index)) (a .level) (a .page) _ _ (c .if2 .taken) refl (swapped _ _ (c .before .filled-at .ensures))
+
+leaf-count-loop-holds : (t : ℕ) → leaf-count-lts.Need-loop-holds (calls t) (leaf-count-at t) leaf-count.Post leaf-count-Inv-loop leaf-count-μ-loop
+leaf-count-loop-holds t c = let S = (c .before .before .before .before) in let z = c .before .before .if1 .left in
+    let w = inner-number (now (S .args .index)) (S .args .page) _ _ refl (swapped _ _ (c .before .filled-at .ensures)) in
+    let e = count-start (now (S .args .index)) (S .args .level) (S .args .page) (innerAt (now (S .args .index)) (S .args .page)) refl (c .before .filled-at .result) w z in
+    (omega arith, S .pre .1, z, w, omega arith)
+
+leaf-count-entry-at-requires : (t : ℕ) → leaf-count-lts.Need-entry-at-requires (calls t) (leaf-count-at t) leaf-count.Post leaf-count-Inv-loop leaf-count-μ-loop
+leaf-count-entry-at-requires t c κs = let w = c .before .loop .inv .3 in omega (arith, c .loop-test .taken)
+
+leaf-count-sub-leaf-count : (t : ℕ) → leaf-count-lts.Need-sub-leaf-count (calls t) (leaf-count-at t) leaf-count.Post leaf-count-Inv-loop leaf-count-μ-loop
+leaf-count-sub-leaf-count t c = let L = c .before .before .loop in omega (arith, L .inv .2)
+
+leaf-count-leaf-count-requires : (t : ℕ) → leaf-count-lts.Need-leaf-count-requires (calls t) (leaf-count-at t) leaf-count.Post leaf-count-Inv-loop leaf-count-μ-loop
+leaf-count-leaf-count-requires t c κs = let S = (c .before .before .before .before .before .before .before) in let L = c .before .before .loop in let w = S .pre .0 in (omega (arith, L .inv .2), omega arith)
+
+leaf-count-add-sum : (t : ℕ) → leaf-count-lts.Need-add-sum (calls t) (leaf-count-at t) leaf-count.Post leaf-count-Inv-loop leaf-count-μ-loop
+leaf-count-add-sum t c = let S = (c .before .before .before .before .before .before .before .before) in let L = c .before .before .before .loop in
+    let b = now (S .args .index) in
+    let r = c .leaf-count .ensures .0 ∙ ap (λ (x : Entry). leafCount (S .args .level - 1) b (x .child)) (c .before .entry-at .ensures) in
+    let e = count-next b (S .args .level) (S .args .page) (innerAt b (S .args .page)) refl _ (L .inv .3) (S .args .level - 1) (L .i) (L .sum) _ _ _ (c .before .before .loop-test .taken) r (L .inv .4) in
+    let m = laws.count-fits (S .args .level) (now (S .args .index)) (S .args .page) (L .inv .1) in omega arith
+
+leaf-count-add-i : (t : ℕ) → leaf-count-lts.Need-add-i (calls t) (leaf-count-at t) leaf-count.Post leaf-count-Inv-loop leaf-count-μ-loop
+leaf-count-add-i t c = search needs
+
+leaf-count-loop-less : (t : ℕ) → leaf-count-lts.Need-loop-less (calls t) (leaf-count-at t) leaf-count.Post leaf-count-Inv-loop leaf-count-μ-loop
+leaf-count-loop-less t c = search needs
+
+leaf-count-loop-again : (t : ℕ) → leaf-count-lts.Need-loop-again (calls t) (leaf-count-at t) leaf-count.Post leaf-count-Inv-loop leaf-count-μ-loop
+leaf-count-loop-again t c = let S = (c .before .before .before .before .before .before .before .before) in let L = c .before .before .before .loop in
+    let b = now (S .args .index) in
+    let r = c .leaf-count .ensures .0 ∙ ap (λ (x : Entry). leafCount (S .args .level - 1) b (x .child)) (c .before .entry-at .ensures) in
+    let e = count-next b (S .args .level) (S .args .page) (innerAt b (S .args .page)) refl _ (L .inv .3) (S .args .level - 1) (L .i) (L .sum) _ _ _ (c .before .before .loop-test .taken) r (L .inv .4) in
+    (omega arith, L .inv .1, L .inv .2, L .inv .3, e)
+
+leaf-count-returns-3 : (t : ℕ) → leaf-count-lts.Need-returns-3 (calls t) (leaf-count-at t) leaf-count.Post leaf-count-Inv-loop leaf-count-μ-loop
+leaf-count-returns-3 t c = let S = (c .before .before .before .before .before .before) in let L = c .before .loop in
+    let e = count-end (now (S .args .index)) (S .args .level) (S .args .page) (innerAt (now (S .args .index)) (S .args .page)) refl _ (L .inv .3) (S .args .level - 1) (L .i) (omega arith) in
+    let m = count-most (S .args .level) (now (S .args .index)) (S .args .page) in
+    let v = L .inv .4 in (omega arith, omega arith)
+
+pub +leaf-count-spec : {M : Type 1} → statement M
++leaf-count-spec = close μ-leaf-count λ t. leaf-count-lts.spec (calls t)
     (leaf-count-at t)
     leaf-count.Post
     leaf-count-Inv-loop
     leaf-count-μ-loop
     (leaf-count-returns t)
-    (leaf-count-count-at-requires t)
-    (leaf-count-cast-filled t)
-    (leaf-count-filled-requires t)
+    (leaf-count-filled-at-requires t)
     (leaf-count-returns-2 t)
     (leaf-count-loop-holds t)
     (leaf-count-entry-at-requires t)

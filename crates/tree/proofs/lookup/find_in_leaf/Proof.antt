@@ -1,59 +1,56 @@
-use mathlib.Core.Path.{_≡_, refl, sym, ap, _∙_}
-use Prim.Native.Nat.{ℕ, _+_, _-_, _%_, _^_, _≤_, _<_, min}
-use native.Mathlib.Nat.{pos-of-ne-zero}
+use mathlib.Core.Path.{_≡_, _∙_}
+use Prim.Native.Nat.{min}
 use native.Mathlib.Omega.{arith}
-use lib.ListN.{length, take, length-take}
 use denote.Ref.{now}
-use Rattle.tree_parts.proofs.HeldLaws.{unmapped}
+use Rattle.pagestore.specs.Store.{leafAt}
+use Rattle.pagestore.specs.Store.PageLaws.{leaf-counts, records-slots}
 use Rattle.tree_parts.proofs.LookupLaws.{found-is, absent-is}
 use borrow.Author.Needs.{needs}
 use Rattle.tree.proofs.lookup.find_in_leaf.Statement.{statement}
 use Rattle.tree.proofs.lookup.find_in_leaf.Tie as tie
 use Rattle.tree.proofs.lookup.find_in_leaf.Reads as reads
 use Rattle.tree.proofs.lookup.find_in_leaf.Lts as lts
-use Rattle.tree_parts.proofs.filled.Reads as filled-reads
+use Rattle.pagestore.proofs.record_at.Reads as record-at-reads
+use Rattle.tree_parts.proofs.filled_at.Reads as filled-at-reads
 use Rattle.tree.proofs.lookup.blank_record.Reads as blank-record-reads
-use Rattle.tree_parts.proofs.place_of_ident.Reads as place-of-ident-reads
+use Rattle.tree_parts.proofs.ident_place.Reads as ident-place-reads
 
-filled-requires : tie.Need-filled-requires
-filled-requires c κs = search needs
+filled-at-requires : tie.Need-filled-at-requires
+filled-at-requires c κs = search needs
 
-place-of-ident-requires : tie.Need-place-of-ident-requires
-place-of-ident-requires c κs = search needs
+ident-place-requires : tie.Need-ident-place-requires
+ident-place-requires c κs = search needs
 
-mul-result : tie.Need-mul-result
-mul-result c = search needs
-
-element-copy-out-result : tie.Need-element-copy-out-result
-element-copy-out-result c = search needs
+record-at-requires : tie.Need-record-at-requires
+record-at-requires c κs = search needs
 
 returns : tie.Need-returns
-returns c = let a = c .before .before .before .before .args in
-    let G = c .before .before .before .before .good in
-    let slots : length (a .t1 .records) ≡ 16 = search (unmapped, needs) in
-    let P = c .before .before .place-of-ident in
-    let F = c .before .before .before .filled .ensures in
+returns c = let a = c .before .before .before .before .before .args in
+    let F = c .before .before .before .filled-at in
+    let P = c .before .before .ident-place in
+    let M = leafAt (now (a .index)) (a .page) in
+    let n : F .result ≡ min 16 (M .count) = omega (arith, F .ensures, leaf-counts (now (a .index)) (a .page)) in
     let T = c .before .if1 .taken in
-    found-is (a .id) (a .t1 .records) (a .t1 .count) (P .result) _ (omega (arith, F, T)) (omega (arith, F, T)) (P .ensures .0)
+    c .record-at .ensures ∙ found-is (a .id) (M .records) (M .count) (P .result) _ (omega (arith, n, T)) (omega (arith, n, T, records-slots (now (a .index)) (a .page))) (P .ensures .0)
 
 blank-record-requires : tie.Need-blank-record-requires
 blank-record-requires c κs = search needs
 
 returns-2 : tie.Need-returns-2
-returns-2 c = let a = c .before .before .before .before .args in
-    let G = c .before .before .before .before .good in
-    let slots : length (a .t1 .records) ≡ 16 = search (unmapped, needs) in
-    let P = c .before .before .place-of-ident in
-    c .blank-record .ensures ∙ absent-is (a .id) (a .t1 .records) (c .before .before .before .filled .result) (a .t1 .count) (P .result) slots (c .before .before .before .filled .ensures) (c .before .if1 .left) (P .ensures .0)
+returns-2 c = let a = c .before .before .before .before .before .args in
+    let F = c .before .before .before .filled-at in
+    let P = c .before .before .ident-place in
+    let M = leafAt (now (a .index)) (a .page) in
+    let n : F .result ≡ min 16 (M .count) = omega (arith, F .ensures, leaf-counts (now (a .index)) (a .page)) in
+    c .blank-record .ensures ∙ absent-is (a .id) (M .records) (F .result) (M .count) (P .result) (records-slots (now (a .index)) (a .page)) n (c .before .if1 .left) (P .ensures .0)
 
 pub find-in-leaf-spec : {M : Type 1} → statement M
 find-in-leaf-spec =
     tie.close
     (tie.spec
-    filled-requires
-    place-of-ident-requires
-    mul-result
-    element-copy-out-result
+    filled-at-requires
+    ident-place-requires
+    record-at-requires
     returns
     blank-record-requires
     returns-2)

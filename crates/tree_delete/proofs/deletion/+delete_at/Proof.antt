@@ -14,8 +14,8 @@ use Rattle.tree_delete.proofs.deletion.+delete_at.Lts-delete_at as dele
 use Rattle.pagestore.proofs.inner_at.Reads as inner-at-reads
 use Rattle.tree_delete.proofs.deletion.delete_leaf.Reads as delete-leaf-reads
 use Rattle.tree_delete.proofs.deletion.mend_page.Reads as mend-page-reads
-use Rattle.tree_parts.proofs.child_at.Reads as child-at-reads
-use Rattle.tree_parts.proofs.choose_child.Reads as choose-child-reads
+use Rattle.tree_parts.proofs.child_of.Reads as child-of-reads
+use Rattle.tree_parts.proofs.choose_at.Reads as choose-at-reads
 use Rattle.tree_delete.proofs.deletion.+delete_at.{statement}
 use Rattle.tree_delete.proofs.deletion.+delete_at.Tie.{close}
 
@@ -35,10 +35,10 @@ calls t = (
   delete-leaf-reads.Learnt,
   inner-at-reads.Asked,
   inner-at-reads.Learnt,
-  choose-child-reads.Asked,
-  choose-child-reads.Learnt,
-  child-at-reads.Asked,
-  child-at-reads.Learnt,
+  choose-at-reads.Asked,
+  choose-at-reads.Learnt,
+  child-of-reads.Asked,
+  child-of-reads.Learnt,
   delete-at-below t,
   delete-at.Post,
   mend-page-reads.Asked,
@@ -58,28 +58,28 @@ delete-at-returns t c = let a = c .before .before .before .before .before .befor
 delete-at-inner-at-requires : (t : ℕ) → delete-at-lts.Need-inner-at-requires (calls t) (delete-at-at t) delete-at.Post
 delete-at-inner-at-requires t c κs = search needs
 
-delete-at-choose-child-requires : (t : ℕ) → delete-at-lts.Need-choose-child-requires (calls t) (delete-at-at t) delete-at.Post
-delete-at-choose-child-requires t c κs = search needs
+delete-at-choose-at-requires : (t : ℕ) → delete-at-lts.Need-choose-at-requires (calls t) (delete-at-at t) delete-at.Post
+delete-at-choose-at-requires t c κs = search needs
 
-delete-at-child-at-requires : (t : ℕ) → delete-at-lts.Need-child-at-requires (calls t) (delete-at-at t) delete-at.Post
-delete-at-child-at-requires t c κs = search needs
+delete-at-child-of-requires : (t : ℕ) → delete-at-lts.Need-child-of-requires (calls t) (delete-at-at t) delete-at.Post
+delete-at-child-of-requires t c κs = search needs
 
 delete-at-sub-delete-at : (t : ℕ) → delete-at-lts.Need-sub-delete-at (calls t) (delete-at-at t) delete-at.Post
-delete-at-sub-delete-at t c = omega (arith, pos-of-ne-zero (c .before .before .before .before .before .if1 .left))
+delete-at-sub-delete-at t c = omega (arith, pos-of-ne-zero (c .before .before .before .before .before .before .before .if1 .left))
 
 delete-at-delete-at-requires : (t : ℕ) → delete-at-lts.Need-delete-at-requires (calls t) (delete-at-at t) delete-at.Post
-delete-at-delete-at-requires t c κs = (omega (arith, pos-of-ne-zero (c .before .before .before .before .before .if1 .left), c .before .before .before .before .before .before .before .pre .0), c .before .before .before .before .before .before .before .pre .1)
+delete-at-delete-at-requires t c κs = (omega (arith, pos-of-ne-zero (c .before .before .before .before .before .before .before .if1 .left), c .before .before .before .before .before .before .before .before .before .pre .0), c .before .before .before .before .before .before .before .before .before .pre .1)
 
 delete-at-mend-page-requires : (t : ℕ) → delete-at-lts.Need-mend-page-requires (calls t) (delete-at-at t) delete-at.Post
-delete-at-mend-page-requires t c κs = (c .before .before .before .before .before .before .choose-child .ensures .1, pos-of-ne-zero (c .before .before .before .before .before .before .before .before .before .if1 .left))
+delete-at-mend-page-requires t c κs = (c .before .before .before .before .before .before .before .choose-at .ensures .1, pos-of-ne-zero (c .before .before .before .before .before .before .before .before .before .before .before .if1 .left))
 
 delete-at-same-length-2 : (t : ℕ) → delete-at-lts.Need-same-length-2 (calls t) (delete-at-at t) delete-at.Post
 delete-at-same-length-2 t c = c .before .before .mend-page .kept .0 ∙ c .before .before .before .before .before .before .delete-at .kept .0
 
 delete-at-returns-2 : (t : ℕ) → delete-at-lts.Need-returns-2 (calls t) (delete-at-at t) delete-at.Post
-delete-at-returns-2 t c = let a = c .before .before .before .before .before .before .before .before .before .before .before .before .before .before .args in
-    delete-inner (a .d) (a .level) (now (a .index)) (a .page) (a .x) (c .before .before .before .before .before .before .before .before .before .before .before .before .if1 .left) (c .before .before .before .before .before .before .before .before .before .before .before .before .before .before .pre .1) (ap entriesIn (c .before .before .before .before .before .before .before .before .before .before .inner-at .ensures))
-    (c .before .before .before .before .before .before .before .before .before .choose-child .ensures .0) (c .before .before .before .before .before .before .before .before .child-at .ensures) (c .before .before .before .before .before .before .delete-at .ensures) (c .before .before .mend-page .ensures)
+delete-at-returns-2 t c = let a = c .before .before .before .before .before .before .before .before .before .before .before .before .before .before .before .before .args in
+    delete-inner (a .d) (a .level) (now (a .index)) (a .page) (a .x) (c .before .before .before .before .before .before .before .before .before .before .before .before .before .before .if1 .left) (c .before .before .before .before .before .before .before .before .before .before .before .before .before .before .before .before .pre .1) (ap entriesIn (c .before .before .before .before .before .before .before .before .before .before .before .before .inner-at .ensures))
+    (c .before .before .before .before .before .before .before .before .before .before .choose-at .ensures .0) (c .before .before .before .before .before .before .before .before .child-of .ensures) (c .before .before .before .before .before .before .delete-at .ensures) (c .before .before .mend-page .ensures)
 
 pub +delete-at-spec : {M : Type 1} → statement M
 +delete-at-spec = close μ-delete-at λ t. delete-at-lts.spec (calls t)
@@ -89,8 +89,8 @@ pub +delete-at-spec : {M : Type 1} → statement M
     (delete-at-same-length t)
     (delete-at-returns t)
     (delete-at-inner-at-requires t)
-    (delete-at-choose-child-requires t)
-    (delete-at-child-at-requires t)
+    (delete-at-choose-at-requires t)
+    (delete-at-child-of-requires t)
     (delete-at-sub-delete-at t)
     (delete-at-delete-at-requires t)
     (delete-at-mend-page-requires t)

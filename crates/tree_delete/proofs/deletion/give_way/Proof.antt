@@ -1,13 +1,5 @@
-use mathlib.Core.Path.{_≡_, refl, sym, ap, _∙_}
-use mathlib.Core.List.{List, [], _∷_, _++_, append-assoc}
-use Prim.Native.Nat.{ℕ, _+_, _-_, _≤_, _<_, min}
-use native.Mathlib.Omega.{arith}
-use lib.ListN.{length, take, drop, length-append, length-take, length-drop}
-use lib.Seq.{slice, take-all}
+use mathlib.Core.Path.{refl}
 use denote.Ref.{now}
-use Rattle.tree_parts.specs.Held.{Held}
-use Rattle.tree_parts.proofs.HeldLaws.{unmapped, held-then, held-is, held-whole}
-use Rattle.pagestore.specs.Store.{entriesIn}
 use Rattle.tree_parts.proofs.DeletionLaws.{root-gives}
 use borrow.Author.Needs.{needs}
 use Rattle.tree_delete.proofs.deletion.give_way.Statement.{statement}
@@ -17,14 +9,10 @@ use Rattle.tree_delete.proofs.deletion.give_way.Lts as lts
 use Rattle.free_pages.proofs.free_page.Reads as free-page-reads
 use Rattle.pagestore.proofs.set_root_level.Reads as set-root-level-reads
 use Rattle.pagestore.proofs.set_root_page.Reads as set-root-page-reads
-use Rattle.pagestore.proofs.inner_at.Reads as inner-at-reads
-use Rattle.tree_parts.proofs.child_at.Reads as child-at-reads
+use Rattle.tree_parts.proofs.child_of.Reads as child-of-reads
 
-inner-at-requires : tie.Need-inner-at-requires
-inner-at-requires c κs = search needs
-
-child-at-requires : tie.Need-child-at-requires
-child-at-requires c κs = search needs
+child-of-requires : tie.Need-child-of-requires
+child-of-requires c κs = search needs
 
 set-root-page-requires : tie.Need-set-root-page-requires
 set-root-page-requires c κs = search needs
@@ -42,16 +30,15 @@ same-length : tie.Need-same-length
 same-length c = search needs
 
 returns : tie.Need-returns
-returns c = let a = c .before .before .before .before .before .before .before .before .before .before .before .before .before .before .before .before .args in
-    root-gives (a .level) (now (a .index)) (a .page) (c .before .before .before .before .before .before .before .before .before .before .before .before .before .before .before .before .pre) (ap entriesIn (c .before .before .before .before .before .before .before .before .before .before .before .before .before .inner-at .ensures)) (c .before .before .before .before .before .before .before .before .before .before .before .before .child-at .ensures)
+returns c = let a = c .before .before .before .before .before .before .before .before .before .before .before .before .before .before .before .args in
+    root-gives (a .level) (now (a .index)) (a .page) (c .before .before .before .before .before .before .before .before .before .before .before .before .before .before .before .pre) refl (c .before .before .before .before .before .before .before .before .before .before .before .before .child-of .ensures)
     (c .before .before .before .before .before .before .before .before .before .before .set-root-page .ensures) (c .before .before .before .before .before .before .set-root-level .ensures) (c .before .before .free-page .ensures)
 
 pub give-way-spec : {M : Type 1} → statement M
 give-way-spec =
     tie.close
     (tie.spec
-    inner-at-requires
-    child-at-requires
+    child-of-requires
     set-root-page-requires
     sub-set-root-level
     set-root-level-requires

@@ -7,19 +7,14 @@ use lib.Seq.{slice, take-all}
 use denote.Ref.{now}
 use Rattle.tree_parts.specs.Held.{Held}
 use Rattle.tree_parts.proofs.HeldLaws.{unmapped, held-then, held-is, held-whole}
-use Rattle.tree_parts.proofs.DeletionLaws.{delete-is}
 use borrow.Author.Needs.{needs}
 use Rattle.tree_delete.proofs.deletion.without_record.Statement.{statement}
 use Rattle.tree_delete.proofs.deletion.without_record.Tie as tie
 use Rattle.tree_delete.proofs.deletion.without_record.Reads as reads
 use Rattle.tree_delete.proofs.deletion.without_record.Lts as lts
-use Rattle.tree_parts.proofs.place_of_ident.Reads as place-of-ident-reads
 use Rattle.tree_parts.proofs.add_records.Reads as add-records-reads
 use Rattle.tree_parts.proofs.leaf_of.Reads as leaf-of-reads
 use Rattle.tree_parts.proofs.no_records.Reads as no-records-reads
-
-place-of-ident-requires : tie.Need-place-of-ident-requires
-place-of-ident-requires c κs = search needs
 
 element-copy-out-any : tie.Need-element-copy-out-any
 element-copy-out-any c = search needs
@@ -34,51 +29,47 @@ add-add-records : tie.Need-add-add-records
 add-add-records c = search needs
 
 add-records-requires-2 : tie.Need-add-records-requires-2
-add-records-requires-2 c κs = let a = c .before .before .before .before .args in
-    let G = c .before .before .before .before .good in
+add-records-requires-2 c κs = let a = c .before .before .before .args in
+    let G = c .before .before .before .good in
     let slots : length (a .t1 .records) ≡ 16 = search (unmapped, needs) in
-    let P = c .before .before .before .place-of-ident in
     let rs = take (a .t1 .count) (a .t1 .records) in
     let h = held-then _ (c .before .no-records .ensures) (c .add-records .ensures) in
     let e = h .count in
-    let l1 = length-take (P .result) rs in
+    let l1 = length-take (a .i) rs in
     let l2 = length-take (a .t1 .count) (a .t1 .records) in
-    (omega (arith, P .ensures .1), omega (arith, P .ensures .1))
+    (omega (arith, c .before .before .before .pre), omega (arith, c .before .before .before .pre))
 
 leaf-of-requires : tie.Need-leaf-of-requires
-leaf-of-requires c κs = let a = c .before .before .before .before .before .args in
-    let G = c .before .before .before .before .before .good in
+leaf-of-requires c κs = let a = c .before .before .before .before .args in
+    let G = c .before .before .before .before .good in
     let slots : length (a .t1 .records) ≡ 16 = search (unmapped, needs) in
-    let P = c .before .before .before .before .place-of-ident in
     let rs = take (a .t1 .count) (a .t1 .records) in
     let h = held-then _ (c .before .before .no-records .ensures) (c .before .add-records .ensures) in
     let e = h .count in
-    let l1 = length-take (P .result) rs in
+    let l1 = length-take (a .i) rs in
     let l2 = length-take (a .t1 .count) (a .t1 .records) in
     let g = held-then _ h (c .add-records2 .ensures) in
-    let q = g .count ∙ length-append (take (P .result) rs) (slice (P .result + 1) 16 rs) in
-    let l3 = length-drop (P .result + 1) (take 16 rs) in
+    let q = g .count ∙ length-append (take (a .i) rs) (slice (a .i + 1) 16 rs) in
+    let l3 = length-drop (a .i + 1) (take 16 rs) in
     let l4 = length-take 16 rs in
     (omega arith, omega arith, omega arith, omega arith)
 
 returns : tie.Need-returns
-returns c = let a = c .before .before .before .before .before .before .args in
-    let G = c .before .before .before .before .before .before .good in
+returns c = let a = c .before .before .before .before .before .args in
+    let G = c .before .before .before .before .before .good in
     let slots : length (a .t1 .records) ≡ 16 = search (unmapped, needs) in
-    let P = c .before .before .before .before .before .place-of-ident in
     let rs = take (a .t1 .count) (a .t1 .records) in
     let h = held-then _ (c .before .before .before .no-records .ensures) (c .before .before .add-records .ensures) in
     let e = h .count in
-    let l1 = length-take (P .result) rs in
+    let l1 = length-take (a .i) rs in
     let l2 = length-take (a .t1 .count) (a .t1 .records) in
     let g = held-then _ h (c .before .add-records2 .ensures) in
-    held-is (c .leaf-of .ensures) (held-whole g ∙ delete-is (P .result) (a .id) rs (P .ensures .0) (omega arith))
+    held-is (c .leaf-of .ensures) (held-whole g)
 
 pub without-record-spec : {M : Type 1} → statement M
 without-record-spec =
     tie.close
     (tie.spec
-    place-of-ident-requires
     element-copy-out-any
     no-records-requires
     add-records-requires

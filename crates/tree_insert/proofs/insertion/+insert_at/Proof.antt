@@ -3,6 +3,7 @@ use Prim.Native.Nat.{ℕ, _<_}
 use native.Mathlib.Nat.{pos-of-ne-zero}
 use native.Mathlib.Omega.{arith}
 use denote.Ref.{now}
+use Rattle.pagestore.specs.declared.Inner.{Inner}
 use Rattle.pagestore.specs.Store.{entriesIn}
 use Rattle.tree_parts.proofs.InsertionLaws.{level-zero, inner-step}
 use borrow.Author.Needs.{needs}
@@ -12,8 +13,8 @@ use Rattle.tree_insert.proofs.insertion.insert_at.Reads as insert-at
 use Rattle.tree_insert.proofs.insertion.insert_at.Kinds as insert-at-kinds
 use Rattle.tree_insert.proofs.insertion.+insert_at.Lts-insert_at as insert-at-lts
 use Rattle.pagestore.proofs.inner_at.Reads as inner-at-reads
-use Rattle.tree_parts.proofs.child_at.Reads as child-at-reads
-use Rattle.tree_parts.proofs.choose_child.Reads as choose-child-reads
+use Rattle.tree_parts.proofs.child_of.Reads as child-of-reads
+use Rattle.tree_parts.proofs.choose_at.Reads as choose-at-reads
 use Rattle.tree_insert.proofs.insertion.insert_leaf.Reads as insert-leaf-reads
 use Rattle.tree_insert.proofs.insertion.put_inner.Reads as put-inner-reads
 use Rattle.tree_insert.proofs.insertion.+insert_at.{statement}
@@ -35,10 +36,10 @@ calls t = (
   insert-leaf-reads.Learnt,
   inner-at-reads.Asked,
   inner-at-reads.Learnt,
-  choose-child-reads.Asked,
-  choose-child-reads.Learnt,
-  child-at-reads.Asked,
-  child-at-reads.Learnt,
+  choose-at-reads.Asked,
+  choose-at-reads.Learnt,
+  child-of-reads.Asked,
+  child-of-reads.Learnt,
   insert-at-below t,
   insert-at.Post,
   put-inner-reads.Asked,
@@ -58,28 +59,29 @@ insert-at-returns t c = let a = c .before .before .before .before .before .befor
 insert-at-inner-at-requires : (t : ℕ) → insert-at-lts.Need-inner-at-requires (calls t) (insert-at-at t) insert-at.Post
 insert-at-inner-at-requires t c κs = search needs
 
-insert-at-choose-child-requires : (t : ℕ) → insert-at-lts.Need-choose-child-requires (calls t) (insert-at-at t) insert-at.Post
-insert-at-choose-child-requires t c κs = search needs
+insert-at-choose-at-requires : (t : ℕ) → insert-at-lts.Need-choose-at-requires (calls t) (insert-at-at t) insert-at.Post
+insert-at-choose-at-requires t c κs = search needs
 
-insert-at-child-at-requires : (t : ℕ) → insert-at-lts.Need-child-at-requires (calls t) (insert-at-at t) insert-at.Post
-insert-at-child-at-requires t c κs = search needs
+insert-at-child-of-requires : (t : ℕ) → insert-at-lts.Need-child-of-requires (calls t) (insert-at-at t) insert-at.Post
+insert-at-child-of-requires t c κs = search needs
 
 insert-at-sub-insert-at : (t : ℕ) → insert-at-lts.Need-sub-insert-at (calls t) (insert-at-at t) insert-at.Post
-insert-at-sub-insert-at t c = omega (arith, pos-of-ne-zero (c .before .before .before .before .before .if1 .left))
+insert-at-sub-insert-at t c = omega (arith, pos-of-ne-zero (c .before .before .before .before .before .before .before .if1 .left))
 
 insert-at-insert-at-requires : (t : ℕ) → insert-at-lts.Need-insert-at-requires (calls t) (insert-at-at t) insert-at.Post
-insert-at-insert-at-requires t c κs = (omega (arith, pos-of-ne-zero (c .before .before .before .before .before .if1 .left), c .before .before .before .before .before .before .before .pre .0), c .before .before .before .before .before .before .before .pre .1)
+insert-at-insert-at-requires t c κs = (omega (arith, pos-of-ne-zero (c .before .before .before .before .before .before .before .if1 .left), c .before .before .before .before .before .before .before .before .before .pre .0), c .before .before .before .before .before .before .before .before .before .pre .1)
 
 insert-at-put-inner-requires : (t : ℕ) → insert-at-lts.Need-put-inner-requires (calls t) (insert-at-at t) insert-at.Post
-insert-at-put-inner-requires t c κs = let C = c .before .before .before .before .before .before .choose-child .ensures in (C .1, C .2)
+insert-at-put-inner-requires t c κs = let C = c .before .before .before .before .before .before .before .choose-at .ensures in
+    (C .1, omega (arith, C .2, ap (λ (m : Inner). m .count) (c .before .before .before .before .before .before .before .before .before .inner-at .ensures)))
 
 insert-at-same-length-2 : (t : ℕ) → insert-at-lts.Need-same-length-2 (calls t) (insert-at-at t) insert-at.Post
 insert-at-same-length-2 t c = c .before .before .put-inner .kept .0 ∙ c .before .before .before .before .before .before .insert-at .kept .0
 
 insert-at-returns-2 : (t : ℕ) → insert-at-lts.Need-returns-2 (calls t) (insert-at-at t) insert-at.Post
-insert-at-returns-2 t c = let a = c .before .before .before .before .before .before .before .before .before .before .before .before .before .before .args in
-    inner-step (a .d) (a .level) (now (a .index)) (a .page) (a .x) (c .before .before .before .before .before .before .before .before .before .before .before .before .if1 .left) (c .before .before .before .before .before .before .before .before .before .before .before .before .before .before .pre .1) (ap entriesIn (c .before .before .before .before .before .before .before .before .before .before .inner-at .ensures))
-    (c .before .before .before .before .before .before .before .before .before .choose-child .ensures .0) (c .before .before .before .before .before .before .before .before .child-at .ensures) (c .before .before .before .before .before .before .insert-at .ensures) (c .before .before .put-inner .ensures)
+insert-at-returns-2 t c = let a = c .before .before .before .before .before .before .before .before .before .before .before .before .before .before .before .before .args in
+    inner-step (a .d) (a .level) (now (a .index)) (a .page) (a .x) (c .before .before .before .before .before .before .before .before .before .before .before .before .before .before .if1 .left) (c .before .before .before .before .before .before .before .before .before .before .before .before .before .before .before .before .pre .1) (ap entriesIn (c .before .before .before .before .before .before .before .before .before .before .before .before .inner-at .ensures))
+    (c .before .before .before .before .before .before .before .before .before .before .choose-at .ensures .0) (c .before .before .before .before .before .before .before .before .child-of .ensures) (c .before .before .before .before .before .before .insert-at .ensures) (c .before .before .put-inner .ensures)
 
 pub +insert-at-spec : {M : Type 1} → statement M
 +insert-at-spec = close μ-insert-at λ t. insert-at-lts.spec (calls t)
@@ -89,8 +91,8 @@ pub +insert-at-spec : {M : Type 1} → statement M
     (insert-at-same-length t)
     (insert-at-returns t)
     (insert-at-inner-at-requires t)
-    (insert-at-choose-child-requires t)
-    (insert-at-child-at-requires t)
+    (insert-at-choose-at-requires t)
+    (insert-at-child-of-requires t)
     (insert-at-sub-insert-at t)
     (insert-at-insert-at-requires t)
     (insert-at-put-inner-requires t)
