@@ -1,14 +1,21 @@
 -- The steps of adding columns.
 use mathlib.Core.Path.{_≡_, refl, sym, ap, _∙_}
+use mathlib.Core.Bool.{Bool, true, false, not}
+use mathlib.Core.Logic.{_≢_}
 use mathlib.Core.List.{List, [], _∷_}
 use Prim.Native.Nat.{ℕ, zero, suc, _+_, _-_, _*_, _≤_, _<_}
 use native.Mathlib.Omega.{arith}
 use native.Mathlib.Nat.{mul-le-mul, le-refl}
-use lib.ListN.{length, getD, drop, set, replicate, length-set, getD-replicate}
-use lib.Seq.{getD-set-same, getD-set-other}
-use Rattle.lists.specs.Basics.{All, all-map}
+use native.Mathlib.Numerals.{add-one}
+use lib.Dec.{ltb, eqb}
+use lib.ListN.{length, getD, take, drop, set, replicate, length-set, getD-replicate}
+use lib.Seq.{getD-set-same, getD-set-other, take-suc}
+use borrow.Author.Tests.{ltb-true, lt-ltb, le-ltb, ne-eqb}
+use Rattle.lists.specs.Basics.{tick, All, all-map}
 use Rattle.lists.specs.Runs.{all-at}
-use Rattle.lists.specs.Tests.{decide}
+use Rattle.lists.specs.Sorting.{count}
+use Rattle.lists.specs.SortingLaws.{count-append}
+use Rattle.lists.specs.Tests.{cases, decide}
 use Rattle.geometry.specs.Points.{distBy, square, distance}
 use Rattle.geometry.specs.Stored.{pointOf}
 use Rattle.geometry.proofs.LoopLaws.{dist-more, dist-end}
@@ -16,7 +23,7 @@ use Rattle.pagestore.specs.Fits.{RecordFits}
 use Rattle.pagestore.specs.Layout.{leafOf}
 use Rattle.pagestore.specs.LayoutLaws.{noRecord, leaf-fits, leaf-slots}
 use Rattle.search.specs.Steps.{Asked}
-use Rattle.search.specs.Columns.{coordsAt, costFrom, gapSquare, mostCost, Sized, Sums}
+use Rattle.search.specs.Columns.{coordsAt, costFrom, gapSquare, mostCost, Sized, Sums, notPast, BehindPast}
 
 -- the square of a gap below 2,048
 pub square-most : (x y : ℕ) → x < 2048 → y < 2048 → gapSquare x y ≤ mostCost
@@ -102,3 +109,25 @@ sums-start page q n l a f = record {
 pub sums-end : (page q : List ℕ) (n : ℕ) (sums : List ℕ) → Sums page q (length q) n sums → (r : ℕ) → r < n → getD sums r 0 ≡ distance (pointOf q) (pointOf (coordsAt page r))
 unfolding costFrom
 sums-end page q n sums s r h = let e = s .each r h in let z = cost-end page q r in omega arith
+
+-- ---- NONE NEAR ENOUGH
+
+-- one sum more is counted
+pub within-more : (limit : ℕ) (sums : List ℕ) (r : ℕ) → r < length sums → count (notPast limit) (take (r + 1) sums) ≡ count (notPast limit) (take r sums) + tick (notPast limit (getD sums r 0))
+unfolding count
+within-more limit sums r h = rw (add-one r, take-suc sums r 0 h, count-append (notPast limit) (take r sums) (getD sums r 0 ∷ [])) (omega arith)
+
+-- where none is counted, all are beyond the limit
+pub none-within : (limit n : ℕ) (sums : List ℕ) → count (notPast limit) (take n sums) ≡ 0 → (r : ℕ) → r < n → r < length sums → limit < getD sums r 0
+unfolding count
+none-within limit zero sums e r h g = absurd (omega arith)
+none-within limit (suc n) [] e r h g = absurd (omega arith)
+none-within limit (suc n) (x ∷ xs) e zero h g = cases (ltb limit x) (λ f. ltb-true limit x f) (λ f. let z : tick (notPast limit x) ≡ 1 = ap (λ (b : Bool). tick (not b)) f in absurd (omega arith))
+none-within limit (suc n) (x ∷ xs) e (suc r) h g = none-within limit n xs (omega arith) r (omega arith) (omega arith)
+
+-- a limit, from the k-th distance
+pub limit-all : (distances : List ℕ) (n k : ℕ) → BehindPast distances n k 4294967295
+limit-all distances n k x h l = absurd (omega arith)
+
+pub limit-last : (distances : List ℕ) (n k : ℕ) → k ≤ n → k ≢ 0 → BehindPast distances n k (getD distances (k - 1) 0)
+limit-last distances n k h z x g l = rw (le-ltb n k h, ne-eqb k 0 z, lt-ltb (getD distances (k - 1) 0) x l)

@@ -3,10 +3,13 @@ use mathlib.Core.Path.{_≡_, refl, sym, ap, _∙_}
 use mathlib.Core.Bool.{true, false}
 use mathlib.Core.List.{List, [], _∷_, map}
 use lib.IntN.{ℤ}
-use Prim.Native.Nat.{ℕ, suc, _+_, _*_, _-_, _≤_, _<_, min}
+use Prim.Native.Nat.{ℕ, zero, suc, _+_, _*_, _-_, _≤_, _<_, min}
 use native.Mathlib.Omega.{arith}
+use native.Mathlib.Numerals.{add-one}
+use native.Mathlib.Nat.{le-refl, mul-le-mul}
 use lib.ListN.{length, take, drop, getD}
 use Rattle.lists.specs.Tests.{cases}
+use Rattle.lists.specs.Sorting.{count}
 use Rattle.lists.specs.Sorting as sorting
 use Rattle.geometry.specs.Points.{square, distBy, distance}
 use Rattle.geometry.specs.Stored.{pointOf}
@@ -14,17 +17,20 @@ use Rattle.geometry.proofs.StoredLaws.{length-point, point-take}
 use Rattle.pagestore.specs.declared.Record.{Record}
 use Rattle.pagestore.specs.declared.Leaf.{Leaf}
 use Rattle.pagestore.specs.Layout.{leafOf}
-use Rattle.pagestore.specs.LayoutLaws.{leaf-slots}
+use Rattle.pagestore.specs.LayoutLaws.{noRecord, leaf-slots}
 use Rattle.pagestore.specs.Store.{inRange, leafAt, recordsIn}
 use Rattle.pagestore.specs.Store.PageLaws.{leaf-part, leaf-view, page-none}
 use Rattle.trees.specs.Trees.{pointIn}
 use Rattle.tree.proofs.CountLaws.{items-next, items-end}
 use Rattle.candidates.specs.declared.Row.{Row}
 use Rattle.candidates.specs.Rows.{rowOrder}
-use Rattle.candidates.specs.Held.{Held}
+use Rattle.candidates.specs.Held.{rowsIn, behindAll, Held}
+use Rattle.candidates.proofs.HeldLaws.{offered-behind}
 use Rattle.pagestore.specs.Store.RangeLaws.{range-fits}
 use Rattle.search.specs.Branches.{pageIn, rowOf}
+use Rattle.search.specs.Columns.{mostCost, Sums, notPast, BehindPast}
 use Rattle.search.specs.Steps.{OfferedAll}
+use Rattle.search.proofs.ColumnLaws.{sums-end, none-within}
 
 -- ---- OFFERING
 
@@ -64,6 +70,40 @@ module _ (page q : List ℕ) (position k : ℕ) (leaf : Leaf) (is : leaf ≡ lea
   pub offers-all : (s : List Row) → offersFrom q position k (recordsIn leaf) 0 s ≡ sorting.offerAll rowOrder k (map (rowOf q position) (recordsIn (leafOf page))) s
   unfolding offersFrom
   offers-all s = rw is
+
+  -- where each row is behind all rows held, they stay as they are
+  pub offers-none : (s : List Row) → ((i : ℕ) → i < n → s ≡ sorting.offer rowOrder k (rowOf q position (getD (leaf .records) i noRecord)) s) → (i : ℕ) → i ≤ n
+      → offersFrom q position k (recordsIn leaf) i s ≡ offersFrom q position k (recordsIn leaf) 0 s
+  offers-none s h zero l = refl
+  offers-none s h (suc i) l =
+      ap (λ (j : ℕ). offersFrom q position k (recordsIn leaf) j s) (sym (add-one i))
+      ∙ offers-next i noRecord s s (rowOf q position (getD (leaf .records) i noRecord)) (omega arith) refl (h i (omega arith)) ∙ offers-none s h i (omega arith)
+
+-- a leaf of which no distance is near enough leaves the rows as they are
+module _ (page q : List ℕ) (position k n full limit : ℕ) (distances tags sums : List ℕ) (held : Held distances tags n k) (s : Sums page q (length q) full sums)
+    (enough : min (leafOf page .count) 16 ≤ full) (past : BehindPast distances n k limit) (none : count (notPast limit) (take full sums) ≡ 0) where
+  abbrev rowNo : ℕ → Row
+  rowNo i = rowOf q position (getD (leafOf page .records) i noRecord)
+
+  far : (i : ℕ) → i < full → behindAll distances n k (rowNo i .distance) ≡ true
+  far i h =
+      let few = s .sized .few in let m = s .sized .most in let w = s .slots in
+      let D = sums-end page q full sums s i h in
+      let e : getD sums i 0 ≡ rowNo i .distance = ap (λ (x : Row). x .distance) (row-is q position (getD (leafOf page .records) i noRecord) (getD sums i 0) D) in
+      let low = s .low i h in
+      let top : mostCost * length q ≤ mostCost * 16 = mul-le-mul (le-refl mostCost) m in
+      rw e at (past (getD sums i 0) (omega arith) (none-within limit full sums none i h (omega arith)))
+
+  pub none-offered : OfferedAll distances tags n k (map (rowOf q position) (recordsIn (leafOf page))) n distances tags
+  none-offered =
+      let c = min (leafOf page .count) 16 in
+      record {
+        held = held;
+        rows = sym (offers-end page q position k (leafOf page) refl c refl c (rowsIn distances tags n) (le-refl c))
+            ∙ offers-none page q position k (leafOf page) refl c refl (rowsIn distances tags n)
+            (λ i h. offered-behind distances tags n k (rowNo i) held (far i (omega arith)) .rows) c (le-refl c)
+            ∙ offers-all page q position k (leafOf page) refl c refl (rowsIn distances tags n);
+      }
 
 -- ---- PAGES IN RANGE
 

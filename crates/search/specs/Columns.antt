@@ -1,7 +1,9 @@
 -- The squared distances of a leaf's records together, coordinate by coordinate.
 use mathlib.Core.Path.{_≡_}
+use mathlib.Core.Bool.{Bool, true, not}
 use mathlib.Core.List.{List}
 use Prim.Native.Nat.{ℕ, _+_, _-_, _*_, _≤_, _<_}
+use lib.Dec.{ltb}
 use lib.ListN.{length, getD, drop}
 use Rattle.lists.specs.Basics.{All}
 use Rattle.geometry.specs.Points.{distBy, square}
@@ -9,6 +11,7 @@ use Rattle.geometry.specs.Stored.{pointOf}
 use Rattle.pagestore.specs.Layout.{leafOf}
 use Rattle.pagestore.specs.LayoutLaws.{noRecord}
 use Rattle.candidates.specs.declared.Row.{Row}
+use Rattle.candidates.specs.Held.{behindAll}
 
 -- the coordinates of record r of a leaf page, as stored
 abbrev pub coordsAt : List ℕ → ℕ → List ℕ
@@ -44,3 +47,11 @@ pub record Sums (page q : List ℕ) (m n : ℕ) (sums : List ℕ) : Type 0 where
 -- a row of record i of a leaf page at a position
 abbrev pub rowAt : List ℕ → ℕ → ℕ → ℕ → Row
 rowAt page i distance position = record { distance = distance; id = getD (leafOf page .records) i noRecord .id; position = position }
+
+-- a sum that is not beyond a limit
+abbrev pub notPast : ℕ → ℕ → Bool
+notPast limit x = not (ltb limit x)
+
+-- a row farther than the limit, in 32 bits, is behind all k rows
+abbrev pub BehindPast : List ℕ → ℕ → ℕ → ℕ → Type 0
+BehindPast distances n k limit = (x : ℕ) → x < 4294967296 → limit < x → behindAll distances n k x ≡ true

@@ -2,12 +2,14 @@
 ghost use mathlib.Core.Path.{_≡_};
 ghost use mathlib.Core.List.{map};
 ghost use Prim.Native.Nat.{_≤_, _<_, min};
-ghost use lib.ListN.{length};
+ghost use lib.ListN.{length, take};
+ghost use Rattle.lists.specs.Basics.{tick};
+ghost use Rattle.lists.specs.Sorting.{count};
 ghost use Rattle.pagestore.specs.Store.{leafAt, recordsIn};
 ghost use Rattle.pagestore.specs.Layout.{leafOf};
 ghost use Rattle.candidates.specs.Held.{Held, Offered};
 ghost use Rattle.search.specs.Branches.{rowOf};
-ghost use Rattle.search.specs.Columns.{rowAt};
+ghost use Rattle.search.specs.Columns.{rowAt, notPast, BehindPast};
 ghost use Rattle.search.specs.Steps.{Asked, OfferedAll};
 use crate::columns::add_columns;
 use candidates::Row;
@@ -38,6 +40,45 @@ fn wide(x: u32) -> u64
     x as u64
 }
 
+// A distance beyond which, up to 32 bits, a row is behind all k rows; with fewer than k rows there is none.
+fn limit_of(distances: &[u64], n: usize, k: usize) -> u32
+    requires { ⌜ k ≤ length (now distances) ⌝ }
+    ensures { λ r. ⌜ BehindPast (now (distances .entry)) n k r ⌝ }
+{
+    if n < k {
+        return 4294967295;
+    }
+    if k == 0 {
+        return 4294967295;
+    }
+    let last = distances[k - 1];
+    if last < 4294967295 {
+        last as u32
+    } else {
+        4294967295
+    }
+}
+
+fn not_past(limit: u32, x: u32) -> u32
+    ensures { λ r. ⌜ (r ≡ tick (notPast limit x)) × (r ≤ 1) ⌝ }
+{
+    if limit < x { 0 } else { 1 }
+}
+
+// How many of the first n sums are not beyond the limit.
+fn within(sums: &[u32], n: usize, limit: u32) -> u32
+    requires { ⌜ (n ≤ length (now sums)) × (n ≤ 16) ⌝ }
+    ensures { λ r. ⌜ r ≡ count (notPast limit) (take n (now (sums .entry))) ⌝ }
+{
+    let mut near = 0;
+    let mut r = 0;
+    while r < n {
+        near += not_past(limit, sums[r]);
+        r += 1;
+    }
+    near
+}
+
 // Offers the record in slot i of a leaf page, whose squared distance is told. Its identifier is read only where a row is taken.
 fn offer_record(
     page: &[u8],
@@ -64,7 +105,8 @@ fn offer_record(
 }
 
 // Offers the records of a leaf page, handed over as a part of the index, to the n rows held. No other function of the
-// search reads a leaf page. The distances come first, all together.
+// search reads a leaf page. The distances come first, all together;
+// where none is near enough, no record is looked at.
 fn offer_leaf(
     page: &[u8],
     q: &[u16],
@@ -81,6 +123,9 @@ fn offer_leaf(
     let full = lanes(count);
     let mut sums = [0u32; 16];
     add_columns(page, q, full, &mut sums);
+    if within(&sums, full, limit_of(distances, n, k)) == 0 {
+        return n;
+    }
     let mut rows = n;
     let mut i = 0;
     while i < count {

@@ -12,7 +12,7 @@ use Rattle.candidates.specs.Held.{rowsIn, Held}
 use Rattle.search.specs.Branches.{rowOf}
 use Rattle.search.specs.Columns.{Sums}
 use Rattle.search.proofs.ColumnLaws.{sums-start, sums-end}
-use Rattle.search.proofs.LeafLaws.{row-is, offersFrom, offers-next, offers-end, offers-all}
+use Rattle.search.proofs.LeafLaws.{row-is, offersFrom, offers-next, offers-end, offers-all, none-offered}
 use Rattle.search.proofs.leaves.offer_leaf.Statement.{statement}
 use Rattle.search.proofs.leaves.offer_leaf.Tie as tie
 
@@ -38,9 +38,27 @@ slice-aggregate-add-columns c = search needs
 add-columns-requires : tie.Need-add-columns-requires Inv-loop μ-loop
 add-columns-requires c κs = sums-start _ _ _ (c .before .before .before .before .before .before .before .before .pre .0) (c .before .before .before .before .before .before .before .before .pre .1) (c .before .lanes .ensures .1)
 
+slice-aggregate-within : tie.Need-slice-aggregate-within Inv-loop μ-loop
+slice-aggregate-within c = search needs
+
+limit-of-requires : tie.Need-limit-of-requires Inv-loop μ-loop
+limit-of-requires c κs = c .before .before .before .before .before .before .before .before .before .before .before .before .pre .2 .room
+
+within-requires : tie.Need-within-requires Inv-loop μ-loop
+within-requires c κs = let s = c .before .before .before .before .add-columns .ensures in (omega (arith, s .slots, s .sized .few), s .sized .few)
+
+same-length : tie.Need-same-length Inv-loop μ-loop
+same-length c = search needs
+
+returns : tie.Need-returns Inv-loop μ-loop
+returns c =
+    let a = c .before .before .before .before .before .before .before .before .before .before .before .before .before .before .before .args in
+    let number = c .before .before .before .before .before .before .before .before .before .filled .ensures ∙ ap (λ (x : ℕ). min x 16) (c .before .before .before .before .before .before .before .before .before .before .read-count .ensures) in
+    none-offered (now (a .page)) (now (a .q)) (a .position) (a .k) (a .n) _ _ (now (a .distances)) (now (a .tags)) _ (c .before .before .before .before .before .before .before .before .before .before .before .before .before .before .before .pre .2) (c .before .before .before .before .before .before .add-columns .ensures) (omega (arith, number, c .before .before .before .before .before .before .before .before .lanes .ensures .0)) (c .before .before .limit-of .ensures) (sym (c .before .within .ensures) ∙ c .if1 .taken)
+
 loop-holds : tie.Need-loop-holds Inv-loop μ-loop
 loop-holds c =
-    (omega arith, c .before .before .before .before .filled .ensures ∙ ap (λ (x : ℕ). min x 16) (c .before .before .before .before .before .read-count .ensures), c .before .before .before .lanes .ensures .0, c .before .add-columns .ensures, refl, refl, c .before .before .before .before .before .before .before .before .before .before .pre .2, refl)
+    (omega arith, c .before .before .before .before .before .before .before .before .before .filled .ensures ∙ ap (λ (x : ℕ). min x 16) (c .before .before .before .before .before .before .before .before .before .before .read-count .ensures), c .before .before .before .before .before .before .before .before .lanes .ensures .0, c .before .before .before .before .before .before .add-columns .ensures, refl, refl, c .before .before .before .before .before .before .before .before .before .before .before .before .before .before .before .pre .2, refl)
 
 mul-wide : tie.Need-mul-wide Inv-loop μ-loop
 mul-wide c = let L = c .before .loop in omega (arith, L .inv .1, c .loop-test .taken)
@@ -52,7 +70,7 @@ wide-requires : tie.Need-wide-requires Inv-loop μ-loop
 wide-requires c κs = search needs
 
 offer-record-requires : tie.Need-offer-record-requires Inv-loop μ-loop
-offer-record-requires c κs = let L = c .before .before .before .before .loop in (c .before .before .before .before .before .before .before .before .before .before .before .before .before .before .before .pre .0, omega (arith, L .inv .1, c .before .before .before .loop-test .taken), L .inv .6)
+offer-record-requires c κs = let L = c .before .before .before .before .loop in (c .before .before .before .before .before .before .before .before .before .before .before .before .before .before .before .before .before .before .before .before .pre .0, omega (arith, L .inv .1, c .before .before .before .loop-test .taken), L .inv .6)
 
 add-i : tie.Need-add-i Inv-loop μ-loop
 add-i c = let L = c .before .before .before .before .before .before .before .before .before .loop in omega (arith, L .inv .1, c .before .before .before .before .before .before .before .before .loop-test .taken)
@@ -62,7 +80,7 @@ loop-less c = omega (arith, c .before .before .before .before .before .before .b
 
 loop-again : tie.Need-loop-again Inv-loop μ-loop
 loop-again c =
-    let a = c .before .before .before .before .before .before .before .before .before .before .before .before .before .before .before .before .before .before .before .before .args in let L = c .before .before .before .before .before .before .before .before .before .loop in let O = c .before .before .before .before .offer-record in let W = c .before .before .before .before .before .before .before .wide in let t = c .before .before .before .before .before .before .before .before .loop-test .taken in
+    let a = c .before .before .before .before .before .before .before .before .before .before .before .before .before .before .before .before .before .before .before .before .before .before .before .before .before .args in let L = c .before .before .before .before .before .before .before .before .before .loop in let O = c .before .before .before .before .offer-record in let W = c .before .before .before .before .before .before .before .wide in let t = c .before .before .before .before .before .before .before .before .loop-test .taken in
     let D = W .ensures ∙ sums-end (now (a .page)) (now (a .q)) _ _ (L .inv .3) (L .i) (omega (arith, L .inv .2, t)) in
     let row = row-is (now (a .q)) (a .position) (getD (leafOf (now (a .page)) .records) (L .i) noRecord) (W .result) D in (
       omega (arith, t),
@@ -75,15 +93,15 @@ loop-again c =
       offers-next (now (a .page)) (now (a .q)) (a .position) (a .k) (leafOf (now (a .page))) refl _ (L .inv .1) (L .i) noRecord _ _ _ t row (O .ensures .rows) ∙ L .inv .7,
     )
 
-same-length : tie.Need-same-length Inv-loop μ-loop
-same-length c = c .before .loop .inv .4
-
 same-length-2 : tie.Need-same-length-2 Inv-loop μ-loop
-same-length-2 c = c .before .loop .inv .5
+same-length-2 c = c .before .loop .inv .4
 
-returns : tie.Need-returns Inv-loop μ-loop
-returns c =
-    let a = c .before .before .before .before .before .before .before .before .before .before .before .before .args in let L = c .before .loop in
+same-length-3 : tie.Need-same-length-3 Inv-loop μ-loop
+same-length-3 c = c .before .loop .inv .5
+
+returns-2 : tie.Need-returns-2 Inv-loop μ-loop
+returns-2 c =
+    let a = c .before .before .before .before .before .before .before .before .before .before .before .before .before .before .before .before .before .args in let L = c .before .loop in
     record {
       held = L .inv .6;
       rows = sym (offers-end (now (a .page)) (now (a .q)) (a .position) (a .k) (leafOf (now (a .page))) refl _ (L .inv .1) (L .i) _ (c .loop-test .left)) ∙ L .inv .7
@@ -101,6 +119,11 @@ offer-leaf-spec =
     lanes-requires
     slice-aggregate-add-columns
     add-columns-requires
+    slice-aggregate-within
+    limit-of-requires
+    within-requires
+    same-length
+    returns
     loop-holds
     mul-wide
     array-read-wide
@@ -109,6 +132,6 @@ offer-leaf-spec =
     add-i
     loop-less
     loop-again
-    same-length
     same-length-2
-    returns)
+    same-length-3
+    returns-2)
