@@ -1,29 +1,28 @@
-use mathlib.Core.Path.{_≡_, ap, _∙_, subst}
-use mathlib.Core.List.{map}
-use Rattle.lists.specs.Ascending.{Ascending}
-use Prim.Native.Nat.{ℕ, _-_, _≤_}
-use native.Mathlib.Omega.{arith}
-use lib.ListN.{getD, take}
-use Rattle.sound_pages.proofs.JudgeLaws.{passes, faults, take-spot, all-more, rising-start, ranks-step, ranks-stop}
-use Rattle.sound_pages.proofs.KeyLaws.{rank-is, key-judged}
-use Rattle.sound_pages.specs.Judged.{Judges, Rising, RecordsBad}
-use borrow.Author.Tests.{not-true, not-false}
+use Prim.Native.Nat.{_-_, _≤_, ℕ}
 use Rattle.lists.specs.Basics.{All, none}
-use Rattle.pagestore.specs.declared.Record.{Record}
 use Rattle.pagestore.specs.LayoutLaws.{noRecord}
 use Rattle.pagestore.specs.Store.{leafAt}
 use Rattle.pagestore.specs.Store.PageLaws.{records-slots}
-use Rattle.trees.specs.Trees.{keyOf, rankOf}
+use Rattle.pagestore.specs.declared.Record.{Record}
+use Rattle.sound_pages.proofs.JudgeLaws.{all-more, faults, passes, ranks-step, ranks-stop, rising-start, span-faulty, span-fine, take-spot}
+use Rattle.sound_pages.proofs.KeyLaws.{key-judged, rank-is}
+use Rattle.sound_pages.specs.Judged.{RecordsBad, Rising}
 use Rattle.trees.specs.Sound.{RecordOk}
+use Rattle.trees.specs.Trees.{keyOf, rankOf}
 use borrow.Author.Needs.{needs}
+use borrow.Author.Tests.{not-false, not-true}
+use lib.ListN.{getD, take}
+use mathlib.Core.List.{map}
+use mathlib.Core.Path.{_∙_, _≡_, ap, subst}
+use native.Mathlib.Omega.{arith}
 use Rattle.sound_pages.proofs.keys.judge_leaf.Statement.{statement}
 use Rattle.sound_pages.proofs.keys.judge_leaf.Tie as tie
 
 abbrev Inv-loop : tie.InvT-loop
-Inv-loop index page n d next₀ i₀ next i = (i ≤ n) × Rising (map (rankOf d) (take i (leafAt index page .records))) next × All (RecordOk d) (take i (leafAt index page .records))
+Inv-loop index page n d first₀ next₀ i₀ first next i = (i ≤ n) × Rising (map (rankOf d) (take i (leafAt index page .records))) first next × All (RecordOk d) (take i (leafAt index page .records))
 
 abbrev μ-loop : tie.MeasureT-loop
-μ-loop index page n d next₀ i₀ next i = n - i
+μ-loop index page n d first₀ next₀ i₀ first next i = n - i
 
 loop-holds : tie.Need-loop-holds Inv-loop μ-loop
 loop-holds c = (omega arith, rising-start, none)
@@ -37,51 +36,41 @@ record-key-requires c κs = search needs
 key-fine-requires : tie.Need-key-fine-requires Inv-loop μ-loop
 key-fine-requires c κs = search needs
 
+faulty-requires : tie.Need-faulty-requires Inv-loop μ-loop
+faulty-requires c κs = search needs
+
 returns : tie.Need-returns Inv-loop μ-loop
-returns c =
-    let S = c .before .before .before .before .before .before .before in let L = c .before .before .before .before .before .loop in let x = leafAt (S .args .index .now) (S .args .page) in
-    let slots = records-slots (S .args .index .now) (S .args .page) in let r : Record = getD (x .records) (L .i) noRecord in
-    let K = c .before .before .record-key in let k = K .ensures ∙ ap (keyOf (S .args .d)) (c .before .before .before .record-at .ensures) in
-    Judges.fault (RecordsBad.field (L .i) r (take-spot noRecord (x .records) (L .i) (x .count) (omega (arith, c .before .before .before .before .loop-test .taken, S .pre .0)) (omega (arith, S .pre .0, S .pre .1, slots)))
-    (faults (key-judged (S .args .d) r (K .result) k (c .before .key-fine .ensures)) (not-true _ (c .if1 .taken))))
+returns c = let s = (c .before .before .before .before .before .before .before .before) in let L = c .before .before .before .before .before .before .loop in let x = leafAt (s .args .index .now) (s .args .page) in let slots = records-slots (s .args .index .now) (s .args .page) in let r : Record = getD (x .records) (L .i) noRecord in let K = c .before .before .before .record-key in let k = K .ensures ∙ ap (keyOf (s .args .d)) (c .before .before .before .before .record-at .ensures) in let t = c .before .before .before .before .before .loop-test .taken in span-faulty (RecordsBad.field (L .i) r (take-spot noRecord (x .records) (L .i) (x .count) (omega (arith, t, s .pre .0)) (omega (arith, s .pre .0, s .pre .1, slots))) (faults (key-judged (s .args .d) r (K .result) k (c .before .before .key-fine .ensures)) (not-true _ (c .before .if1 .taken)))) (c .faulty .ensures)
 
 rank-requires : tie.Need-rank-requires Inv-loop μ-loop
 rank-requires c κs = search needs
 
+faulty-requires-2 : tie.Need-faulty-requires-2 Inv-loop μ-loop
+faulty-requires-2 c κs = search needs
+
 returns-2 : tie.Need-returns-2 Inv-loop μ-loop
-returns-2 c =
-    let S = c .before .before .before .before .before .before .before .before .before in let L = c .before .before .before .before .before .before .before .loop in let x = leafAt (S .args .index .now) (S .args .page) in
-    let slots = records-slots (S .args .index .now) (S .args .page) in let r : Record = getD (x .records) (L .i) noRecord in
-    let K = c .before .before .before .before .record-key in let k = K .ensures ∙ ap (keyOf (S .args .d)) (c .before .before .before .before .before .record-at .ensures) in
-    let R = c .before .rank in
-    Judges.fault (RecordsBad.order (ranks-stop (rankOf (S .args .d)) noRecord (x .records) (L .i) (L .next) (x .count) (R .result) (omega (arith, c .before .before .before .before .before .before .loop-test .taken, S .pre .0)) (omega (arith, S .pre .0, S .pre .1, slots))
-    (rank-is (S .args .d) r (K .result) (R .result) k (R .ensures .0)) (L .inv .1) (c .if2 .taken)))
+returns-2 c = let s = (c .before .before .before .before .before .before .before .before .before .before) in let L = c .before .before .before .before .before .before .before .before .loop in let x = leafAt (s .args .index .now) (s .args .page) in let slots = records-slots (s .args .index .now) (s .args .page) in let r : Record = getD (x .records) (L .i) noRecord in let K = c .before .before .before .before .before .record-key in let k = K .ensures ∙ ap (keyOf (s .args .d)) (c .before .before .before .before .before .before .record-at .ensures) in let t = c .before .before .before .before .before .before .before .loop-test .taken in let R = c .before .before .rank in span-faulty (RecordsBad.order (ranks-stop (rankOf (s .args .d)) noRecord (x .records) (L .i) (L .first) (L .next) (x .count) (R .result) (omega (arith, t, s .pre .0)) (omega (arith, s .pre .0, s .pre .1, slots)) (rank-is (s .args .d) r (K .result) (R .result) k (R .ensures .0)) (L .inv .1) (c .before .if2 .taken))) (c .faulty2 .ensures)
+
+first-of-requires : tie.Need-first-of-requires Inv-loop μ-loop
+first-of-requires c κs = search needs
 
 add-next : tie.Need-add-next Inv-loop μ-loop
-add-next c = omega (arith, c .before .rank .ensures .1)
+add-next c = omega (arith, c .before .before .rank .ensures .1)
 
 add-i : tie.Need-add-i Inv-loop μ-loop
 add-i c = search needs
 
 loop-less : tie.Need-loop-less Inv-loop μ-loop
-loop-less c = omega (arith, c .before .before .before .before .before .before .loop-test .taken)
+loop-less c = omega (arith, c .before .before .before .before .before .before .before .loop-test .taken)
 
 loop-again : tie.Need-loop-again Inv-loop μ-loop
-loop-again c =
-    let S = c .before .before .before .before .before .before .before .before .before in let L = c .before .before .before .before .before .before .before .loop in let x = leafAt (S .args .index .now) (S .args .page) in
-    let slots = records-slots (S .args .index .now) (S .args .page) in let r : Record = getD (x .records) (L .i) noRecord in
-    let K = c .before .before .before .before .record-key in let k = K .ensures ∙ ap (keyOf (S .args .d)) (c .before .before .before .before .before .record-at .ensures) in
-    let R = c .before .rank in let t = c .before .before .before .before .before .before .loop-test .taken in (
-      omega (arith, t),
-      ranks-step (rankOf (S .args .d)) noRecord (x .records) (L .i) (L .next) (R .result) (omega (arith, t, S .pre .1, slots)) (rank-is (S .args .d) r (K .result) (R .result) k (R .ensures .0)) (L .inv .1) (c .if2 .left),
-      all-more noRecord (x .records) (L .i) (omega (arith, t, S .pre .1, slots)) (L .inv .2) (passes (key-judged (S .args .d) r (K .result) k (c .before .before .before .key-fine .ensures)) (not-false _ (c .before .before .if1 .left))),
-    )
+loop-again c = let s = (c .before .before .before .before .before .before .before .before .before .before) in let L = c .before .before .before .before .before .before .before .before .loop in let x = leafAt (s .args .index .now) (s .args .page) in let slots = records-slots (s .args .index .now) (s .args .page) in let r : Record = getD (x .records) (L .i) noRecord in let K = c .before .before .before .before .before .record-key in let k = K .ensures ∙ ap (keyOf (s .args .d)) (c .before .before .before .before .before .before .record-at .ensures) in let t = c .before .before .before .before .before .before .before .loop-test .taken in let R = c .before .before .rank in (omega (arith, t), ranks-step (rankOf (s .args .d)) noRecord (x .records) (L .i) (L .first) (L .next) (R .result) (c .first-of .result) (omega (arith, t, s .pre .1, slots)) (rank-is (s .args .d) r (K .result) (R .result) k (R .ensures .0)) (L .inv .1) (c .before .if2 .left) (c .first-of .ensures), all-more noRecord (x .records) (L .i) (omega (arith, t, s .pre .1, slots)) (L .inv .2) (passes (key-judged (s .args .d) r (K .result) k (c .before .before .before .before .key-fine .ensures)) (not-false _ (c .before .before .before .if1 .left))))
+
+span-to-requires : tie.Need-span-to-requires Inv-loop μ-loop
+span-to-requires c κs = search needs
 
 returns-3 : tie.Need-returns-3 Inv-loop μ-loop
-returns-3 c =
-    let S = c .before .before .before in let L = c .before .loop in let x = leafAt (S .args .index .now) (S .args .page) in
-    let e : L .i ≡ x .count = omega (arith, L .inv .0, c .loop-test .left, S .pre .0) in
-    Judges.pass (record { order = subst (λ (k : ℕ). Ascending (map (rankOf (S .args .d)) (take k (x .records)))) e (L .inv .1 .ascends); ranges = subst (λ (k : ℕ). All (RecordOk (S .args .d)) (take k (x .records))) e (L .inv .2) })
+returns-3 c = let s = (c .before .before .before .before) in let L = c .before .before .loop in let x = leafAt (s .args .index .now) (s .args .page) in let e : L .i ≡ x .count = omega (arith, L .inv .0, c .before .loop-test .left, s .pre .0) in let w = subst (λ (k : ℕ). Rising (map (rankOf (s .args .d)) (take k (x .records))) (L .first) (L .next)) e (L .inv .1) in span-fine (record { order = w .ascends; ranges = subst (λ (k : ℕ). All (RecordOk (s .args .d)) (take k (x .records))) e (L .inv .2) }) w (c .span-to .ensures)
 
 pub judge-leaf-spec : {M : Type 1} → statement M
 judge-leaf-spec =
@@ -93,11 +82,15 @@ judge-leaf-spec =
     record-at-requires
     record-key-requires
     key-fine-requires
+    faulty-requires
     returns
     rank-requires
+    faulty-requires-2
     returns-2
+    first-of-requires
     add-next
     add-i
     loop-less
     loop-again
+    span-to-requires
     returns-3)
