@@ -45,7 +45,7 @@ int main(void)
     }
     printf("tally: %" PRIu32 " questions, %" PRIu32 " leaves\n", tally.questions, tally.leaves);
 
-    index[EPOCH_INDEX_PAGE_BYTES + 9] = 0xff;
+    index[EPOCH_INDEX_PAGE_BYTES + 576] = 0;
     code = epoch_index_check(index, LENGTH, &page);
     printf("check of a damaged page: code %" PRIu32 ", page %" PRIu32 "\n", code, page);
     print(epoch_index_question(index, LENGTH, asked, 2, K, rows, K, &tally), rows);

@@ -30,7 +30,7 @@ fn main() -> Result<(), Box<dyn std::error::Error>> {
     println!("tally: {} questions, {} leaves", tally.questions, tally.leaves);
 
     let mut damaged = sound.into_bytes();
-    damaged[PAGE_BYTES + 9] = 0xff;
+    damaged[PAGE_BYTES + 576] = 0;
     if let Err(fault) = Index::open(damaged) {
         println!("open refused: {} ({fault})", fault.refusal.code());
     }

@@ -26,8 +26,7 @@ impl<B: AsRef<[u8]>> TabledIndex<B> {
             let page = &bytes[page as usize * PAGE_BYTES..][..PAGE_BYTES];
             for i in 0..usize::from(page[1]) {
                 if level == 0 {
-                    let record = &page[4 + 44 * i..][..44];
-                    points.insert(word(record, 0), point_of(record));
+                    points.insert(word(page, 576 + 4 * i), point_of(page, i));
                 } else {
                     pages.push((word(page, 4 + 20 * i), level - 1));
                 }
@@ -118,7 +117,10 @@ fn word(bytes: &[u8], at: usize) -> u32 {
     u32::from_le_bytes([bytes[at], bytes[at + 1], bytes[at + 2], bytes[at + 3]])
 }
 
-/// The coordinates of a record: each is stored as 1,000 more, in two bytes. Slots past the index's features mean nothing.
-fn point_of(record: &[u8]) -> Point {
-    std::array::from_fn(|m| u16::from_le_bytes([record[4 + 2 * m], record[5 + 2 * m]]).wrapping_sub(1000) as i16)
+/// The coordinates of record i of a leaf: each is stored as 1,000 more, in 11 bits. Those past the index's features mean nothing.
+fn point_of(page: &[u8], i: usize) -> Point {
+    std::array::from_fn(|m| {
+        let at = 32 + 32 * m + 2 * i;
+        (u16::from_le_bytes([page[at], page[at + 1]]) % 2048) as i16 - 1000
+    })
 }

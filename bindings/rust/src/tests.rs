@@ -123,7 +123,7 @@ fn rows_past_those_returned_keep_their_contents() {
 #[test]
 fn a_damaged_index_is_refused() {
     let mut damaged = upward(4, 17).into_bytes();
-    damaged[2 * PAGE_BYTES + 5] ^= 0xff;
+    damaged[2 * PAGE_BYTES + 577] ^= 0xff;
     let copy = damaged.clone();
     let mut index = Index::over(&mut damaged[..]);
     let fault = index.check().unwrap_err();

@@ -3,15 +3,16 @@ use mathlib.Core.Path.{_≡_, refl, sym, ap, _∙_}
 use mathlib.Core.Bool.{Bool, true, false}
 use mathlib.Core.List.{List, [], _∷_, _++_, map, append-assoc, append-nil}
 use Prim.Native.Nat.{ℕ, _+_, _-_, _*_, _%_, _≤_, _<_, min}
+use native.Mathlib.Numerals.{add-one}
 use native.Mathlib.Omega.{arith}
 use lib.Dec.{leb}
 use lib.ListN.{length, getD, take, drop, replicate, length-append, length-take, length-drop, length-map, drop-of-length-le}
-use lib.Seq.{take-take, take-all}
+use lib.Seq.{take-take, take-all, drop-cons, getD-take}
 use borrow.Author.Tests.{leb-true, leb-false}
 use borrow.Rule.Slice.PartMut.{putMid, postOf, post-is}
 use Rattle.lists.specs.Basics.{run, flat, length-run}
 use Rattle.lists.specs.Counts.{by-cases}
-use Rattle.lists.specs.Runs.{getD-run, run-take, length-flat}
+use Rattle.lists.specs.Runs.{getD-run, run-take, length-flat, all-at}
 use Rattle.geometry.specs.declared.Key.{Key}
 use Rattle.pagestore.specs.declared.Record.{Record}
 use Rattle.pagestore.specs.declared.Leaf.{Leaf}
@@ -19,8 +20,8 @@ use Rattle.pagestore.specs.declared.Entry.{Entry}
 use Rattle.pagestore.specs.declared.Inner.{Inner}
 use Rattle.pagestore.specs.Bytes.{byteAt, leAt, leBytes, put}
 use Rattle.pagestore.specs.ByteLaws.{length-le, length-put, put-next, put-front}
-use Rattle.pagestore.specs.Layout.{keyAt, keyBytes, entryAt, entryBytes, recordAt, coordBytes, recordBytes, leafOf, innerOf, itemBytes, leafBytes, innerBytes, freedBytes}
-use Rattle.pagestore.specs.LayoutLaws.{length-key, length-coords, noRecord, noEntry}
+use Rattle.pagestore.specs.Layout.{keyAt, keyBytes, entryAt, entryBytes, coordRoom, coordAt, identAt, recordAt, leafOf, putCoords, putRecord, putRecords, blankLeaf, leafBytes, innerOf, entriesBytes, innerBytes, freedBytes}
+use Rattle.pagestore.specs.LayoutLaws.{length-key, length-entry, leaf-fits, leaf-slots, noRecord, noEntry}
 use Rattle.pagestore.specs.Store.{pagesIn, inRange, stretch, setStretch, recordsIn, entriesIn, setLeaf, setField, size, features, root, fresh, clearHeader, setFields, newIndex}
 use Rattle.pagestore.specs.Store.RangeLaws.{range-whole}
 use Rattle.pagestore.specs.Store.StretchLaws.{stretch-in, set-in, set-out, clear-long}
@@ -37,22 +38,19 @@ pub entry-is : (s : List ℕ) (at n : ℕ) (f l : Key) → n ≡ leAt 4 s at →
 unfolding entryAt
 entry-is s at n f l a b c = rw (a, b, c)
 
-pub record-is : (s : List ℕ) (at n : ℕ) (cs : List ℕ) → n ≡ leAt 4 s at → cs ≡ run 16 (λ m. leAt 2 s (at + 4 + 2 * m)) → _≡_ {A = Record} (record { id = n; coords = cs }) (recordAt s at)
-unfolding recordAt
-record-is s at n cs p q = rw (p, q)
-
-pub leaf-is : (s : List ℕ) (n : ℕ) (rs : List Record) → n ≡ byteAt s 1 → rs ≡ run 16 (λ i. recordAt s (4 + 44 * i)) → _≡_ {A = Leaf} (record { count = n; records = rs }) (leafOf s)
-unfolding leafOf
-leaf-is s n rs p q = rw (p, q)
-
 -- one item of a page
-pub record-read : (s : List ℕ) (i : ℕ) → i < 16 → recordAt s (4 + 44 * i) ≡ getD (leafOf s .records) i noRecord
+record-read : (s : List ℕ) (i : ℕ) → i < 16 → recordAt s i ≡ getD (leafOf s .records) i noRecord
 unfolding leafOf
-record-read s i h = sym (getD-run 16 (λ k. recordAt s (4 + 44 * k)) i noRecord h)
+record-read s i h = sym (getD-run 16 (recordAt s) i noRecord h)
 
-pub ident-read : (s : List ℕ) (i : ℕ) → i < 16 → leAt 4 s (4 + 44 * i) ≡ getD (leafOf s .records) i noRecord .id
+pub ident-read : (s : List ℕ) (i : ℕ) → i < 16 → leAt 4 s (identAt i) ≡ getD (leafOf s .records) i noRecord .id
 unfolding recordAt
 ident-read s i h = ap (λ (r : Record). r .id) (record-read s i h)
+
+pub coord-read : (s : List ℕ) (m i : ℕ) → m < 16 → i < 16 → leAt 2 s (coordAt m i) % coordRoom ≡ getD (getD (leafOf s .records) i noRecord .coords) m 0
+unfolding recordAt
+coord-read s m i h k =
+    sym (getD-run 16 (λ j. leAt 2 s (coordAt j i) % coordRoom) m 0 h) ∙ ap (λ (r : Record). getD (r .coords) m 0) (record-read s i k)
 
 pub entry-read : (s : List ℕ) (i : ℕ) → i < 16 → entryAt s (4 + 20 * i) ≡ getD (innerOf s .entries) i noEntry
 unfolding innerOf
@@ -71,7 +69,22 @@ pub entry-none : (i : ℕ) → i < 16 → entryAt [] 0 ≡ getD (innerOf [] .ent
 unfolding entryAt keyAt leAt
 entry-none i h = entry-read [] i h
 
--- a page of which each entry was read by itself
+-- a record, or a page, of which each part was read by itself
+pub record-whole : (s : List ℕ) (i n : ℕ) (cs : List ℕ) → i < 16 → n ≡ getD (leafOf s .records) i noRecord .id
+    → cs ≡ run 16 (λ k. getD (getD (leafOf s .records) i noRecord .coords) k 0) → _≡_ {A = Record} (record { id = n; coords = cs }) (getD (leafOf s .records) i noRecord)
+record-whole s i n cs h p q =
+    let x : Record = getD (leafOf s .records) i noRecord in
+    let l : length (x .coords) ≡ 16 = all-at (leaf-fits s) i noRecord (rw (leaf-slots s) h) .slots in
+    let f : cs ≡ x .coords = q ∙ run-take (x .coords) 0 16 (omega arith) ∙ take-all 16 (x .coords) (omega arith) in
+    λ j. record { id = p j; coords = f j }
+
+pub leaf-whole : (s : List ℕ) (n : ℕ) (rs : List Record) → n ≡ leafOf s .count → rs ≡ run 16 (λ k. getD (leafOf s .records) k noRecord)
+    → _≡_ {A = Leaf} (record { count = n; records = rs }) (leafOf s)
+leaf-whole s n rs p q =
+    let l : length (leafOf s .records) ≡ 16 = leaf-slots s in
+    let f : rs ≡ leafOf s .records = q ∙ run-take (leafOf s .records) noRecord 16 (omega arith) ∙ take-all 16 (leafOf s .records) (omega arith) in
+    λ j. record { count = p j; records = f j }
+
 pub inner-whole : (x : Inner) (v n : ℕ) (es : List Entry) → length (x .entries) ≡ 16 → v ≡ x .level → n ≡ x .count → es ≡ run 16 (λ k. getD (x .entries) k noEntry)
     → _≡_ {A = Inner} (record { level = v; count = n; entries = es }) x
 inner-whole x v n es l p q e =
@@ -108,18 +121,13 @@ entry-put l s t u at e p q r =
     behind l t u at (a ++ b) (at + 12) c (behind l s t at a (at + 4) b p q (past at 4 a (length-le 4 (e .child)))) r (past at 12 (a ++ b) n)
     ∙ ap (put l at) (append-assoc a b c)
 
-pub record-put : (l s t u v : List ℕ) (at : ℕ) (r : Record) → s ≡ put l at (leBytes 4 (r .id)) → t ≡ put s (at + 4) (coordBytes (r .coords))
-    → u ≡ put t (at + 36) (leBytes 4 0) → v ≡ put u (at + 40) (leBytes 4 0) → v ≡ put l at (recordBytes r)
-unfolding recordBytes
-record-put l s t u v at r p q g h =
-    let a : List ℕ = leBytes 4 (r .id) in
-    let b : List ℕ = coordBytes (r .coords) in
-    let z : List ℕ = leBytes 4 0 in
-    let n : length (a ++ b) ≡ 36 = length-append a b ∙ omega (arith, length-le 4 (r .id), length-coords (r .coords)) in
-    let m : length ((a ++ b) ++ z) ≡ 40 = length-append (a ++ b) z ∙ omega (arith, length-le 4 0) in
-    behind l u v at ((a ++ b) ++ z) (at + 40) z
-    (behind l t u at (a ++ b) (at + 36) z (behind l s t at a (at + 4) b p q (past at 4 a (length-le 4 (r .id)))) g (past at 36 (a ++ b) n)) h (past at 40 ((a ++ b) ++ z) m)
-    ∙ ap (put l at) (append-assoc (a ++ b) z z ∙ append-assoc a b (z ++ z))
+pub coords-next : (l s t : List ℕ) (i m : ℕ) (cs : List ℕ) → s ≡ putCoords m l i cs → t ≡ put s (coordAt m i) (leBytes 2 (getD cs m 0 % coordRoom)) → t ≡ putCoords (m + 1) l i cs
+unfolding putCoords
+coords-next l s t i m cs p q = q ∙ rw (p, add-one)
+
+pub record-put : (l s t : List ℕ) (i : ℕ) (r : Record) → s ≡ put l (identAt i) (leBytes 4 (r .id)) → t ≡ putCoords 16 s i (r .coords) → t ≡ putRecord l i r
+unfolding putRecord
+record-put l s t i r p q = q ∙ rw p
 
 -- the four bytes at the head of a page
 pub head-put : (l r s t : List ℕ) (v n : ℕ) → r ≡ put l 0 (v ∷ []) → s ≡ put r 1 (n ∷ []) → t ≡ put s 2 (leBytes 2 0) → t ≡ put l 0 (v ∷ n ∷ 0 ∷ 0 ∷ [])
@@ -136,41 +144,56 @@ page-put s t vs n hs hn a q =
     let e : drop (length s - n) (drop n s) ≡ [] = drop-of-length-le (drop n s) {i = length s - n} (omega (arith, length-drop n s)) in
     rw (a, z, e) (ap (λ (r : List ℕ). vs ++ r) (append-nil (replicate (1024 - n) 0)))
 
--- a page of items of k bytes: the head, the items, and zeros
-pub items-put : {A : Type 0} (e : A → List ℕ) (k : ℕ) → ((x : A) → length (e x) ≡ k) → (p l s t : List ℕ) (i v n : ℕ) (f : ℕ → A)
-    → length p ≡ 1024 → 4 + k * n ≤ 1024 → i ≡ n → l ≡ put p 0 (v ∷ n ∷ 0 ∷ 0 ∷ []) → s ≡ put l 4 (flat e (run i f))
-    → t ≡ replicate (length (take (length s - (4 + k * n)) (drop (4 + k * n) s))) 0
-    → putMid (4 + k * n) (length s - (4 + k * n)) s t ≡ itemBytes e k v (run n f)
-unfolding itemBytes
-items-put e k g p l s t i v n f hp hn q o r z =
+-- an inner page: the head, the entries, and zeros
+pub entries-put : (p l s t : List ℕ) (i v n : ℕ) (f : ℕ → Entry) → length p ≡ 1024 → n ≤ 16 → i ≡ n → l ≡ put p 0 (v ∷ n ∷ 0 ∷ 0 ∷ []) → s ≡ put l 4 (flat entryBytes (run i f))
+    → t ≡ replicate (length (take (length s - (4 + 20 * n)) (drop (4 + 20 * n) s))) 0
+    → putMid (4 + 20 * n) (length s - (4 + 20 * n)) s t ≡ entriesBytes v (run n f)
+unfolding entriesBytes
+entries-put p l s t i v n f hp hn q o r z =
     let h : List ℕ = v ∷ n ∷ 0 ∷ 0 ∷ [] in
-    let hs : length s ≡ 1024 = ap length r ∙ length-put l 4 (flat e (run i f)) ∙ ap length o ∙ length-put p 0 h ∙ hp in
-    let w : length (flat e (run n f)) ≡ k * n = length-flat e k g (run n f) ∙ ap (λ (m : ℕ). k * m) (length-run n f) in
-    let b : length (h ++ flat e (run n f)) ≡ 4 + k * n = length-append h (flat e (run n f)) ∙ ap (λ (m : ℕ). 4 + m) w in
-    let d : s ≡ put p 0 (h ++ flat e (run n f)) = behind p l s 0 h 4 (flat e (run n f)) o (rw q at r) refl in
-    let a : take (4 + k * n) s ≡ h ++ flat e (run n f) = rw d (put-front p (h ++ flat e (run n f)) (4 + k * n) b (omega arith)) in
-    let m : 1024 - (4 + k * n) ≡ 1020 - k * n = omega arith in
-    page-put s t (h ++ flat e (run n f)) (4 + k * n) hs hn a z
+    let hs : length s ≡ 1024 = ap length r ∙ length-put l 4 (flat entryBytes (run i f)) ∙ ap length o ∙ length-put p 0 h ∙ hp in
+    let w : length (flat entryBytes (run n f)) ≡ 20 * n = length-flat entryBytes 20 length-entry (run n f) ∙ ap (λ (m : ℕ). 20 * m) (length-run n f) in
+    let b : length (h ++ flat entryBytes (run n f)) ≡ 4 + 20 * n = length-append h (flat entryBytes (run n f)) ∙ ap (λ (m : ℕ). 4 + m) w in
+    let d : s ≡ put p 0 (h ++ flat entryBytes (run n f)) = behind p l s 0 h 4 (flat entryBytes (run n f)) o (rw q at r) refl in
+    let a : take (4 + 20 * n) s ≡ h ++ flat entryBytes (run n f) = rw d (put-front p (h ++ flat entryBytes (run n f)) (4 + 20 * n) b (omega arith)) in
+    let m : 1024 - (4 + 20 * n) ≡ 1020 - 20 * n = omega arith in
+    page-put s t (h ++ flat entryBytes (run n f)) (4 + 20 * n) hs (omega arith) a z
     ∙ rw (length-run n f, m) refl
 
 -- of a count c, the items that there are
-pub capped : {A : Type 0} (xs : List A) (d : A) (c n : ℕ) → length xs ≡ 16 → n ≡ min 16 c → run n (λ i. getD xs i d) ≡ take 16 (take c xs)
-capped xs d c n s e =
-    run-take xs d n (omega arith)
-    ∙ by-cases (leb 16 c)
+capped : {A : Type 0} (xs : List A) (c n : ℕ) → length xs ≡ 16 → n ≡ min 16 c → take n xs ≡ take 16 (take c xs)
+capped xs c n s e =
+    by-cases (leb 16 c)
     (λ t. let g : 16 ≤ c = leb-true 16 c t in let f : n ≡ 16 = omega arith in rw f (sym (take-take 16 c xs g)))
     (λ t. let g : c < 16 = leb-false 16 c t in let f : n ≡ c = omega arith in
     rw f (sym (take-all 16 (take c xs) (omega (arith, length-take c xs)))))
 
-pub leaf-put : (s : List ℕ) (m : Leaf) (n : ℕ) → length (m .records) ≡ 16 → n ≡ min 16 (m .count)
-    → s ≡ itemBytes recordBytes 44 0 (run n (λ i. getD (m .records) i noRecord)) → s ≡ leafBytes (recordsIn m)
-unfolding leafBytes
-leaf-put s m n h e p = p ∙ ap (itemBytes recordBytes 44 0) (capped (m .records) noRecord (m .count) n h e)
-
 pub inner-put : (s : List ℕ) (m : Inner) (n : ℕ) → length (m .entries) ≡ 16 → n ≡ min 16 (m .count)
-    → s ≡ itemBytes entryBytes 20 (m .level) (run n (λ i. getD (m .entries) i noEntry)) → s ≡ innerBytes (m .level) (entriesIn m)
+    → s ≡ entriesBytes (m .level) (run n (λ i. getD (m .entries) i noEntry)) → s ≡ innerBytes (m .level) (entriesIn m)
 unfolding innerBytes
-inner-put s m n h e p = p ∙ ap (itemBytes entryBytes 20 (m .level)) (capped (m .entries) noEntry (m .count) n h e)
+inner-put s m n h e p =
+    p ∙ ap (entriesBytes (m .level)) (run-take (m .entries) noEntry n (omega arith) ∙ capped (m .entries) (m .count) n h e)
+
+-- a leaf: its records stored one by one; what is still to be stored of the first n takes the page to the whole
+pub records-next : (s t z : List ℕ) (i n : ℕ) (xs : List Record) → i < n → n ≤ length xs → t ≡ putRecord s i (getD xs i noRecord)
+    → putRecords s i (drop i (take n xs)) ≡ z → putRecords t (i + 1) (drop (i + 1) (take n xs)) ≡ z
+unfolding putRecords
+records-next s t z i n xs h l q e =
+    let c : drop i (take n xs) ≡ getD xs i noRecord ∷ drop (i + 1) (take n xs) =
+    drop-cons (take n xs) i noRecord (omega (arith, length-take n xs)) ∙ rw (add-one, getD-take n xs i noRecord h) in
+    rw q (rw c at e)
+
+pub leaf-put : (p c h s : List ℕ) (i n : ℕ) (m : Leaf) → length p ≡ 1024 → length (m .records) ≡ 16 → n ≡ min 16 (m .count)
+    → c ≡ replicate (length p) 0 → h ≡ put c 0 (0 ∷ n ∷ 0 ∷ 0 ∷ []) → i ≡ n
+    → putRecords s i (drop i (take n (m .records))) ≡ putRecords h 0 (take n (m .records)) → s ≡ leafBytes (recordsIn m)
+unfolding leafBytes blankLeaf putRecords
+leaf-put p c h s i n m l k e a b f g =
+    let xs : List Record = take n (m .records) in
+    let len : length xs ≡ n = omega (arith, length-take n (m .records)) in
+    let z : drop i xs ≡ [] = drop-of-length-le xs {i = i} (omega arith) in
+    let w : h ≡ blankLeaf n = rw (b, a, l) in
+    let o : s ≡ putRecords h 0 xs = rw z at g in
+    o ∙ rw w (ap (λ (j : ℕ). putRecords (blankLeaf j) 0 xs) (sym len)) ∙ ap (λ (ys : List Record). putRecords (blankLeaf (length ys)) 0 ys) (capped (m .records) (m .count) n k e)
 
 -- ---- a page's own stretch of the index
 

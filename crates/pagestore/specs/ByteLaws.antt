@@ -105,6 +105,14 @@ put-drop l i (a ∷ vs) n h = put-drop (set l i a) (i + 1) vs n (omega arith) �
 pub put-there : (l : List ℕ) (i : ℕ) (vs : List ℕ) → i + length vs ≤ length l → drop i (put l i vs) ≡ vs ++ drop (i + length vs) l
 put-there l i vs h = rw (put-eq l i vs h) (drop-at (take i l) (vs ++ drop (i + length vs) l) i (length-take-le i l (omega arith)))
 
+-- a number that is stored is read back, and one that lies elsewhere is as before
+pub le-put : (n v : ℕ) (l : List ℕ) (at : ℕ) → v < 256 ^ n → at + n ≤ length l → leAt n (put l at (leBytes n v)) at ≡ v
+le-put n v l at h g =
+    le-at n v (put l at (leBytes n v)) at (drop (at + length (leBytes n v)) l) h (put-there l at (leBytes n v) (omega (arith, length-le n v)))
+
+pub le-other : (n : ℕ) (l : List ℕ) (i : ℕ) (vs : List ℕ) (at : ℕ) → (at < i + length vs → i < at + n → ⊥) → leAt n (put l i vs) at ≡ leAt n l at
+le-other n l i vs at h = le-ext n (put l i vs) l at (λ j a b. put-other l i vs j (λ c d. h (omega arith) (omega arith)))
+
 -- a loop that writes elements of k bytes one after the other: those of element m, behind those of the first m
 pub flat-next : {A : Type 0} (e : A → List ℕ) (k : ℕ) → ((x : A) → length (e x) ≡ k) → (f : ℕ → A) (l : List ℕ) (at m j : ℕ) (x : A) (s t : List ℕ)
     → j ≡ at + k * m → x ≡ f m → s ≡ put l at (flat e (run m f)) → t ≡ put s j (e x) → t ≡ put l at (flat e (run (m + 1) f))

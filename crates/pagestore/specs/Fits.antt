@@ -1,4 +1,4 @@
--- What a page can hold: the values of the stored types. All that is read from an index fits.
+-- What a page can hold: the values of the stored types, of a coordinate 11 bits. All that is read from an index fits.
 use mathlib.Core.Path.{_≡_}
 use Prim.Native.Nat.{_^_, _<_}
 use lib.ListN.{length}
@@ -10,7 +10,7 @@ use Rattle.pagestore.specs.declared.Entry.{Entry}
 pub record RecordFits (r : Record) : Type 0 where
   pub id : r .id < 2 ^ 32
   pub slots : length (r .coords) ≡ 16
-  pub coords : All (λ c. c < 2 ^ 16) (r .coords)
+  pub coords : All (λ c. c < 2 ^ 11) (r .coords)
 
 pub record KeyFits (k : Key) : Type 0 where
   pub pyramid : k .pyramid .0 < 2 ^ 8

@@ -1,10 +1,10 @@
 -- What the bytes of one page hold, and the bytes that are written for it. docs/LAYOUT.md has the offsets as a table.
 use mathlib.Core.List.{List, [], _∷_, _++_}
-use Prim.Native.Nat.{ℕ, _+_, _-_, _*_}
+use Prim.Native.Nat.{ℕ, zero, suc, _+_, _-_, _*_, _%_}
 use lib.ListN.{length, getD, take, replicate}
 use Rattle.lists.specs.Basics.{run, flat}
 use Rattle.geometry.specs.declared.Key.{Key}
-use Rattle.pagestore.specs.Bytes.{byteAt, leAt, leBytes}
+use Rattle.pagestore.specs.Bytes.{byteAt, leAt, leBytes, put}
 use Rattle.pagestore.specs.declared.Record.{Record}
 use Rattle.pagestore.specs.declared.Leaf.{Leaf}
 use Rattle.pagestore.specs.declared.Entry.{Entry}
@@ -24,20 +24,54 @@ entryAt s at = record { child = leAt 4 s at; first = keyAt s (at + 4); last = ke
 unfoldable pub entryBytes : Entry → List ℕ
 entryBytes e = leBytes 4 (e .child) ++ (keyBytes (e .first) ++ keyBytes (e .last))
 
--- a record, 44 bytes: identifier, 16 coordinates of 2 bytes, 8 unused (room for a stamp and a stage)
+-- a leaf holds its records by columns: where they begin, their width, and where the identifiers begin
+abbrev pub columns : ℕ
+columns = 32
+
+abbrev pub columnWidth : ℕ
+columnWidth = 32
+
+abbrev pub idents : ℕ
+idents = 576
+
+-- of a coordinate's two bytes 11 bits count
+abbrev pub coordRoom : ℕ
+coordRoom = 2048
+
+-- coordinate m of record i, and the record's identifier
+abbrev pub coordAt : ℕ → ℕ → ℕ
+coordAt m i = columns + columnWidth * m + 2 * i
+
+abbrev pub identAt : ℕ → ℕ
+identAt i = idents + 4 * i
+
+-- record i of a leaf, and the leaf
 unfoldable pub recordAt : List ℕ → ℕ → Record
-recordAt s at = record { id = leAt 4 s at; coords = run 16 (λ m. leAt 2 s (at + 4 + 2 * m)) }
+recordAt s i = record { id = leAt 4 s (identAt i); coords = run 16 (λ m. leAt 2 s (coordAt m i) % coordRoom) }
 
-unfoldable pub coordBytes : List ℕ → List ℕ
-coordBytes cs = flat (leBytes 2) (run 16 (λ m. getD cs m 0))
-
-unfoldable pub recordBytes : Record → List ℕ
-recordBytes r = leBytes 4 (r .id) ++ (coordBytes (r .coords) ++ (leBytes 4 0 ++ leBytes 4 0))
-
--- a page: level, count, two unused bytes, then 16 slots from byte 4 on
 unfoldable pub leafOf : List ℕ → Leaf
-leafOf s = record { count = byteAt s 1; records = run 16 (λ i. recordAt s (4 + 44 * i)) }
+leafOf s = record { count = byteAt s 1; records = run 16 (recordAt s) }
 
+-- a page with the first m coordinates of record i stored, with that record, and with records from i on
+unfoldable pub putCoords : ℕ → List ℕ → ℕ → List ℕ → List ℕ
+putCoords zero s i cs = s
+putCoords (suc m) s i cs = put (putCoords m s i cs) (coordAt m i) (leBytes 2 (getD cs m 0 % coordRoom))
+
+unfoldable pub putRecord : List ℕ → ℕ → Record → List ℕ
+putRecord s i r = putCoords 16 (put s (identAt i) (leBytes 4 (r .id))) i (r .coords)
+
+unfoldable pub putRecords : List ℕ → ℕ → List Record → List ℕ
+putRecords s i [] = s
+putRecords s i (r ∷ rs) = putRecords (putRecord s i r) (i + 1) rs
+
+-- the 1,024 bytes of a leaf with the count n and nothing else, and those written for a leaf (a page has room for 16 items; more are not written)
+unfoldable pub blankLeaf : ℕ → List ℕ
+blankLeaf n = put (replicate 1024 0) 0 (0 ∷ n ∷ 0 ∷ 0 ∷ [])
+
+unfoldable pub leafBytes : List Record → List ℕ
+leafBytes rs = putRecords (blankLeaf (length (take 16 rs))) 0 (take 16 rs)
+
+-- an inner page: level, count, two unused bytes, then 16 slots from byte 4 on
 unfoldable pub innerOf : List ℕ → Inner
 innerOf s = record { level = byteAt s 0; count = byteAt s 1; entries = run 16 (λ i. entryAt s (4 + 20 * i)) }
 
@@ -45,16 +79,12 @@ innerOf s = record { level = byteAt s 0; count = byteAt s 1; entries = run 16 (�
 unfoldable pub linkOf : List ℕ → ℕ
 linkOf s = leAt 4 s 4
 
--- the 1,024 bytes written for a page: the items' bytes, k each, and zeros up to the end
-unfoldable pub itemBytes : {A : Type 0} → (A → List ℕ) → ℕ → ℕ → List A → List ℕ
-itemBytes e k level xs = (level ∷ length xs ∷ 0 ∷ 0 ∷ []) ++ (flat e xs ++ replicate (1020 - k * length xs) 0)
-
--- (a page has room for 16 items; more are not written)
-unfoldable pub leafBytes : List Record → List ℕ
-leafBytes rs = itemBytes recordBytes 44 0 (take 16 rs)
+-- the 1,024 bytes written for an inner page: its entries, and zeros up to the end
+unfoldable pub entriesBytes : ℕ → List Entry → List ℕ
+entriesBytes level es = (level ∷ length es ∷ 0 ∷ 0 ∷ []) ++ (flat entryBytes es ++ replicate (1020 - 20 * length es) 0)
 
 unfoldable pub innerBytes : ℕ → List Entry → List ℕ
-innerBytes level es = itemBytes entryBytes 20 level (take 16 es)
+innerBytes level es = entriesBytes level (take 16 es)
 
 -- a freed page reads as an empty leaf
 unfoldable pub freedBytes : ℕ → List ℕ

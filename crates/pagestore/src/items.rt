@@ -1,11 +1,11 @@
-// Keys, inner entries and records in a page.
+// Keys and inner entries in a page, and its head.
 ghost use mathlib.Core.Path.{_≡_};
-ghost use Prim.Native.Nat.{_+_, _≤_};
+ghost use mathlib.Core.List.{[], _∷_};
+ghost use Prim.Native.Nat.{_+_, _≤_, min};
 ghost use lib.ListN.{length};
 ghost use Rattle.pagestore.specs.Bytes.{put};
-ghost use Rattle.pagestore.specs.Layout.{keyAt, keyBytes, entryAt, entryBytes, coordBytes, recordAt, recordBytes};
+ghost use Rattle.pagestore.specs.Layout.{keyAt, keyBytes, entryAt, entryBytes};
 use crate::Entry;
-use crate::Record;
 use crate::numbers::get_u8;
 use crate::numbers::get_u16;
 use crate::numbers::get_u32;
@@ -60,42 +60,18 @@ pub fn put_entry(s: &mut [u8], at: usize, e: Entry)
     put_key(s, at + 12, e.last);
 }
 
-pub fn get_record(s: &[u8], at: usize) -> Record
-    requires { ⌜ at + 44 ≤ length (now s) ⌝ }
-    ensures { λ r. ⌜ r ≡ recordAt (now (s .entry)) at ⌝ }
+// How many items are written for a count: a page has room for 16.
+pub fn fill(count: usize) -> usize
+    ensures { λ r. ⌜ r ≡ min 16 count ⌝ }
 {
-    let id = get_u32(s, at);
-    let mut coords = [0u16; 16];
-    let mut m = 0;
-    while m < 16 {
-        coords[m] = get_u16(s, at + 4 + 2 * m);
-        m += 1;
-    }
-    Record {
-        id: id,
-        coords: coords,
-    }
+    if count < 16 { count } else { 16 }
 }
 
-fn put_coords(s: &mut [u8], at: usize, coords: [u16; 16])
-    requires { ⌜ at + 32 ≤ length (now s) ⌝ }
-    ensures { λ _. ⌜ now (s .exit) ≡ put (now (s .entry)) at (coordBytes coords) ⌝ }
+pub fn put_head(page: &mut [u8], level: u8, count: usize)
+    requires { ⌜ (4 ≤ length (now page)) × (count ≤ 16) ⌝ }
+    ensures { λ _. ⌜ now (page .exit) ≡ put (now (page .entry)) 0 (level ∷ count ∷ 0 ∷ 0 ∷ []) ⌝ }
 {
-    let mut m = 0;
-    while m < 16 {
-        put_u16(s, at + 2 * m, coords[m]);
-        m += 1;
-    }
-}
-
-// The 8 bytes behind the coordinates are unused and become 0.
-pub fn put_record(s: &mut [u8], at: usize, r: Record)
-    requires { ⌜ at + 44 ≤ length (now s) ⌝ }
-    ensures { λ _. ⌜ now (s .exit) ≡ put (now (s .entry)) at (recordBytes r) ⌝ }
-{
-    put_u32(s, at, r.id);
-    let coords = r.coords;
-    put_coords(s, at + 4, coords);
-    put_u32(s, at + 36, 0);
-    put_u32(s, at + 40, 0);
+    put_u8(page, 0, level);
+    put_u8(page, 1, count as u8);
+    put_u16(page, 2, 0);
 }

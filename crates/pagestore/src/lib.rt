@@ -4,7 +4,9 @@ use geometry::Key;
 
 mod counting;
 mod header;
+mod inners;
 mod items;
+mod leaves;
 mod links;
 mod making;
 mod numbers;
@@ -12,13 +14,17 @@ mod pages;
 mod shift;
 
 // One page, handed over as a part of the index.
-pub use pages::read_count;
-pub use pages::read_leaf;
-pub use pages::read_record;
-pub use pages::write_inner;
-pub use pages::write_leaf;
+pub use inners::write_inner;
+pub use leaves::read_coord;
+pub use leaves::read_count;
+pub use leaves::read_ident;
+pub use leaves::read_leaf;
+pub use leaves::read_record;
+pub use leaves::write_leaf;
 
 // Pages by number.
+pub use inners::set_inner;
+pub use leaves::set_leaf;
 pub use links::set_link;
 pub use pages::count_at;
 pub use pages::entry_at;
@@ -30,8 +36,6 @@ pub use pages::level_at;
 pub use pages::link_at;
 pub use pages::page_count;
 pub use pages::record_at;
-pub use pages::set_inner;
-pub use pages::set_leaf;
 
 // The header's fields.
 pub use header::features_of;
@@ -56,7 +60,7 @@ pub use making::make;
 // A record put into a leaf held by value.
 pub use shift::insert_record;
 
-// A record as it is stored: its identifier, and 16 coordinate slots, each a coordinate with 1,000 added.
+// A record as it is stored: its identifier, and 16 coordinate slots, each a coordinate with 1,000 added. A page keeps 11 bits of each.
 pub struct Record {
     pub id: u32,
     pub coords: [u16; 16],

@@ -5,10 +5,10 @@ use crate::header::set_features;
 use crate::header::set_fresh_page;
 use crate::header::set_index_size;
 use crate::header::set_root_page;
+use crate::leaves::empty_leaf;
+use crate::leaves::set_leaf;
 use crate::numbers::clear;
-use crate::pages::empty_leaf;
 use crate::pages::page_count;
-use crate::pages::set_leaf;
 
 fn clear_header(index: &mut [u8])
     ensures { λ _. ⌜ now (index .exit) ≡ clearHeader (now (index .entry)) ⌝ }

@@ -157,7 +157,7 @@ fn damage_leaf(index: &mut [u8], k: u32) {
     match k {
         14 => set_leaf(index, 1, leaf_with(1, 3, record(4, 1006))),
         15 => set_leaf(index, 1, leaf_with(1, 3, record(0, 1004))),
-        16 => set_leaf(index, 1, leaf_with(1, 7, record(8, 3001))),
+        16 => set_leaf(index, 1, leaf_with(1, 7, record(8, 2001))),
         17 => set_leaf(index, 2, leaf_with(9, 3, record(4, 1012))),
         18 => set_leaf(index, 2, leaf(9, 7)),
         _ => {}

@@ -25,13 +25,13 @@ coord-low x l = rw (lt-ltb x 1000 l) (ap negsuc (let e : 1000 - suc x ≡ 999 - 
 pub coord-high : (x : ℕ) → 1000 ≤ x → coordOf x ≡ pos (x - 1000)
 coord-high x l = rw (le-ltb x 1000 l)
 
-coord-fits : (x : ℕ) → x < 2 ^ 16 → natAbs (coordOf x) < 2 ^ 16
+coord-fits : (x : ℕ) → x < 2 ^ 11 → natAbs (coordOf x) < 2 ^ 16
 coord-fits x h =
     cases (ltb x 1000)
     (λ e. rw (coord-low x (ltb-true x 1000 e)) (omega arith))
     (λ e. rw (coord-high x (ltb-false x 1000 e)) (omega arith))
 
-height-fits : {xs : List ℕ} → All (λ c. c < 2 ^ 16) xs → heightOf (pointOf xs) < 2 ^ 16
+height-fits : {xs : List ℕ} → All (λ c. c < 2 ^ 11) xs → heightOf (pointOf xs) < 2 ^ 16
 unfolding heightOf pointOf
 height-fits none = omega arith
 height-fits (also {x = x} {xs = xs} h t) = omega (arith, coord-fits x h, height-fits t)

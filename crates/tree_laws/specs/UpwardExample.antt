@@ -51,7 +51,7 @@ upward b (suc n) = insertInto (upward b n) (numbered (suc n))
 
 -- ITS RECORDS
 
-zeros-fit : (k : ℕ) → All (λ c. c < 2 ^ 16) (replicate k 0)
+zeros-fit : (k : ℕ) → All (λ c. c < 2 ^ 11) (replicate k 0)
 zeros-fit zero = none
 zeros-fit (suc k) = also {x = 0} (omega arith) (zeros-fit k)
 

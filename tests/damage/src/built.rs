@@ -145,19 +145,22 @@ pub fn built(rng: &mut Rng, plan: Plan) -> Vec<u8> {
     b
 }
 
-/// Whether a rule or a reader names byte i of a page.
-fn named(q: &[u8], d: usize, i: usize) -> bool {
+/// The bits of byte i of a page that a rule or a reader names.
+fn named(q: &[u8], d: usize, i: usize) -> u8 {
     let (level, count) = (q[0], q[1] as usize);
-    if i < 4 {
-        i < 2
-    } else if level == 0 {
-        (i - 4) / 44 < count && (i - 4) % 44 < 4 + 2 * d
+    if i < 2 {
+        255
+    } else if level > 0 {
+        let entry = i >= 4 && (i - 4) / 20 < count && (i - 4) % 20 != 11 && (i - 4) % 20 != 19;
+        255 * u8::from(entry)
+    } else if (0..d).any(|m| (coord(m, 0)..coord(m, count)).contains(&i)) {
+        [255, 7][i % 2]
     } else {
-        (i - 4) / 20 < count && (i - 4) % 20 != 11 && (i - 4) % 20 != 19
+        255 * u8::from((ident(0)..ident(count)).contains(&i))
     }
 }
 
-/// Other values in the bytes of tree pages and header that nothing names.
+/// Other values in the bits of tree pages and header that nothing names.
 fn spoil(rng: &mut Rng, b: &mut [u8]) {
     let d = b[FEATURES] as usize;
     let header = [5..8, 13..16, 28..PAGE];
@@ -168,8 +171,9 @@ fn spoil(rng: &mut Rng, b: &mut [u8]) {
             open.extend(entries(b, p).iter().map(|e| e.child));
         }
         let was = page(b, p).to_vec();
-        for i in (0..PAGE).filter(|&i| !named(&was, d, i)) {
-            page_mut(b, p)[i] = rng.next() as u8;
+        for (i, old) in was.iter().enumerate() {
+            let kept = named(&was, d, i);
+            page_mut(b, p)[i] = old & kept | rng.next() as u8 & !kept;
         }
     }
     let mut p = u32_at(b, FREED);

@@ -183,12 +183,16 @@ fn strike(rng: &mut Rng, b: &mut [u8]) {
         2 => b[p + 1] = rng.pick(&[0, 1, 7, 8, 9, 15, 16, 17, 200, 255]),
         3 => put_u32(b, p + 4 + 20 * slot, rng.below(n + 2) as u32),
         4 => b[p + 4 + 20 * slot + rng.below(20)] ^= 1 << rng.below(8),
-        5 => b[p + 4 + 44 * slot + rng.below(44)] ^= 1 << rng.below(8),
+        5 => b[p + coord(rng.below(16), slot) + rng.below(2)] ^= 1 << rng.below(8),
         6 => b.copy_within(q..q + PAGE, p),
         7 => put_u32(b, p + 4, rng.below(n) as u32),
-        8 => put_u32(b, p + 4 + 44 * slot, u32_at(b, q + 4 + 44 * rng.below(16))),
+        8 => put_u32(b, p + ident(slot), u32_at(b, q + ident(rng.below(16)))),
         9 => b[p + rng.below(PAGE)] = rng.next() as u8,
-        10 => b.copy_within(q + 4..q + 48, p + 4 + 44 * slot),
+        10 => {
+            let from = rng.below(16);
+            b.copy_within(q + ident(from)..q + ident(from + 1), p + ident(slot));
+            (0..16).for_each(|m| b.copy_within(q + coord(m, from)..q + coord(m, from) + 2, p + coord(m, slot)));
+        }
         11 => b.copy_within(q + 4..q + 24, p + 4 + 20 * slot),
         12 => put_u32(b, TOTAL, u32_at(b, TOTAL).wrapping_add(rng.pick(&[1, 8, u32::MAX]))),
         13 => put_u32(b, rng.pick(&[FREED, FRESH, ROOT]), rng.below(n + 1) as u32),

@@ -78,13 +78,22 @@ pub fn count(b: &[u8], p: u32) -> usize {
     page(b, p)[1] as usize
 }
 
+/// Where coordinate m of record i begins in its leaf.
+pub fn coord(m: usize, i: usize) -> usize {
+    32 + 32 * m + 2 * i
+}
+
+/// Where the identifier of record i begins in its leaf.
+pub fn ident(i: usize) -> usize {
+    576 + 4 * i
+}
+
 fn record_at(q: &[u8], i: usize) -> Record {
-    let at = 4 + 44 * i;
     let mut slots = [0; 16];
-    for (s, slot) in slots.iter_mut().enumerate() {
-        *slot = u16_at(q, at + 4 + 2 * s);
+    for (m, slot) in slots.iter_mut().enumerate() {
+        *slot = u16_at(q, coord(m, i)) % 2048;
     }
-    Record { id: u32_at(q, at), slots }
+    Record { id: u32_at(q, ident(i)), slots }
 }
 
 fn key_at(q: &[u8], at: usize) -> Key {
@@ -112,10 +121,9 @@ pub fn put_leaf(b: &mut [u8], p: u32, records: &[Record]) {
     q.fill(0);
     q[1] = records.len() as u8;
     for (i, r) in records.iter().enumerate() {
-        let at = 4 + 44 * i;
-        put_u32(q, at, r.id);
-        for (s, slot) in r.slots.iter().enumerate() {
-            q[at + 4 + 2 * s..at + 6 + 2 * s].copy_from_slice(&slot.to_le_bytes());
+        put_u32(q, ident(i), r.id);
+        for (m, slot) in r.slots.iter().enumerate() {
+            q[coord(m, i)..coord(m, i) + 2].copy_from_slice(&(slot % 2048).to_le_bytes());
         }
     }
 }
@@ -150,7 +158,7 @@ pub fn ends(b: &[u8], p: u32, d: usize) -> (Key, Key) {
     }
 }
 
-/// A sound index with 0 in every byte that no table of the layout names.
+/// A sound index with 0 in every byte and bit that no table of the layout names.
 pub fn canonical(bytes: &[u8]) -> Vec<u8> {
     let mut b = bytes.to_vec();
     let fields = [SIZE, ROOT, TOTAL, FREED, FRESH].map(|f| (f, u32_at(bytes, f)));

@@ -55,8 +55,8 @@ impl Sound {
 
 type Rule = fn(&Sound, &mut [u8]) -> Vec<u32>;
 
-fn record(p: u32, i: usize) -> usize {
-    p as usize * PAGE + 4 + 44 * i
+fn identifier(p: u32, i: usize) -> usize {
+    byte(p, ident(i))
 }
 
 fn entry(p: u32, i: usize) -> usize {
@@ -133,28 +133,29 @@ const HEADER: [(&str, Rule); 14] = [
 
 const LEAVES: [(&str, Rule); 10] = [
     ("identifier 0", |s, b| {
-        put_u32(b, record(s.leaves[3], 2), 0);
+        put_u32(b, identifier(s.leaves[3], 2), 0);
         vec![s.leaves[3]]
     }),
     ("coordinate out of range", |s, b| {
-        b[record(s.leaves[3], 2) + 4..record(s.leaves[3], 2) + 6].copy_from_slice(&2001u16.to_le_bytes());
+        b[byte(s.leaves[3], coord(0, 2))..][..2].copy_from_slice(&2001u16.to_le_bytes());
         vec![s.leaves[3]]
     }),
     ("records out of order", |s, b| {
-        swap(b, record(s.leaves[4], 2), record(s.leaves[4], 3), 44);
+        swap(b, identifier(s.leaves[4], 2), identifier(s.leaves[4], 3), 4);
+        (0..16).for_each(|m| swap(b, byte(s.leaves[4], coord(m, 2)), byte(s.leaves[4], coord(m, 3)), 2));
         vec![s.leaves[4]]
     }),
     ("identifier in two leaves", |s, b| {
-        put_u32(b, record(s.leaves[2], 3), u32_at(b, record(s.leaves[9], 3)));
+        put_u32(b, identifier(s.leaves[2], 3), u32_at(b, identifier(s.leaves[9], 3)));
         vec![s.leaves[2], s.leaves[9]]
     }),
     ("identifier twice in a leaf", |s, b| {
-        put_u32(b, record(s.leaves[2], 3), u32_at(b, record(s.leaves[2], 5)));
+        put_u32(b, identifier(s.leaves[2], 3), u32_at(b, identifier(s.leaves[2], 5)));
         vec![s.leaves[2]]
     }),
     ("identifier in three leaves", |s, b| {
         for p in [1, 5] {
-            put_u32(b, record(s.leaves[p], 3), u32_at(b, record(s.leaves[9], 3)));
+            put_u32(b, identifier(s.leaves[p], 3), u32_at(b, identifier(s.leaves[9], 3)));
         }
         vec![s.leaves[1], s.leaves[5], s.leaves[9]]
     }),
@@ -172,7 +173,7 @@ const LEAVES: [(&str, Rule); 10] = [
     }),
     ("leaf of 7, and its contents", |s, b| {
         b[byte(s.leaves[6], 1)] = 7;
-        put_u32(b, record(s.leaves[6], 2), 0);
+        put_u32(b, identifier(s.leaves[6], 2), 0);
         put_u32(b, TOTAL, 3);
         vec![s.parent(s.leaves[6])]
     }),
@@ -243,14 +244,12 @@ const INNER: [(&str, Rule); 17] = [
     ("a leaf that is freed too", |s, b| {
         let leaf = s.leaves[1];
         put_u32(b, byte(*s.freed.last().unwrap(), 4), leaf);
-        let (id, first) = (u32_at(b, record(leaf, 0)), s.leaves[1]);
-        assert!(id >= s.n);
-        vec![0, s.parent(first)]
+        put_u32(b, byte(leaf, 4), s.n);
+        vec![0, s.parent(leaf)]
     }),
     ("a leaf within a whole chain of freed pages", |s, b| {
         let leaf = u32_at(b, entry(s.inner[0], 1));
-        put_u32(b, record(leaf, 0), s.freed[0]);
-        put_u32(b, entry(s.inner[0], 1) + 4, s.freed[0]);
+        put_u32(b, byte(leaf, 4), s.freed[0]);
         put_u32(b, FREED, leaf);
         vec![s.inner[0]]
     }),

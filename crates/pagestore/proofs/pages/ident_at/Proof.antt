@@ -7,7 +7,7 @@ use Rattle.pagestore.specs.Layout.{leafOf}
 use Rattle.pagestore.specs.LayoutLaws.{noRecord}
 use Rattle.pagestore.specs.declared.Leaf.{Leaf}
 use Rattle.pagestore.specs.Store.StretchLaws.{stretch-out, leaf-opens}
-use Rattle.pagestore.proofs.CodeLaws.{held, part-is, part-whole, ident-read, ident-none}
+use Rattle.pagestore.proofs.CodeLaws.{held, part-is, part-whole, ident-none}
 use borrow.Author.Needs.{needs}
 use Rattle.pagestore.proofs.pages.ident_at.Statement.{statement}
 use Rattle.pagestore.proofs.pages.ident_at.Tie as tie
@@ -21,37 +21,23 @@ mul-at c = search needs
 add-end : tie.Need-add-end
 add-end c = search needs
 
-sub-get-u32 : tie.Need-sub-get-u32
-sub-get-u32 c = search needs
+sub-read-ident : tie.Need-sub-read-ident
+sub-read-ident c = search needs
 
-part-get-u32-start : tie.Need-part-get-u32-start
-part-get-u32-start c = search needs
+part-read-ident-start : tie.Need-part-read-ident-start
+part-read-ident-start c = search needs
 
-part-get-u32-end : tie.Need-part-get-u32-end
-part-get-u32-end c = omega (arith, part-whole _ _ (held _ _ _ (c .before .in-range .ensures) (c .if1 .taken)))
+part-read-ident-end : tie.Need-part-read-ident-end
+part-read-ident-end c = omega (arith, part-whole _ _ (held _ _ _ (c .before .in-range .ensures) (c .if1 .taken)))
 
-mul-get-u32 : tie.Need-mul-get-u32
-mul-get-u32 c = search needs
-
-add-get-u32 : tie.Need-add-get-u32
-add-get-u32 c = search needs
-
-get-u32-requires : tie.Need-get-u32-requires
-get-u32-requires c κs = search needs
+read-ident-requires : tie.Need-read-ident-requires
+read-ident-requires c κs = search needs
 
 returns : tie.Need-returns
-returns c =
-    let i = c .before .before .before .before .before .args .i in
-    c .get-u32 .ensures ∙ ident-read _ i (search needs) ∙ ap (λ (s : List ℕ). getD (leafOf s .records) i noRecord .id)
-    (part-is _ _ (held _ _ _ (c .before .before .before .in-range .ensures) (c .before .before .if1 .taken)))
-    ∙ ap (λ (x : Leaf). getD (x .records) i noRecord .id) (sym (leaf-opens _ _))
+returns c = let i = c .before .before .before .before .before .args .i in c .read-ident .ensures ∙ ap (λ (s : List ℕ). getD (leafOf s .records) i noRecord .id) (part-is _ _ (held _ _ _ (c .before .before .before .in-range .ensures) (c .before .before .if1 .taken))) ∙ ap (λ (x : Leaf). getD (x .records) i noRecord .id) (sym (leaf-opens _ _))
 
 returns-2 : tie.Need-returns-2
-returns-2 c =
-    let i = c .before .before .before .args .i in
-    ident-none i (search needs) ∙ sym
-    (ap (λ (x : Leaf). getD (x .records) i noRecord .id)
-    (leaf-opens _ _ ∙ ap leafOf (stretch-out _ _ (held _ _ _ (c .before .in-range .ensures) (c .if1 .left)))))
+returns-2 c = let i = c .before .before .before .args .i in ident-none i (search needs) ∙ sym (ap (λ (x : Leaf). getD (x .records) i noRecord .id) (leaf-opens _ _ ∙ ap leafOf (stretch-out _ _ (held _ _ _ (c .before .in-range .ensures) (c .if1 .left)))))
 
 pub ident-at-spec : {M : Type 1} → statement M
 ident-at-spec =
@@ -60,11 +46,9 @@ ident-at-spec =
     in-range-requires
     mul-at
     add-end
-    sub-get-u32
-    part-get-u32-start
-    part-get-u32-end
-    mul-get-u32
-    add-get-u32
-    get-u32-requires
+    sub-read-ident
+    part-read-ident-start
+    part-read-ident-end
+    read-ident-requires
     returns
     returns-2)

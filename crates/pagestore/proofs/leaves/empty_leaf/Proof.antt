@@ -1,0 +1,16 @@
+use Rattle.pagestore.specs.Layout.{recordAt, leafOf}
+use Rattle.pagestore.specs.Bytes.{leAt}
+use Rattle.lists.specs.Basics.{run}
+use borrow.Author.Needs.{needs}
+use Rattle.pagestore.proofs.leaves.empty_leaf.Statement.{statement}
+use Rattle.pagestore.proofs.leaves.empty_leaf.Tie as tie
+
+no-record-requires : tie.Need-no-record-requires
+no-record-requires c κs = search needs
+
+returns : tie.Need-returns
+unfolding leafOf recordAt leAt run
+returns c = rw (c .no-record .ensures)
+
+pub empty-leaf-spec : {M : Type 1} → statement M
+empty-leaf-spec = tie.close (tie.spec no-record-requires returns)

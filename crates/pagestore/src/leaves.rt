@@ -1,0 +1,162 @@
+// Leaf pages: records by columns, so that coordinate m of all records lies together (docs/LAYOUT.md).
+ghost use mathlib.Core.Path.{_≡_};
+ghost use mathlib.Core.List.{[]};
+ghost use Prim.Native.Nat.{_<_};
+ghost use lib.ListN.{length, getD};
+ghost use Rattle.pagestore.specs.Bytes.{leAt};
+ghost use Rattle.pagestore.specs.Layout.{coordRoom, coordAt, recordAt, leafOf, putCoords, putRecord, leafBytes};
+ghost use Rattle.pagestore.specs.LayoutLaws.{noRecord};
+ghost use Rattle.pagestore.specs.Store.{recordsIn, setLeaf};
+use crate::Leaf;
+use crate::Record;
+use crate::items::fill;
+use crate::items::put_head;
+use crate::numbers::clear;
+use crate::numbers::get_u8;
+use crate::numbers::get_u16;
+use crate::numbers::get_u32;
+use crate::numbers::put_u16;
+use crate::numbers::put_u32;
+use crate::pages::in_range;
+
+// Where the columns begin.
+const COLUMNS: usize = 32;
+// The width of a column.
+const WIDTH: usize = 32;
+// Where the identifiers begin.
+const IDENTS: usize = 576;
+// A stored coordinate is below this: the low 11 bits of two bytes.
+const ROOM: u16 = 2048;
+
+pub fn no_record() -> Record
+    ensures { λ r. ⌜ r ≡ recordAt [] 0 ⌝ }
+{
+    Record {
+        id: 0,
+        coords: [0u16; 16],
+    }
+}
+
+pub fn empty_leaf() -> Leaf
+    ensures { λ r. ⌜ r ≡ leafOf [] ⌝ }
+{
+    let records = [no_record(); 16];
+    Leaf {
+        count: 0,
+        records: records,
+    }
+}
+
+// The count of a leaf, as stored, read from its page.
+pub fn read_count(page: &[u8]) -> usize
+    requires { ⌜ length (now page) ≡ 1024 ⌝ }
+    ensures { λ r. ⌜ r ≡ leafOf (now (page .entry)) .count ⌝ }
+{
+    get_u8(page, 1) as usize
+}
+
+// The two bytes of a coordinate, apart from the mask: so compiled they are one load, and a loop over records has lanes.
+fn coord_bytes(page: &[u8], m: usize, i: usize) -> u16
+    requires { ⌜ (length (now page) ≡ 1024) × (m < 16) × (i < 16) ⌝ }
+    ensures { λ r. ⌜ r ≡ leAt 2 (now (page .entry)) (coordAt m i) ⌝ }
+{
+    get_u16(page, COLUMNS + WIDTH * m + 2 * i)
+}
+
+// One coordinate of a record, as stored.
+pub fn read_coord(page: &[u8], m: usize, i: usize) -> u16
+    requires { ⌜ (length (now page) ≡ 1024) × (m < 16) × (i < 16) ⌝ }
+    ensures { λ r. ⌜ (r ≡ getD (getD (leafOf (now (page .entry)) .records) i noRecord .coords) m 0) × (r < coordRoom) ⌝ }
+{
+    coord_bytes(page, m, i) % ROOM
+}
+
+// The identifier of a record.
+pub fn read_ident(page: &[u8], i: usize) -> u32
+    requires { ⌜ (length (now page) ≡ 1024) × (i < 16) ⌝ }
+    ensures { λ r. ⌜ r ≡ getD (leafOf (now (page .entry)) .records) i noRecord .id ⌝ }
+{
+    get_u32(page, IDENTS + 4 * i)
+}
+
+// One record of a leaf, read from its page by itself.
+pub fn read_record(page: &[u8], i: usize) -> Record
+    requires { ⌜ (length (now page) ≡ 1024) × (i < 16) ⌝ }
+    ensures { λ r. ⌜ r ≡ getD (leafOf (now (page .entry)) .records) i noRecord ⌝ }
+{
+    let id = read_ident(page, i);
+    let mut coords = [0u16; 16];
+    let mut m = 0;
+    while m < 16 {
+        coords[m] = read_coord(page, m, i);
+        m += 1;
+    }
+    Record {
+        id: id,
+        coords: coords,
+    }
+}
+
+// Reads a leaf from its page, handed over as a part of the index. All 16 slots are read, whatever the count.
+pub fn read_leaf(page: &[u8]) -> Leaf
+    requires { ⌜ length (now page) ≡ 1024 ⌝ }
+    ensures { λ r. ⌜ r ≡ leafOf (now (page .entry)) ⌝ }
+{
+    let count = read_count(page);
+    let mut records = [no_record(); 16];
+    let mut i = 0;
+    while i < 16 {
+        records[i] = read_record(page, i);
+        i += 1;
+    }
+    Leaf {
+        count: count,
+        records: records,
+    }
+}
+
+fn put_coords(page: &mut [u8], i: usize, coords: [u16; 16])
+    requires { ⌜ (length (now page) ≡ 1024) × (i < 16) ⌝ }
+    ensures { λ _. ⌜ now (page .exit) ≡ putCoords 16 (now (page .entry)) i coords ⌝ }
+{
+    let mut m = 0;
+    while m < 16 {
+        put_u16(page, COLUMNS + WIDTH * m + 2 * i, coords[m] % ROOM);
+        m += 1;
+    }
+}
+
+fn put_record(page: &mut [u8], i: usize, r: Record)
+    requires { ⌜ (length (now page) ≡ 1024) × (i < 16) ⌝ }
+    ensures { λ _. ⌜ now (page .exit) ≡ putRecord (now (page .entry)) i r ⌝ }
+{
+    put_u32(page, IDENTS + 4 * i, r.id);
+    let coords = r.coords;
+    put_coords(page, i, coords);
+}
+
+// Writes a leaf into its page's own stretch, all 1,024 bytes.
+pub fn write_leaf(page: &mut [u8], leaf: Leaf)
+    requires { ⌜ length (now page) ≡ 1024 ⌝ }
+    ensures { λ _. ⌜ now (page .exit) ≡ leafBytes (recordsIn leaf) ⌝ }
+{
+    let n = fill(leaf.count);
+    clear(page);
+    put_head(page, 0, n);
+    let mut i = 0;
+    while i < n {
+        put_record(page, i, leaf.records[i]);
+        i += 1;
+    }
+}
+
+// Writes a leaf at a page; out of range it does nothing. Of a count above 16 the 16 records are written.
+pub fn set_leaf(index: &mut [u8], page: u32, leaf: Leaf)
+    ensures { λ _. ⌜ now (index .exit) ≡ setLeaf (now (index .entry)) page (recordsIn leaf) ⌝ }
+{
+    if in_range(index, page) {
+        let at = page as usize * 1024;
+        let end = at + 1024;
+        write_leaf(&mut index[at..end], leaf);
+    }
+}
