@@ -6,8 +6,8 @@ use Prim.Native.Nat.{ℕ, suc, _+_, _-_, _≤_, _<_}
 use native.Mathlib.Omega.{arith}
 use native.Mathlib.Numerals.{add-one}
 use lib.Dec.{leb, ltb, eqb}
-use lib.ListN.{length, getD, take, drop, length-append, length-map, length-take, take-append-drop}
-use lib.Seq.{take-suc, getD-take, take-take, take-all, drop-cons}
+use lib.ListN.{length, getD, take, drop, length-append, length-take, take-append-drop}
+use lib.Seq.{take-suc, getD-take, take-take, drop-cons}
 use borrow.Author.Tests.{eqb-true, eqb-false, eq-eqb, ne-eqb, leb-true, leb-false, ltb-true, ltb-false}
 use Rattle.lists.specs.Basics.{tick, pick, All, none, also, flat, flat-append, all-append}
 use Rattle.lists.specs.Ascending.{Ascending, one, headOr, lastOr, last-append}
@@ -51,10 +51,6 @@ found-at (at p o h) n = h
 pub found-nowhere : {P : Type 0} {Q : ℕ → Type 0} {p : ℕ} → Found P Q p → p ≡ 0 → P
 found-nowhere (nowhere h) e = h
 found-nowhere (at p o h) e = absurd (omega arith)
-
--- an array has as many elements as its values
-pub unmapped : {X Y : Type 0} (g : X → Y) (l : List X) (n : ℕ) → length (map g l) ≡ n → length l ≡ n
-unmapped g l n e = sym (length-map l g) ∙ e
 
 -- ---- THE FIRST i OF A LIST, one more, and the next
 

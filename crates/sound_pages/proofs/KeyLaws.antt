@@ -7,9 +7,8 @@ use native.Mathlib.Omega.{arith}
 use lib.ListN.{take}
 use Rattle.lists.specs.Basics.{All, none, also}
 use Rattle.geometry.specs.declared.Key.{Key}
-use Rattle.geometry.specs.declared.Pair.{Pair}
-use Rattle.geometry.specs.Keys.{keyWith, keyNumber}
-use Rattle.geometry.specs.Points.{pyramidOf, heightOf}
+use Rattle.geometry.specs.Keys.{keyNumber}
+use Rattle.geometry.specs.Points.{heightOf}
 use Rattle.geometry.specs.Stored.{pointOf}
 use Rattle.geometry.proofs.StoredLaws.{coord-magnitude}
 use Rattle.geometry.proofs.KeyLaws.{KeyFits}
@@ -20,12 +19,7 @@ use Rattle.trees.specs.Sound.{RecordOk}
 use Rattle.sound_pages.specs.Judged.{Decides}
 use Rattle.sound_pages.proofs.JudgeLaws.{judge-map}
 
--- the key with a record's pair and identifier
-pub key-is : (d : ℕ) (r : Record) (p : Pair) (k : Key) → p .pyramid .0 ≡ pyramidOf (pointIn d r) → p .height .0 ≡ heightOf (pointIn d r) → k ≡ keyWith p (r .id) → k ≡ keyOf d r
-unfolding keyOf
-key-is d r p k a b e = e ∙ (λ i. record { pyramid = record { 0 = a i }; height = record { 0 = b i }; id = r .id })
-
--- and its rank
+-- the rank of a record by its key
 pub rank-is : (d : ℕ) (r : Record) (k : Key) (x : ℕ) → k ≡ keyOf d r → x ≡ keyNumber k → x ≡ rankOf d r
 unfolding rankOf
 rank-is d r k x e q = q ∙ ap keyNumber e

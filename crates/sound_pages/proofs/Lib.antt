@@ -1,5 +1,6 @@
 pub mod JudgeLaws
 pub mod KeyLaws
+pub mod LeadLaws
 pub mod EndsLaws
 pub mod ViewLaws
 pub mod MarkLaws

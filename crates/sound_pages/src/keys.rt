@@ -3,31 +3,23 @@ ghost use mathlib.Core.Path.{_≡_};
 ghost use mathlib.Core.Bool.{true, false};
 ghost use Prim.Native.Nat.{_-_, _<_, _≤_, _^_};
 ghost use lib.Dec.{eqb};
+ghost use lib.ListN.{length};
 ghost use Rattle.lists.specs.Basics.{pick};
 ghost use Rattle.geometry.specs.Keys.{keyNumber};
-ghost use Rattle.pagestore.specs.Store.{recordsIn, entriesIn, fillOf, pageAt, leafAt, innerAt, viewOf};
-ghost use Rattle.trees.specs.Trees.{keyOf};
+ghost use Rattle.pagestore.specs.Layout.{leafOf};
+ghost use Rattle.pagestore.specs.Store.{recordsIn, entriesIn, fillOf, pageAt, leafAt, innerAt, inRange, viewOf};
 ghost use Rattle.faults.specs.Faults.{Reached};
 ghost use Rattle.sound_pages.specs.Judged.{Decides, LeafJudged, InnerJudged, PageJudged};
+ghost use Rattle.sound_pages.specs.Leads.{Leads};
 use crate::Span;
+use crate::leads::lanes;
+use crate::leads::lead_columns;
+use crate::leads::lead_key;
 use geometry::Key;
 use geometry::keys::key_number;
-use geometry::keys::key_of;
-use geometry::points::pair_of;
-use pagestore::Record;
 use pagestore::count_at;
 use pagestore::entry_at;
 use pagestore::level_at;
-use pagestore::record_at;
-
-// The key of a record with d features.
-fn record_key(r: Record, d: usize) -> Key
-    requires { ⌜ (1 ≤ d) × (d ≤ 16) ⌝ }
-    ensures { λ k. ⌜ k ≡ keyOf d r ⌝ }
-{
-    let coords = r.coords;
-    key_of(pair_of(&coords[..d]), r.id)
-}
 
 // A key as a number; there is room for one more.
 pub fn rank(k: Key) -> u64
@@ -82,16 +74,16 @@ fn span_to(first: u64, next: u64) -> Span
     }
 }
 
-// Are the records of a leaf in range, and do their keys ascend? Each record is read once.
-fn judge_leaf(index: &[u8], page: u32, n: usize, d: usize) -> Span
-    requires { ⌜ (n ≡ leafAt (now index) page .count) × (n ≤ 16) × (1 ≤ d) × (d ≤ 16) ⌝ }
-    ensures { λ r. ⌜ LeafJudged d (recordsIn (leafAt (now (index .entry)) page)) r ⌝ }
+// Are the first n records in range, and do their keys ascend? `tops` holds their greatest leads.
+fn judge_records(page: &[u8], n: usize, d: usize, tops: &[u16]) -> Span
+    requires { ⌜ (length (now page) ≡ 1024) × (n ≡ leafOf (now page) .count) × (n ≤ 16) × (1 ≤ d) × (d ≤ 16) × Leads (leafOf (now page)) d n (now tops) ⌝ }
+    ensures { λ r. ⌜ LeafJudged d (recordsIn (leafOf (now (page .entry)))) r ⌝ }
 {
     let mut first: u64 = 0;
     let mut next: u64 = 0;
     let mut i = 0;
     while i < n {
-        let key = record_key(record_at(index, page, i), d);
+        let key = lead_key(page, tops[i], i, d);
         if !key_fine(key) {
             return faulty();
         }
@@ -104,6 +96,26 @@ fn judge_leaf(index: &[u8], page: u32, n: usize, d: usize) -> Span
         i += 1;
     }
     span_to(first, next)
+}
+
+// The records of a leaf, read from its page.
+fn judge_part(page: &[u8], n: usize, d: usize) -> Span
+    requires { ⌜ (length (now page) ≡ 1024) × (n ≡ leafOf (now page) .count) × (n ≤ 16) × (1 ≤ d) × (d ≤ 16) ⌝ }
+    ensures { λ r. ⌜ LeafJudged d (recordsIn (leafOf (now (page .entry)))) r ⌝ }
+{
+    let mut tops = [0u16; 16];
+    lead_columns(page, d, lanes(n), &mut tops);
+    judge_records(page, n, d, &tops)
+}
+
+// The same of the leaf at a page in range.
+fn judge_leaf(index: &[u8], page: u32, n: usize, d: usize) -> Span
+    requires { ⌜ (n ≡ leafAt (now index) page .count) × (n ≤ 16) × (1 ≤ d) × (d ≤ 16) × (inRange (now index) page ≡ true) ⌝ }
+    ensures { λ r. ⌜ LeafJudged d (recordsIn (leafAt (now (index .entry)) page)) r ⌝ }
+{
+    let at = page as usize * 1024;
+    let end = at + 1024;
+    judge_part(&index[at..end], n, d)
 }
 
 // Do the keys of an inner page ascend, each entry's first and last in turn?

@@ -1,5 +1,6 @@
 // The pages of an index judged one by one, for the check: the header, the freed pages, the pages that are followed, their keys and their entries.
 mod keys;
+mod leads;
 mod links;
 mod pages;
 

@@ -1,5 +1,6 @@
-use Rattle.faults.specs.Assembled.{rooted}
-use Rattle.pagestore.specs.Store.{innerAt, leafAt, levelAt}
+use Rattle.faults.specs.Assembled.{reached-page, rooted}
+use Rattle.pagestore.specs.Store.{innerAt, leafAt, levelAt, viewOf}
+use Rattle.pagestore.specs.Store.RangeLaws.{range-is}
 use Rattle.sound_pages.proofs.EntryLaws.{inner-few, leaf-few}
 use Rattle.sound_pages.proofs.PageLaws.{inner-judged, leaf-judged}
 use borrow.Author.Needs.{needs}
@@ -15,7 +16,8 @@ level-at-requires : tie.Need-level-at-requires
 level-at-requires c κs = search needs
 
 judge-leaf-requires : tie.Need-judge-leaf-requires
-judge-leaf-requires c κs = let s = (c .before .before .before .before) in let b = s .args .index .now in let p = s .args .p in let r = s .pre .0 in let N = c .before .before .item-count in let g = rooted r .features in (N .ensures .0, omega (arith, N .ensures .0, leaf-few b p (leafAt b p) r refl), omega (arith, g .0, s .pre .1), omega (arith, g .1, s .pre .1))
+unfolding viewOf
+judge-leaf-requires c κs = let s = (c .before .before .before .before) in let b = s .args .index .now in let p = s .args .p in let r = s .pre .0 in let N = c .before .before .item-count in let g = rooted r .features in let h = reached-page r in (N .ensures .0, omega (arith, N .ensures .0, leaf-few b p (leafAt b p) r refl), omega (arith, g .0, s .pre .1), omega (arith, g .1, s .pre .1), range-is b p (h .0) (h .1))
 
 returns : tie.Need-returns
 returns c = let s = (c .before .before .before .before .before) in let b = s .args .index .now in let p = s .args .p in let r = s .pre .0 in let N = c .before .before .before .item-count in let z : levelAt b p ≡ 0 = sym (c .before .before .level-at .ensures) ∙ c .before .if1 .taken in leaf-judged b p (s .args .d) (s .pre .1) (leafAt b p) refl z r (c .judge-leaf .ensures)
