@@ -4,7 +4,7 @@ use mathlib.Core.List.{List}
 use Prim.Native.Nat.{ℕ, suc, _+_, _-_, _*_, _≤_, _<_}
 use native.Mathlib.Omega.{arith}
 use lib.Dec.{leb, ltb}
-use lib.ListN.{length, getD, take, set, length-set}
+use lib.ListN.{length, getD, set, length-set}
 use borrow.Author.Tests.{leb-true, leb-false, ltb-true, ltb-false}
 use Rattle.lists.specs.Counts.{by-cases}
 use Rattle.lists.specs.Members.{At, same?, spot-below}
@@ -12,16 +12,16 @@ use Rattle.pagestore.specs.declared.Entry.{Entry}
 use Rattle.pagestore.specs.declared.Inner.{Inner}
 use Rattle.pagestore.specs.declared.Leaf.{Leaf}
 use Rattle.pagestore.specs.LayoutLaws.{noEntry}
-use Rattle.pagestore.specs.Store.{Page, leaf, inner, levelOf, fillOf, entriesOf, recordsOf, recordsIn, View, viewOf, pageAt, levelAt, countAt, leafAt, innerAt}
-use Rattle.pagestore.specs.Store.PageLaws.{entries-slots, leaf-counts}
-use Rattle.faults.specs.Faults.{Reached, EntryAt, EntryFault}
+use Rattle.pagestore.specs.Store.{Page, levelOf, fillOf, entriesOf, recordsOf, View, viewOf, pageAt, levelAt, leafAt, innerAt}
+use Rattle.pagestore.specs.Store.PageLaws.{entries-slots}
+use Rattle.faults.specs.Faults.{NodeFill, Reached, EntryAt, EntryFault}
 use Rattle.faults.specs.Linked.{EntryFine}
 use Rattle.faults.specs.Assembled.{fill-most}
 use Rattle.faults.specs.Stored.{Counted, view-stored}
-use Rattle.sound_pages.specs.Marks.{Marked, Follows, EndsWrong, Named}
+use Rattle.sound_pages.specs.Marks.{Marked, MarksAre, Follows, Named}
 use Rattle.sound_pages.proofs.JudgeLaws.{take-spot}
-use Rattle.sound_pages.proofs.MarkLaws.{spot-same, set-here, set-keep, set-old}
-use Rattle.sound_pages.proofs.ViewLaws.{inner-is, inner-fill, leaf-is, leaf-fill}
+use Rattle.sound_pages.proofs.MarkLaws.{spot-same, set-here, set-keep, set-old, no-entries}
+use Rattle.sound_pages.proofs.ViewLaws.{inner-is, inner-fill, leaf-fill}
 
 -- ---- ONE ENTRY
 
@@ -41,18 +41,46 @@ not-follows v p i e a n =
     (λ y. EntryFault.range a (λ r. omega (arith, r .1, ltb-false (e .child) (v .count) y))))
     (λ x. EntryFault.range a (λ r. omega (arith, r .0, ltb-false 0 (e .child) x)))
 
-pub ends-fault : (v : View) (p i : ℕ) (e : Entry) → EntryAt v p i e → EndsWrong (v .d) e (v .page (e .child)) → EntryFault v p
-ends-fault v p i e a (EndsWrong.first n) = EntryFault.first a n
-ends-fault v p i e a (EndsWrong.last n) = EntryFault.last a n
+-- nor is one that leads to a page which is not used
+pub past-fresh : (v : View) (p i : ℕ) (e : Entry) → EntryAt v p i e → v .fresh ≤ e .child → EntryFault v p
+past-fresh v p i e a h =
+    by-cases (ltb 0 (e .child))
+    (λ x. by-cases (ltb (e .child) (v .count))
+    (λ y. EntryFault.fresh a ((ltb-true 0 (e .child) x, ltb-true (e .child) (v .count) y), h))
+    (λ y. EntryFault.range a (λ r. omega (arith, r .1, ltb-false (e .child) (v .count) y))))
+    (λ x. EntryFault.range a (λ r. omega (arith, r .0, ltb-false 0 (e .child) x)))
+
+-- a page with an entry is no leaf
+above-leaf : (x : Page) {i : ℕ} {e : Entry} → At (entriesOf x) i e → 0 < levelOf x
+above-leaf (Page.leaf n rs) a = absurd (omega (arith, spot-below a))
+above-leaf (Page.inner l n es) a = omega arith
+
+-- the child's mark is the page's level exactly if the child is followed from there
+module _ (v : View) {m : List ℕ} (s : MarksAre v m) (p i : ℕ) (e : Entry) (a : EntryAt v p i e) where
+  pub mark-other : ¬ (getD m (e .child) 0 ≡ levelOf (v .page p)) → EntryFault v p
+  mark-other n =
+      not-follows v p i e a (λ f. n (s .all (e .child) (Reached.entry (a .reached) (a .at) (f .range) (f .level) (f .fill)) ∙ f .level))
+
+  module _ (h : getD m (e .child) 0 ≡ levelOf (v .page p)) where
+    pub mark-reached : Reached v (e .child)
+    mark-reached = s .reached (e .child) (omega (arith, h, above-leaf (v .page p) (a .at)))
+
+    pub mark-level : suc (levelOf (v .page (e .child))) ≡ levelOf (v .page p)
+    mark-level = sym (s .all (e .child) mark-reached) ∙ h
+
+-- a followed page other than the root is filled as any other
+pub reached-fill : {v : View} {c : ℕ} → Reached v c → ¬ (c ≡ v .root) → NodeFill (v .page c)
+reached-fill (Reached.root r f) n = absurd (n refl)
+reached-fill (Reached.entry r a g l f) n = f
 
 -- the entry that an inner page's slot holds
-pub slot-entry : (b : List ℕ) (p i : ℕ) (x : Inner) → Reached (viewOf b) p → x ≡ innerAt b p → ¬ (levelAt b p ≡ 0) → i < x .count
-    → At (entriesOf (viewOf b .page p)) i (getD (x .entries) i noEntry)
+pub slot-entry : (b : List ℕ) (p i : ℕ) → Reached (viewOf b) p → ¬ (levelAt b p ≡ 0) → i < innerAt b p .count
+    → At (entriesOf (viewOf b .page p)) i (getD (innerAt b p .entries) i noEntry)
 unfolding viewOf
-slot-entry b p i x r e n h =
-    let len : length (x .entries) ≡ 16 = ap (λ (y : Inner). length (y .entries)) e ∙ entries-slots b p in
-    subst (λ (y : Page). At (entriesOf y) i (getD (x .entries) i noEntry)) (sym (inner-is b p x e n))
-    (take-spot noEntry (x .entries) i (x .count) h (omega (arith, inner-fill b p x e, fill-most r)))
+slot-entry b p i r n h =
+    let x : Inner = innerAt b p in
+    subst (λ (y : Page). At (entriesOf y) i (getD (x .entries) i noEntry)) (sym (inner-is b p x refl n))
+    (take-spot noEntry (x .entries) i (x .count) h (omega (arith, inner-fill b p x refl, fill-most r, entries-slots b p)))
 
 -- their number
 inner-size : (x : Page) → Counted x → fillOf x ≤ 16 → length (entriesOf x) ≤ fillOf x
@@ -139,25 +167,29 @@ module _ (b : List ℕ) where
       (λ d. omega (arith, d)))
       n
 
-  pub named-none : {m : List ℕ} (p : ℕ) → ¬ Reached (viewOf b) p → Named (viewOf b) m (16 * p) → Named (viewOf b) m (16 * (p + 1))
+  named-none : {m : List ℕ} (p : ℕ) → ¬ Reached (viewOf b) p → Named (viewOf b) m (16 * p) → Named (viewOf b) m (16 * (p + 1))
   named-none {m} p out n =
       named-done p 0 (λ r. absurd (out r)) (omega arith) (subst (λ (k : ℕ). Named v m k) (let z : 16 * p ≡ 16 * p + 0 = omega arith in z) n)
 
-  pub named-leaf : {m : List ℕ} (p : ℕ) → length (entriesOf (viewOf b .page p)) ≤ 0 → Named (viewOf b) m (16 * p) → Named (viewOf b) m (16 * (p + 1))
+  named-leaf : {m : List ℕ} (p : ℕ) → length (entriesOf (viewOf b .page p)) ≤ 0 → Named (viewOf b) m (16 * p) → Named (viewOf b) m (16 * (p + 1))
   named-leaf {m} p few n =
       named-done p 0 (λ r. few) (omega arith) (subst (λ (k : ℕ). Named v m k) (let z : 16 * p ≡ 16 * p + 0 = omega arith in z) n)
 
+  -- a page that is not followed, or is a leaf, by its mark
+  pub named-below : {m n : List ℕ} (p : ℕ) → MarksAre (viewOf b) m → getD m p 0 ≤ 1 → Named (viewOf b) n (16 * p) → Named (viewOf b) n (16 * (p + 1))
+  named-below {m} {n} p s h w =
+      same? (getD m p 0) 0
+      (λ z. named-none p (λ r. omega (arith, z, s .all p r)) w)
+      (λ d. named-leaf p (no-entries (v .page p) (omega (arith, s .all p (s .reached p (omega (arith, d)))))) w)
+
 -- ---- COUNTS OF FOLLOWED PAGES
 
-pub inner-count : (b : List ℕ) (p : ℕ) (x : Inner) → x ≡ innerAt b p → x .count ≡ fillOf (viewOf b .page p)
+pub inner-count : (b : List ℕ) (p : ℕ) → innerAt b p .count ≡ fillOf (viewOf b .page p)
 unfolding viewOf
-inner-count b p x e = inner-fill b p x e
+inner-count b p = inner-fill b p (innerAt b p) refl
 
-pub inner-few : (b : List ℕ) (p : ℕ) (x : Inner) → Reached (viewOf b) p → x ≡ innerAt b p → x .count ≤ 16
-inner-few b p x r e = omega (arith, inner-count b p x e, fill-most r)
-
-pub inner-slots : (b : List ℕ) (p : ℕ) (x : Inner) → x ≡ innerAt b p → length (x .entries) ≡ 16
-inner-slots b p x e = ap (λ (y : Inner). length (y .entries)) e ∙ entries-slots b p
+pub inner-few : (b : List ℕ) (p : ℕ) → Reached (viewOf b) p → innerAt b p .count ≤ 16
+inner-few b p r = omega (arith, inner-count b p, fill-most r)
 
 pub leaf-few : (b : List ℕ) (p : ℕ) (x : Leaf) → Reached (viewOf b) p → x ≡ leafAt b p → x .count ≤ 16
 unfolding viewOf
@@ -166,11 +198,3 @@ leaf-few b p x r e = omega (arith, leaf-fill b p x e, fill-most r)
 -- an inner page has no records
 pub inner-points : (b : List ℕ) (p : ℕ) → ¬ (levelAt b p ≡ 0) → length (recordsOf (pageAt b p)) ≡ 0
 inner-points b p n = ap (λ (y : Page). length (recordsOf y)) (inner-is b p (innerAt b p) refl n)
-
--- a followed leaf has as many as its count says
-pub leaf-points : (b : List ℕ) (p : ℕ) → Reached (viewOf b) p → levelAt b p ≡ 0 → countAt b p ≡ length (recordsOf (pageAt b p))
-unfolding viewOf
-leaf-points b p r h =
-    let e : pageAt b p ≡ leaf (leafAt b p .count) (recordsIn (leafAt b p)) = leaf-is b p (leafAt b p) refl h in
-    let c : leafAt b p .count ≤ 16 → length (recordsIn (leafAt b p)) ≡ leafAt b p .count = subst Counted e (view-stored b .items p) in
-    sym (ap (λ (y : Page). length (recordsOf y)) e ∙ c (leaf-few b p (leafAt b p) r refl) ∙ leaf-counts b p)

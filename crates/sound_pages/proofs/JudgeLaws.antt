@@ -6,16 +6,17 @@ use Prim.Native.Nat.{ℕ, suc, _+_, _-_, _≤_, _<_}
 use native.Mathlib.Omega.{arith}
 use native.Mathlib.Numerals.{add-one}
 use lib.Dec.{leb, ltb, eqb}
-use lib.ListN.{length, getD, take, drop, length-append, length-map, length-take, take-append-drop}
-use lib.Seq.{take-suc, getD-take, take-take, take-all, drop-cons}
-use borrow.Author.Tests.{eqb-true, eqb-false, leb-true, leb-false, ltb-true, ltb-false}
-use Rattle.lists.specs.Basics.{tick, All, none, also, flat, flat-append, all-append}
+use lib.ListN.{length, getD, take, drop, length-append, length-take, take-append-drop}
+use lib.Seq.{take-suc, getD-take, take-take, drop-cons}
+use borrow.Author.Tests.{eqb-true, eqb-false, eq-eqb, ne-eqb, leb-true, leb-false, ltb-true, ltb-false}
+use Rattle.lists.specs.Basics.{tick, pick, All, none, also, flat, flat-append, all-append}
 use Rattle.lists.specs.Ascending.{Ascending, one, headOr, lastOr, last-append}
-use Rattle.lists.specs.AscendingLaws.{asc-append, asc-cross}
+use Rattle.lists.specs.AscendingLaws.{hd, lst, asc-append, asc-cross}
 use Rattle.lists.specs.Counts.{by-cases}
 use Rattle.lists.specs.FlatLaws.{map-append}
-use Rattle.lists.specs.Members.{At, get-spot, all-spot}
-use Rattle.sound_pages.specs.Judged.{Judges, pass, fault, Found, nowhere, at, Rising}
+use Rattle.lists.specs.Members.{At, get-spot}
+use Rattle.sound_pages.specs.Judged.{Judges, pass, fault, Found, nowhere, at, Rising, Spans}
+use Rattle.sound_pages.specs.declared.Span.{Span}
 
 -- ---- TESTS
 
@@ -43,12 +44,6 @@ judge-le {P} {Q} a b f g =
     (λ e. subst (Judges P Q) (sym e) (pass (f (leb-true a b e))))
     (λ e. subst (Judges P Q) (sym e) (fault (g (leb-false a b e))))
 
-pub judge-lt : {P Q : Type 0} (a b : ℕ) → (a < b → P) → (b ≤ a → Q) → Judges P Q (ltb a b)
-judge-lt {P} {Q} a b f g =
-    by-cases (ltb a b)
-    (λ e. subst (Judges P Q) (sym e) (pass (f (ltb-true a b e))))
-    (λ e. subst (Judges P Q) (sym e) (fault (g (ltb-false a b e))))
-
 pub found-at : {P : Type 0} {Q : ℕ → Type 0} {p : ℕ} → Found P Q p → ¬ (p ≡ 0) → Q p
 found-at (nowhere h) n = absurd (n refl)
 found-at (at p o h) n = h
@@ -56,10 +51,6 @@ found-at (at p o h) n = h
 pub found-nowhere : {P : Type 0} {Q : ℕ → Type 0} {p : ℕ} → Found P Q p → p ≡ 0 → P
 found-nowhere (nowhere h) e = h
 found-nowhere (at p o h) e = absurd (omega arith)
-
--- an array has as many elements as its values
-pub unmapped : {X Y : Type 0} (g : X → Y) (l : List X) (n : ℕ) → length (map g l) ≡ n → length l ≡ n
-unmapped g l n e = sym (length-map l g) ∙ e
 
 -- ---- THE FIRST i OF A LIST, one more, and the next
 
@@ -83,37 +74,52 @@ module _ {A : Type 0} (d : A) (xs : List A) where
 
 -- ---- NUMBERS THAT RISE
 
-pub rising-start : Rising [] 0
-rising-start = record { ascends = Ascending.none; last = λ h. absurd (omega arith); empty = λ h. refl }
+pub rising-start : Rising [] 0 0
+unfolding headOr
+rising-start = record { ascends = Ascending.none; first = refl; last = λ h. absurd (omega arith); empty = λ h. refl }
 
-pub rising-step : (xs : List ℕ) (n x : ℕ) → Rising xs n → n ≤ x → Rising (xs ++ (x ∷ [])) (x + 1)
+-- the first number is the next one, where there was none before
+rising-first : (xs : List ℕ) (f n x g : ℕ) → Rising xs f n → g ≡ pick (eqb n 0) x f → g ≡ hd (xs ++ (x ∷ []))
+unfolding headOr
+rising-first [] f n x g r e = e ∙ ap (λ (t : Bool). pick t x f) (eq-eqb n 0 (r .empty refl))
+rising-first (y ∷ ys) f n x g r e = e ∙ ap (λ (t : Bool). pick t x f) (ne-eqb n 0 (λ z. absurd (omega (arith, z, r .last (omega arith))))) ∙ r .first
+
+pub rising-step : (xs : List ℕ) (f n x g : ℕ) → Rising xs f n → n ≤ x → g ≡ pick (eqb n 0) x f → Rising (xs ++ (x ∷ [])) g (x + 1)
 unfolding headOr lastOr
-rising-step xs n x r h =
+rising-step xs f n x g r h e =
     record {
       ascends = asc-append xs (x ∷ []) (r .ascends) one (λ a b. omega (arith, r .last a));
+      first = rising-first xs f n x g r e;
       last = λ l. omega (arith, last-append 0 xs (x ∷ []));
       empty = λ l. absurd (omega (arith, length-append xs (x ∷ [])));
     }
 
 -- a number below n ends it
-pub rising-stop : (xs : List ℕ) (n x : ℕ) (ys : List ℕ) → Rising xs n → x < n → ¬ Ascending (xs ++ (x ∷ ys))
+pub rising-stop : (xs : List ℕ) (f n x : ℕ) (ys : List ℕ) → Rising xs f n → x < n → ¬ Ascending (xs ++ (x ∷ ys))
 unfolding headOr
-rising-stop xs n x ys r h a =
+rising-stop xs f n x ys r h a =
     by-cases (ltb 0 (length xs))
     (λ e. let l : 0 < length xs = ltb-true 0 (length xs) e in omega (arith, asc-cross xs (x ∷ ys) l (omega arith) a, r .last l))
     (λ e. omega (arith, r .empty (omega (arith, ltb-false 0 (length xs) e))))
 
+-- the last one
+rising-last : (xs : List ℕ) (f n : ℕ) → Rising xs f n → n - 1 ≡ lst xs
+unfolding lastOr
+rising-last [] f n r = omega (arith, r .empty refl)
+rising-last (x ∷ xs) f n r = omega (arith, r .last (omega arith))
+
 -- the same of numbers f x of the elements x of a list
 module _ {A : Type 0} (f : A → ℕ) (d : A) (xs : List A) where
-  pub ranks-step : (i n x : ℕ) → i < length xs → x ≡ f (getD xs i d) → Rising (map f (take i xs)) n → n ≤ x → Rising (map f (take (i + 1) xs)) (x + 1)
-  ranks-step i n x h e r l =
+  pub ranks-step : (i k n x g : ℕ) → i < length xs → x ≡ f (getD xs i d) → Rising (map f (take i xs)) k n → n ≤ x → g ≡ pick (eqb n 0) x k
+      → Rising (map f (take (i + 1) xs)) g (x + 1)
+  ranks-step i k n x g h e r l w =
       rw (take-more d xs i h, map-append f (take i xs) (getD xs i d ∷ []))
-      (subst (λ (y : ℕ). Rising (map f (take i xs) ++ (y ∷ [])) (x + 1)) e (rising-step (map f (take i xs)) n x r l))
+      (subst (λ (y : ℕ). Rising (map f (take i xs) ++ (y ∷ [])) g (x + 1)) e (rising-step (map f (take i xs)) k n x g r l w))
 
-  pub ranks-stop : (i n k x : ℕ) → i < k → k ≤ length xs → x ≡ f (getD xs i d) → Rising (map f (take i xs)) n → x < n → ¬ Ascending (map f (take k xs))
-  ranks-stop i n k x h g e r l a =
-      let w = take-next d xs i k h g in
-      rising-stop (map f (take i xs)) n (f (getD xs i d)) (map f (w .0)) r (omega arith)
+  pub ranks-stop : (i k n m x : ℕ) → i < m → m ≤ length xs → x ≡ f (getD xs i d) → Rising (map f (take i xs)) k n → x < n → ¬ Ascending (map f (take m xs))
+  ranks-stop i k n m x h g e r l a =
+      let w = take-next d xs i m h g in
+      rising-stop (map f (take i xs)) k n (f (getD xs i d)) (map f (w .0)) r (omega arith)
       (subst Ascending (ap (map f) (w .1) ∙ map-append f (take i xs) (getD xs i d ∷ w .0)) a)
 
 -- and of two numbers each, x and y
@@ -124,36 +130,45 @@ module _ {A : Type 0} (f : A → List ℕ) (d : A) (xs : List A) where
       ap (flat f) (take-more d xs i h) ∙ flat-append f (take i xs) (getD xs i d ∷ [])
       ∙ ap (λ (r : List ℕ). flat f (take i xs) ++ (r ++ [])) e ∙ sym (append-assoc (flat f (take i xs)) (x ∷ []) (y ∷ []))
 
-  next-pair : (i k x y : ℕ) → i < k → k ≤ length xs → f (getD xs i d) ≡ x ∷ y ∷ [] → (zs : List ℕ) × (flat f (take k xs) ≡ flat f (take i xs) ++ (x ∷ y ∷ zs))
+  next-pair : (i m x y : ℕ) → i < m → m ≤ length xs → f (getD xs i d) ≡ x ∷ y ∷ [] → (zs : List ℕ) × (flat f (take m xs) ≡ flat f (take i xs) ++ (x ∷ y ∷ zs))
   unfolding flat
-  next-pair i k x y h g e =
-      let w = take-next d xs i k h g in
+  next-pair i m x y h g e =
+      let w = take-next d xs i m h g in
       (flat f (w .0), ap (flat f) (w .1) ∙ flat-append f (take i xs) (getD xs i d ∷ w .0) ∙ ap (λ (r : List ℕ). flat f (take i xs) ++ (r ++ flat f (w .0))) e)
 
-  pub pairs-step : (i n x y : ℕ) → i < length xs → f (getD xs i d) ≡ x ∷ y ∷ [] → Rising (flat f (take i xs)) n → n ≤ x → x < y → Rising (flat f (take (i + 1) xs)) (y + 1)
-  pairs-step i n x y h e r l m =
-      subst (λ (zs : List ℕ). Rising zs (y + 1)) (sym (one-pair i x y h e))
-      (rising-step (flat f (take i xs) ++ (x ∷ [])) (x + 1) y (rising-step (flat f (take i xs)) n x r l) (omega arith))
+  pub pairs-step : (i k n x y g : ℕ) → i < length xs → f (getD xs i d) ≡ x ∷ y ∷ [] → Rising (flat f (take i xs)) k n → n ≤ x → x < y → g ≡ pick (eqb n 0) x k
+      → Rising (flat f (take (i + 1) xs)) g (y + 1)
+  pairs-step i k n x y g h e r l m w =
+      let same : g ≡ pick (eqb (x + 1) 0) y g = sym (ap (λ (t : Bool). pick t y g) (ne-eqb (x + 1) 0 (λ z. absurd (omega (arith, z))))) in
+      subst (λ (zs : List ℕ). Rising zs g (y + 1)) (sym (one-pair i x y h e))
+      (rising-step (flat f (take i xs) ++ (x ∷ [])) g (x + 1) y g (rising-step (flat f (take i xs)) k n x g r l w) (omega arith) same)
 
-  pub pairs-stop : (i n k x y : ℕ) → i < k → k ≤ length xs → f (getD xs i d) ≡ x ∷ y ∷ [] → Rising (flat f (take i xs)) n → x < n → ¬ Ascending (flat f (take k xs))
-  pairs-stop i n k x y h g e r l a =
-      let w = next-pair i k x y h g e in
-      rising-stop (flat f (take i xs)) n x (y ∷ w .0) r l (subst Ascending (w .1) a)
+  pub pairs-stop : (i k n m x y : ℕ) → i < m → m ≤ length xs → f (getD xs i d) ≡ x ∷ y ∷ [] → Rising (flat f (take i xs)) k n → x < n → ¬ Ascending (flat f (take m xs))
+  pairs-stop i k n m x y h g e r l a =
+      let w = next-pair i m x y h g e in
+      rising-stop (flat f (take i xs)) k n x (y ∷ w .0) r l (subst Ascending (w .1) a)
 
-  pub pair-stop : (i n k x y : ℕ) → i < k → k ≤ length xs → f (getD xs i d) ≡ x ∷ y ∷ [] → Rising (flat f (take i xs)) n → n ≤ x → y ≤ x → ¬ Ascending (flat f (take k xs))
-  pair-stop i n k x y h g e r l m a =
-      let w = next-pair i k x y h g e in
-      rising-stop (flat f (take i xs) ++ (x ∷ [])) (x + 1) y (w .0) (rising-step (flat f (take i xs)) n x r l) (omega arith)
+  pub pair-stop : (i k n m x y : ℕ) → i < m → m ≤ length xs → f (getD xs i d) ≡ x ∷ y ∷ [] → Rising (flat f (take i xs)) k n → n ≤ x → y ≤ x → ¬ Ascending (flat f (take m xs))
+  pair-stop i k n m x y h g e r l t a =
+      let w = next-pair i m x y h g e in
+      rising-stop (flat f (take i xs) ++ (x ∷ [])) (pick (eqb n 0) x k) (x + 1) y (w .0) (rising-step (flat f (take i xs)) k n x (pick (eqb n 0) x k) r l refl) (omega arith)
       (subst Ascending (w .1 ∙ sym (append-assoc (flat f (take i xs)) (x ∷ []) (y ∷ w .0))) a)
+
+-- ---- SPANS
+
+pub span-fine : {P Q : Type 0} {xs : List ℕ} {f n : ℕ} {r : Span} → P → Rising xs f n → (r .fine ≡ true) × (r .first ≡ f) × (r .last ≡ n - 1) → Spans P Q xs r
+span-fine {P} {Q} {xs} {f} {n} p u e =
+    record { judged = subst (Judges P Q) (sym (e .0)) (pass p); ends = λ t. (e .1 ∙ u .first, e .2 ∙ rising-last xs f n u) }
+
+pub span-faulty : {P Q : Type 0} {xs : List ℕ} {r : Span} → Q → r .fine ≡ false → Spans P Q xs r
+span-faulty {P} {Q} q e =
+    record { judged = subst (Judges P Q) (sym e) (fault q); ends = λ t. absurd (let z : _≡_ {A = ℕ} 0 1 = ap tick (sym e ∙ t) in omega arith) }
+
+pub span-map : {P P' Q Q' : Type 0} {xs ys : List ℕ} {r : Span} → (P → P') → (Q → Q') → xs ≡ ys → Spans P Q xs r → Spans P' Q' ys r
+span-map f g e s = record { judged = judge-map f g (s .judged); ends = λ t. (s .ends t .0 ∙ ap hd e, s .ends t .1 ∙ ap lst e) }
 
 -- ---- WHAT HOLDS OF THE FIRST i
 
 module _ {A : Type 0} {P : A → Type 0} (d : A) (xs : List A) where
   pub all-more : (i : ℕ) → i < length xs → All P (take i xs) → P (getD xs i d) → All P (take (i + 1) xs)
   all-more i h a p = rw (take-more d xs i h) (all-append a (also p none))
-
-  pub all-stop : (i k : ℕ) → i < k → k ≤ length xs → ¬ P (getD xs i d) → ¬ All P (take k xs)
-  all-stop i k h g n a = n (all-spot a (take-spot d xs i k h g))
-
-  pub all-done : (i : ℕ) → length xs ≤ i → All P (take i xs) → All P xs
-  all-done i h a = subst (All P) (take-all i xs h) a

@@ -1,30 +1,25 @@
--- Keys of records and of pages, read from arrays. Assumes nothing.
-use mathlib.Core.Path.{_≡_, refl, ap, _∙_}
+-- Keys of records, and keys as numbers. Assumes nothing.
+use mathlib.Core.Path.{_≡_, ap, _∙_}
 use mathlib.Core.Bool.{Bool}
 use mathlib.Core.List.{List, [], _∷_}
-use Prim.Native.Nat.{ℕ, zero, suc, _-_, _≤_, _<_}
+use Prim.Native.Nat.{ℕ, _≤_}
 use native.Mathlib.Omega.{arith}
-use lib.ListN.{length, getD, take}
+use lib.ListN.{take}
 use Rattle.lists.specs.Basics.{All, none, also}
-use Rattle.lists.specs.Ascending.{headOr, lastOr}
 use Rattle.geometry.specs.declared.Key.{Key}
-use Rattle.geometry.specs.declared.Pair.{Pair}
-use Rattle.geometry.specs.Keys.{keyWith, keyNumber}
-use Rattle.geometry.specs.Points.{pyramidOf, heightOf}
+use Rattle.geometry.specs.Keys.{keyNumber}
+use Rattle.geometry.specs.Points.{heightOf}
 use Rattle.geometry.specs.Stored.{pointOf}
 use Rattle.geometry.proofs.StoredLaws.{coord-magnitude}
+use Rattle.geometry.proofs.KeyLaws.{KeyFits}
 use Rattle.pagestore.specs.declared.Record.{Record}
+use Rattle.pagestore.specs.Fits.{RecordFits}
 use Rattle.trees.specs.Trees.{pointIn, keyOf, rankOf}
 use Rattle.trees.specs.Sound.{RecordOk}
 use Rattle.sound_pages.specs.Judged.{Decides}
 use Rattle.sound_pages.proofs.JudgeLaws.{judge-map}
 
--- the key with a record's pair and identifier
-pub key-is : (d : ℕ) (r : Record) (p : Pair) (k : Key) → p .pyramid .0 ≡ pyramidOf (pointIn d r) → p .height .0 ≡ heightOf (pointIn d r) → k ≡ keyWith p (r .id) → k ≡ keyOf d r
-unfolding keyOf
-key-is d r p k a b e = e ∙ (λ i. record { pyramid = record { 0 = a i }; height = record { 0 = b i }; id = r .id })
-
--- and its rank
+-- the rank of a record by its key
 pub rank-is : (d : ℕ) (r : Record) (k : Key) (x : ℕ) → k ≡ keyOf d r → x ≡ keyNumber k → x ≡ rankOf d r
 unfolding rankOf
 rank-is d r k x e q = q ∙ ap keyNumber e
@@ -49,29 +44,16 @@ key-judged d r k e j =
     judge-map (λ g. record { ident = omega (arith, g .0); coords = height-low (take d (r .coords)) (omega (arith, g .1)) })
     (λ n o. n (omega (arith, o .ident), omega (arith, height-high (o .coords)))) j
 
-pub key-eq : (a b : Key) → a .pyramid .0 ≡ b .pyramid .0 → a .height .0 ≡ b .height .0 → a .id ≡ b .id → a ≡ b
+-- ---- equal numbers are those of equal keys
+
+key-eq : (a b : Key) → a .pyramid .0 ≡ b .pyramid .0 → a .height .0 ≡ b .height .0 → a .id ≡ b .id → a ≡ b
 key-eq a b p h e = λ i. record { pyramid = record { 0 = p i }; height = record { 0 = h i }; id = e i }
 
--- ---- the first and the last of the first n elements of an array
+pub key-same : (a b : Key) → KeyFits a → KeyFits b → keyNumber a ≡ keyNumber b → a ≡ b
+unfolding keyNumber
+key-same a b f g e = key-eq a b (omega arith) (omega arith) (omega arith)
 
-module _ {A : Type 0} (d e : A) where
-  pub head-take : (xs : List A) (n : ℕ) → 0 < n → n ≤ length xs → getD xs 0 d ≡ headOr e (take n xs)
-  unfolding headOr
-  head-take [] n h g = absurd (omega arith)
-  head-take (x ∷ xs) zero h g = absurd (omega arith)
-  head-take (x ∷ xs) (suc n) h g = refl
-
-  pub last-take : (xs : List A) (n : ℕ) → suc n ≤ length xs → getD xs n d ≡ lastOr e (take (suc n) xs)
-  unfolding lastOr
-  last-take [] n g = absurd (omega arith)
-  last-take (x ∷ xs) zero g = refl
-  last-take (x ∷ xs) (suc n) g = later x xs n (omega arith)
-    where
-      later : (y : A) (ys : List A) (n : ℕ) → suc n ≤ length ys → getD ys n d ≡ lastOr y (take (suc n) ys)
-      later y [] n g = absurd (omega arith)
-      later y (z ∷ zs) zero g = refl
-      later y (z ∷ zs) (suc n) g = later z zs n (omega arith)
-
-  pub last-taken : (xs : List A) (n : ℕ) → 0 < n → n ≤ length xs → getD xs (n - 1) d ≡ lastOr e (take n xs)
-  last-taken xs zero h g = absurd (omega arith)
-  last-taken xs (suc n) h g = ap (λ (k : ℕ). getD xs k d) (let q : suc n - 1 ≡ n = omega arith in q) ∙ last-take xs n g
+-- the key of a record that can be stored, and is in range
+pub key-fits : (d : ℕ) (r : Record) → RecordFits r → RecordOk d r → KeyFits (keyOf d r)
+unfolding keyOf
+key-fits d r f o = (omega (arith, height-high (o .coords)), omega (arith, f .id))

@@ -1,5 +1,7 @@
 pub mod JudgeLaws
 pub mod KeyLaws
+pub mod LeadLaws
+pub mod EndsLaws
 pub mod ViewLaws
 pub mod MarkLaws
 pub mod WalkLaws

@@ -1,17 +1,20 @@
 -- A followed page, judged by what was read of it. Assumes nothing.
-use mathlib.Core.Path.{_≡_, sym, ap, subst}
-use mathlib.Core.List.{List, []}
+use mathlib.Core.Path.{_≡_, sym, ap, _∙_, subst}
+use mathlib.Core.List.{List, [], map}
 use Prim.Native.Nat.{ℕ}
 use Rattle.lists.specs.Basics.{All, none, flat}
 use Rattle.lists.specs.Ascending.{Ascending}
 use Rattle.lists.specs.Members.{At}
 use Rattle.pagestore.specs.declared.Leaf.{Leaf}
 use Rattle.pagestore.specs.declared.Inner.{Inner}
-use Rattle.pagestore.specs.Store.{Page, leaf, inner, recordsOf, entriesIn, recordsIn, viewOf, levelAt, leafAt, innerAt}
+use Rattle.pagestore.specs.Store.{Page, leaf, recordsOf, entriesIn, recordsIn, viewOf, levelAt, leafAt, innerAt}
+use Rattle.trees.specs.Trees.{rankOf}
 use Rattle.trees.specs.Sound.{RecordOk}
 use Rattle.faults.specs.Faults.{ends, ranksIn, Reached, FailsAt}
 use Rattle.faults.specs.Linked.{PageFine}
-use Rattle.sound_pages.specs.Judged.{RecordsFine, RecordsBad}
+use Rattle.sound_pages.specs.Judged.{RecordsFine, RecordsBad, LeafJudged, InnerJudged, PageJudged}
+use Rattle.sound_pages.specs.declared.Span.{Span}
+use Rattle.sound_pages.proofs.JudgeLaws.{span-map}
 use Rattle.sound_pages.proofs.ViewLaws.{leaf-is, inner-is}
 
 module _ (b : List ℕ) (p d : ℕ) (same : d ≡ viewOf b .d) where
@@ -20,18 +23,24 @@ module _ (b : List ℕ) (p d : ℕ) (same : d ≡ viewOf b .d) where
     unfolding viewOf
     page = leaf-is b p x e h
 
-    pub leaf-fine : RecordsFine d (recordsIn x) → PageFine (viewOf b) p
+    leaf-ranks : map (rankOf d) (recordsIn x) ≡ ranksIn (viewOf b .d) (viewOf b .page p)
+    leaf-ranks = ap (λ (k : ℕ). map (rankOf k) (recordsIn x)) same ∙ sym (ap (ranksIn (viewOf b .d)) page)
+
+    leaf-fine : RecordsFine d (recordsIn x) → PageFine (viewOf b) p
     leaf-fine f =
         record {
           order = subst (λ (y : Page). Ascending (ranksIn (viewOf b .d) y)) (sym page) (subst (λ (k : ℕ). Ascending (ranksIn k (leaf (x .count) (recordsIn x)))) same (f .order));
           records = subst (λ (y : Page). All (RecordOk (viewOf b .d)) (recordsOf y)) (sym page) (subst (λ (k : ℕ). All (RecordOk k) (recordsIn x)) same (f .ranges));
         }
 
-    pub leaf-fails : Reached (viewOf b) p → RecordsBad d (recordsIn x) → FailsAt (viewOf b) p
+    leaf-fails : Reached (viewOf b) p → RecordsBad d (recordsIn x) → FailsAt (viewOf b) p
     leaf-fails r (RecordsBad.order n) =
         FailsAt.order r (λ a. n (subst (λ (k : ℕ). Ascending (ranksIn k (leaf (x .count) (recordsIn x)))) (sym same) (subst (λ (y : Page). Ascending (ranksIn (viewOf b .d) y)) page a)))
     leaf-fails r (RecordsBad.field i y at n) =
         FailsAt.field (record { reached = r; at = subst (λ (z : Page). At (recordsOf z) i y) (sym page) at }) (λ o. n (subst (λ (k : ℕ). RecordOk k y) (sym same) o))
+
+    pub leaf-judged : {r : Span} → Reached (viewOf b) p → LeafJudged d (recordsIn x) r → PageJudged (viewOf b) p r
+    leaf-judged r s = span-map leaf-fine (leaf-fails r) leaf-ranks s
 
 module _ (b : List ℕ) (p : ℕ) (x : Inner) (e : x ≡ innerAt b p) (deep : ¬ (levelAt b p ≡ 0)) where
   inner-ranks : (d : ℕ) → ranksIn d (viewOf b .page p) ≡ flat ends (entriesIn x)
@@ -42,12 +51,15 @@ module _ (b : List ℕ) (p : ℕ) (x : Inner) (e : x ≡ innerAt b p) (deep : ¬
   unfolding viewOf
   inner-records = ap recordsOf (inner-is b p x e deep)
 
-  pub inner-fine : Ascending (flat ends (entriesIn x)) → PageFine (viewOf b) p
+  inner-fine : Ascending (flat ends (entriesIn x)) → PageFine (viewOf b) p
   inner-fine a =
       record {
         order = subst Ascending (sym (inner-ranks (viewOf b .d))) a;
         records = subst (All (RecordOk (viewOf b .d))) (sym inner-records) none;
       }
 
-  pub inner-fails : Reached (viewOf b) p → ¬ Ascending (flat ends (entriesIn x)) → FailsAt (viewOf b) p
+  inner-fails : Reached (viewOf b) p → ¬ Ascending (flat ends (entriesIn x)) → FailsAt (viewOf b) p
   inner-fails r n = FailsAt.order r (λ a. n (subst Ascending (inner-ranks (viewOf b .d)) a))
+
+  pub inner-judged : {r : Span} → Reached (viewOf b) p → InnerJudged (entriesIn x) r → PageJudged (viewOf b) p r
+  inner-judged r s = span-map inner-fine (inner-fails r) (sym (inner-ranks (viewOf b .d))) s

@@ -2,14 +2,15 @@
 use mathlib.Core.Path.{_≡_, refl, sym, ap, _∙_}
 use mathlib.Core.Bool.{true, false}
 use mathlib.Core.List.{List}
-use Prim.Native.Nat.{ℕ, zero, suc, _-_}
+use Prim.Native.Nat.{ℕ, zero, suc, _+_, _-_, _*_}
 use native.Mathlib.Omega.{arith}
+use lib.ListN.{length, take, drop, length-take, length-drop}
 use Rattle.pagestore.specs.declared.Leaf.{Leaf}
 use Rattle.pagestore.specs.declared.Inner.{Inner}
 use Rattle.pagestore.specs.Store.{leaf, inner, levelOf, fillOf, pageAt, levelAt, countAt, leafAt, innerAt, recordsIn, entriesIn, inRange, viewOf}
 use Rattle.pagestore.specs.Store.PageLaws.{leaf-page, inner-page, page-fill, page-level, leaf-counts, inner-counts}
 use Rattle.lists.specs.Basics.{tick}
-use Rattle.pagestore.specs.Store.RangeLaws.{range-low, range-high, range-is}
+use Rattle.pagestore.specs.Store.RangeLaws.{range-low, range-high, range-is, range-whole}
 use Rattle.faults.specs.Faults.{IsPage}
 
 module _ (b : List ℕ) (p : ℕ) where
@@ -46,3 +47,9 @@ view-level b p = page-level b p
 pub view-fill : (b : List ℕ) (p : ℕ) → fillOf (viewOf b .page p) ≡ countAt b p
 unfolding viewOf
 view-fill b p = page-fill b p
+
+-- ---- the bytes of a page
+
+pub part-length : (b : List ℕ) (p : ℕ) → inRange b p ≡ true → length (take (p * 1024 + 1024 - p * 1024) (drop (p * 1024) b)) ≡ 1024
+part-length b p h =
+    omega (arith, length-take (p * 1024 + 1024 - p * 1024) (drop (p * 1024) b), length-drop (p * 1024) b, range-whole b p h)

@@ -35,7 +35,7 @@ module _ (b : List ℕ) where
         freed = ap (λ (n : ℕ). chain n b (fieldAt freed b)) e;
         rest = ap (λ (n : ℕ). chainEnd n b (fieldAt freed b)) e;
         size = c .size;
-        marked = λ q h. absurd (c .none q h);
+        marked = λ q h. absurd (omega (arith, h, c .none q));
         other = λ q h. mult-none q;
         once = λ q. omega (arith, mult-none q);
         used = λ q h. absurd (omega (arith, mult-none q));

@@ -1,4 +1,4 @@
--- Marks of pages: those that are followed, freed, or named by an entry.
+-- Marks of pages: those that are followed, freed, or named by an entry; and the ends of the followed pages.
 use mathlib.Core.Path.{_≡_}
 use mathlib.Core.List.{List, [], _∷_, _++_}
 use Prim.Native.Nat.{ℕ, zero, suc, _+_, _-_, _*_, _≤_, _<_}
@@ -7,9 +7,11 @@ use lib.ListN.{length, getD}
 use Rattle.lists.specs.Basics.{pick}
 use Rattle.lists.specs.Counts.{mult}
 use Rattle.lists.specs.Members.{At}
+use Rattle.lists.specs.AscendingLaws.{hd, lst}
+use Rattle.geometry.specs.Keys.{keyNumber}
 use Rattle.pagestore.specs.declared.Entry.{Entry}
-use Rattle.pagestore.specs.Store.{Page, levelOf, entriesOf, View, viewOf, chain, chainEnd}
-use Rattle.faults.specs.Faults.{IsPage, NodeFill, Freed, Fresh, firstOf, lastOf, Reached, EntryAt}
+use Rattle.pagestore.specs.Store.{levelOf, entriesOf, View, viewOf, chain, chainEnd}
+use Rattle.faults.specs.Faults.{IsPage, NodeFill, Freed, Fresh, ranksIn, Reached, EntryAt}
 use Rattle.faults.specs.Linked.{FreedFine, EntryFine, PageFine}
 
 -- page q is marked in m, which has a place for each page
@@ -19,7 +21,7 @@ Marked m q = getD m q 0 ≡ 1
 -- nothing is marked
 pub record Clear (v : View) (m : List ℕ) : Type 0 where
   pub size : v .count ≤ length m
-  pub none : (q : ℕ) → ¬ Marked m q
+  pub none : (q : ℕ) → getD m q 0 ≡ 0
 
 -- ---- THE FOLLOWED PAGES
 
@@ -29,11 +31,16 @@ pub record Follows (v : View) (above c : ℕ) : Type 0 where
   pub level : suc (levelOf (v .page c)) ≡ above
   pub fill : NodeFill (v .page c)
 
--- each marked page is followed, and what it leads to is marked
+-- page q is marked in m as followed: its mark is not 0
+abbrev pub Seen : List ℕ → ℕ → Type 0
+Seen m q = 0 < getD m q 0
+
+-- each such page is followed and marked with 1 more than its level, and what it leads to is marked
 pub record Marks (v : View) (m : List ℕ) : Type 0 where
   pub size : v .count ≤ length m
-  pub reached : (q : ℕ) → Marked m q → Reached v q
-  pub closed : (p i : ℕ) (e : Entry) → Marked m p → At (entriesOf (v .page p)) i e → Follows v (levelOf (v .page p)) (e .child) → Marked m (e .child)
+  pub reached : (q : ℕ) → Seen m q → Reached v q
+  pub level : (q : ℕ) → Seen m q → getD m q 0 ≡ suc (levelOf (v .page q))
+  pub closed : (p i : ℕ) (e : Entry) → Seen m p → At (entriesOf (v .page p)) i e → Follows v (levelOf (v .page p)) (e .child) → Seen m (e .child)
 
 -- before page, of level l, is marked
 pub record Ready (v : View) (m : List ℕ) (page l : ℕ) : Type 0 where
@@ -45,26 +52,34 @@ pub record Ready (v : View) (m : List ℕ) (page l : ℕ) : Type 0 where
 pub record Grown (v : View) (m m' : List ℕ) (page : ℕ) : Type 0 where
   pub size : length m' ≡ length m
   pub marks : Marks v m'
-  pub keep : (q : ℕ) → Marked m q → Marked m' q
-  pub done : Marked m' page
+  pub keep : (q : ℕ) → Seen m q → Seen m' q
+  pub done : Seen m' page
 
 -- in between: what its entries before the i-th lead to is marked
 pub record Going (v : View) (m m' : List ℕ) (page i : ℕ) : Type 0 where
   pub size : length m' ≡ length m
   pub marks : Marks v m'
-  pub keep : (q : ℕ) → Marked m q → Marked m' q
-  pub kids : (j : ℕ) (e : Entry) → j < i → At (entriesOf (v .page page)) j e → Follows v (levelOf (v .page page)) (e .child) → Marked m' (e .child)
+  pub keep : (q : ℕ) → Seen m q → Seen m' q
+  pub kids : (j : ℕ) (e : Entry) → j < i → At (entriesOf (v .page page)) j e → Follows v (levelOf (v .page page)) (e .child) → Seen m' (e .child)
 
--- the marked pages are the followed ones
+-- the marked pages are the followed ones, each with 1 more than its level
 pub record MarksAre (v : View) (m : List ℕ) : Type 0 where
   pub size : v .count ≤ length m
-  pub reached : (q : ℕ) → Marked m q → Reached v q
-  pub all : (q : ℕ) → Reached v q → Marked m q
+  pub reached : (q : ℕ) → Seen m q → Reached v q
+  pub all : (q : ℕ) → Reached v q → getD m q 0 ≡ suc (levelOf (v .page q))
 
 -- the marked pages below k, the highest first
 unfoldable pub markedTo : List ℕ → ℕ → List ℕ
 markedTo m zero = []
-markedTo m (suc k) = pick (eqb (getD m k 0) 1) (k ∷ markedTo m k) (markedTo m k)
+markedTo m (suc k) = pick (eqb (getD m k 0) 0) (markedTo m k) (k ∷ markedTo m k)
+
+-- the followed pages below k are fine, each by itself, and their first and last keys are kept as numbers
+pub record PagesFine (v : View) (firsts lasts : List ℕ) (k : ℕ) : Type 0 where
+  pub pages : (q : ℕ) → q < k → Reached v q → PageFine v q
+  pub firstRoom : v .count ≤ length firsts
+  pub lastRoom : v .count ≤ length lasts
+  pub first : (q : ℕ) → q < k → Reached v q → getD firsts q 0 ≡ hd (ranksIn (v .d) (v .page q))
+  pub last : (q : ℕ) → q < k → Reached v q → getD lasts q 0 ≡ lst (ranksIn (v .d) (v .page q))
 
 -- ---- THE FREED PAGES
 
@@ -96,14 +111,17 @@ pub record HasEntry (v : View) (p : ℕ) (e : Entry) : Type 0 where
   pub place : ℕ
   pub at : EntryAt v p place e
 
--- an entry gives the first and the last key of the page x, or not
-pub record EndsRight (d : ℕ) (e : Entry) (x : Page) : Type 0 where
-  pub first : e .first ≡ firstOf d x
-  pub last : e .last ≡ lastOf d x
+-- what entries are held to
+pub record Known (v : View) (m f firsts lasts : List ℕ) : Type 0 where
+  pub marks : MarksAre v m
+  pub freed : FreedMarks v f
+  pub pages : PagesFine v firsts lasts (v .count)
+  pub fresh : v .fresh ≤ v .count
 
-pub data EndsWrong (d : ℕ) (e : Entry) (x : Page) : Type 0 where
-  first : ¬ (e .first ≡ firstOf d x) → EndsWrong d e x
-  last : ¬ (e .last ≡ lastOf d x) → EndsWrong d e x
+-- an entry gives the first and the last key that are kept of its child
+pub record EndsKept (e : Entry) (firsts lasts : List ℕ) : Type 0 where
+  pub first : keyNumber (e .first) ≡ getD firsts (e .child) 0
+  pub last : keyNumber (e .last) ≡ getD lasts (e .child) 0
 
 -- the entries before place k have no fault and name different pages, which are marked in m; the j-th entry of page q is at place 16 q + j
 pub record Named (v : View) (m : List ℕ) (k : ℕ) : Type 0 where
@@ -112,11 +130,6 @@ pub record Named (v : View) (m : List ℕ) (k : ℕ) : Type 0 where
   pub fine : (q j : ℕ) (f : Entry) → EntryAt v q j f → 16 * q + j < k → EntryFine v q f
   pub marked : (q j : ℕ) (f : Entry) → EntryAt v q j f → 16 * q + j < k → Marked m (f .child)
   pub alone : (q j q' j' : ℕ) (f f' : Entry) → EntryAt v q j f → EntryAt v q' j' f' → 16 * q + j < k → 16 * q' + j' < k → f .child ≡ f' .child → (q ≡ q') × (j ≡ j')
-
--- the pages below k have no fault
-pub record PagesFine (v : View) (named : List ℕ) (k : ℕ) : Type 0 where
-  pub entries : Named v named (16 * k)
-  pub pages : (q : ℕ) → q < k → Reached v q → PageFine v q
 
 -- ---- STATES
 

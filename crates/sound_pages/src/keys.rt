@@ -1,50 +1,31 @@
-// The keys of records and entries, and a leaf judged by itself.
+// The keys of records and entries, and a page judged by itself.
 ghost use mathlib.Core.Path.{_≡_};
-ghost use Prim.Native.Nat.{_<_, _≤_, _^_};
-ghost use Rattle.lists.specs.Basics.{flat};
-ghost use Rattle.lists.specs.Ascending.{Ascending, headOr, lastOr};
+ghost use mathlib.Core.Bool.{true, false};
+ghost use Prim.Native.Nat.{_-_, _<_, _≤_, _^_};
+ghost use lib.Dec.{eqb};
+ghost use lib.ListN.{length};
+ghost use Rattle.lists.specs.Basics.{pick};
 ghost use Rattle.geometry.specs.Keys.{keyNumber};
-ghost use Rattle.pagestore.specs.Store.{recordsIn, entriesIn, fillOf, pageAt, leafAt, innerAt};
-ghost use Rattle.trees.specs.Trees.{keyOf, firstKey, lastKey};
-ghost use Rattle.faults.specs.Faults.{ends, noEntry, firstOf, lastOf};
-ghost use Rattle.sound_pages.specs.Judged.{Decides, Judges, RecordsFine, RecordsBad};
+ghost use Rattle.pagestore.specs.Layout.{leafOf};
+ghost use Rattle.pagestore.specs.Store.{recordsIn, entriesIn, fillOf, pageAt, leafAt, innerAt, inRange, viewOf};
+ghost use Rattle.faults.specs.Faults.{Reached};
+ghost use Rattle.sound_pages.specs.Judged.{Decides, LeafJudged, InnerJudged, PageJudged};
+ghost use Rattle.sound_pages.specs.Leads.{Leads};
+use crate::Span;
+use crate::leads::lanes;
+use crate::leads::lead_columns;
+use crate::leads::lead_key;
 use geometry::Key;
 use geometry::keys::key_number;
-use geometry::keys::key_of;
-use geometry::points::pair_of;
-use pagestore::Inner;
-use pagestore::Record;
 use pagestore::count_at;
 use pagestore::entry_at;
 use pagestore::level_at;
-use pagestore::record_at;
-
-// The key of a record with d features.
-pub fn record_key(r: Record, d: usize) -> Key
-    requires { ⌜ (1 ≤ d) × (d ≤ 16) ⌝ }
-    ensures { λ k. ⌜ k ≡ keyOf d r ⌝ }
-{
-    let coords = r.coords;
-    key_of(pair_of(&coords[..d]), r.id)
-}
 
 // A key as a number; there is room for one more.
-fn rank(k: Key) -> u64
+pub fn rank(k: Key) -> u64
     ensures { λ r. ⌜ (r ≡ keyNumber k) × (r < 2 ^ 56) ⌝ }
 {
     key_number(k)
-}
-
-pub fn same_key(a: Key, b: Key) -> bool
-    ensures { λ r. ⌜ Decides (a ≡ b) r ⌝ }
-{
-    if a.pyramid.0 != b.pyramid.0 {
-        return false;
-    }
-    if a.height.0 != b.height.0 {
-        return false;
-    }
-    a.id == b.id
 }
 
 // Are the identifier and the coordinates of a record with this key in range? The height is the greatest magnitude.
@@ -57,84 +38,6 @@ fn key_fine(k: Key) -> bool
     k.height.0 <= 1000
 }
 
-// Are the records of a leaf in range, and do their keys ascend? Each record is read once.
-pub fn judge_leaf(index: &[u8], page: u32, n: usize, d: usize) -> bool
-    requires { ⌜ (n ≡ leafAt (now index) page .count) × (n ≤ 16) × (1 ≤ d) × (d ≤ 16) ⌝ }
-    ensures { λ r. ⌜ Judges (RecordsFine d (recordsIn (leafAt (now (index .entry)) page))) (RecordsBad d (recordsIn (leafAt (now (index .entry)) page))) r ⌝ }
-{
-    let mut next: u64 = 0;
-    let mut i = 0;
-    while i < n {
-        let key = record_key(record_at(index, page, i), d);
-        if !key_fine(key) {
-            return false;
-        }
-        let own = rank(key);
-        if own < next {
-            return false;
-        }
-        next = own + 1;
-        i += 1;
-    }
-    true
-}
-
-// Do the keys of an inner page ascend, each entry's first and last in turn?
-pub fn entries_ascend(inner: Inner) -> bool
-    requires { ⌜ inner .count ≤ 16 ⌝ }
-    ensures { λ r. ⌜ Decides (Ascending (flat ends (entriesIn inner))) r ⌝ }
-{
-    let n = inner.count;
-    let mut next: u64 = 0;
-    let mut i = 0;
-    while i < n {
-        let e = inner.entries[i];
-        let first = rank(e.first);
-        let last = rank(e.last);
-        if first < next {
-            return false;
-        }
-        if last <= first {
-            return false;
-        }
-        next = last + 1;
-        i += 1;
-    }
-    true
-}
-
-// The first and the last key of a page.
-pub struct Ends {
-    pub first: Key,
-    pub last: Key,
-}
-
-fn leaf_ends(index: &[u8], page: u32, n: usize, d: usize) -> Ends
-    requires { ⌜ (n ≡ leafAt (now index) page .count) × (1 ≤ n) × (n ≤ 16) × (1 ≤ d) × (d ≤ 16) ⌝ }
-    ensures { λ r. ⌜ (r .first ≡ firstKey d (recordsIn (leafAt (now (index .entry)) page))) × (r .last ≡ lastKey d (recordsIn (leafAt (now (index .entry)) page))) ⌝ }
-{
-    let first = record_key(record_at(index, page, 0), d);
-    let last = record_key(record_at(index, page, n - 1), d);
-    Ends {
-        first: first,
-        last: last,
-    }
-}
-
-fn inner_ends(index: &[u8], page: u32, n: usize) -> Ends
-    requires { ⌜ (n ≡ innerAt (now index) page .count) × (1 ≤ n) × (n ≤ 16) ⌝ }
-    ensures { λ r. ⌜ (r .first ≡ headOr noEntry (entriesIn (innerAt (now (index .entry)) page)) .first) × (r .last ≡ lastOr noEntry (entriesIn (innerAt (now (index .entry)) page)) .last) ⌝ }
-{
-    let head = entry_at(index, page, 0);
-    let tail = entry_at(index, page, n - 1);
-    let first = head.first;
-    let last = tail.last;
-    Ends {
-        first: first,
-        last: last,
-    }
-}
-
 // The count of a page, as stored.
 pub fn item_count(index: &[u8], page: u32) -> usize
     ensures { λ r. ⌜ (r ≡ leafAt (now (index .entry)) page .count) × (r ≡ innerAt (now (index .entry)) page .count) × (r ≡ fillOf (pageAt (now (index .entry)) page)) ⌝ }
@@ -142,14 +45,112 @@ pub fn item_count(index: &[u8], page: u32) -> usize
     count_at(index, page) as usize
 }
 
-// Those of any page that has items and no more than 16.
-pub fn ends_of(index: &[u8], page: u32, d: usize) -> Ends
-    requires { ⌜ (1 ≤ fillOf (pageAt (now index) page)) × (fillOf (pageAt (now index) page) ≤ 16) × (1 ≤ d) × (d ≤ 16) ⌝ }
-    ensures { λ r. ⌜ (r .first ≡ firstOf d (pageAt (now (index .entry)) page)) × (r .last ≡ lastOf d (pageAt (now (index .entry)) page)) ⌝ }
+fn faulty() -> Span
+    ensures { λ r. ⌜ r .fine ≡ false ⌝ }
 {
-    let n = item_count(index, page);
-    if level_at(index, page) == 0 {
-        return leaf_ends(index, page, n, d);
+    Span {
+        fine: false,
+        first: 0,
+        last: 0,
     }
-    inner_ends(index, page, n)
+}
+
+// The first key, where `own` comes after keys that are all below `next`.
+fn first_of(next: u64, first: u64, own: u64) -> u64
+    ensures { λ r. ⌜ r ≡ pick (eqb next 0) own first ⌝ }
+{
+    if next == 0 { own } else { first }
+}
+
+// Keys from `first` to the one below `next`.
+fn span_to(first: u64, next: u64) -> Span
+    ensures { λ r. ⌜ (r .fine ≡ true) × (r .first ≡ first) × (r .last ≡ next - 1) ⌝ }
+{
+    let last = if next == 0 { 0 } else { next - 1 };
+    Span {
+        fine: true,
+        first: first,
+        last: last,
+    }
+}
+
+// Are the first n records in range, and do their keys ascend? `tops` holds their greatest leads.
+fn judge_records(page: &[u8], n: usize, d: usize, tops: &[u16]) -> Span
+    requires { ⌜ (length (now page) ≡ 1024) × (n ≡ leafOf (now page) .count) × (n ≤ 16) × (1 ≤ d) × (d ≤ 16) × Leads (leafOf (now page)) d n (now tops) ⌝ }
+    ensures { λ r. ⌜ LeafJudged d (recordsIn (leafOf (now (page .entry)))) r ⌝ }
+{
+    let mut first: u64 = 0;
+    let mut next: u64 = 0;
+    let mut i = 0;
+    while i < n {
+        let key = lead_key(page, tops[i], i, d);
+        if !key_fine(key) {
+            return faulty();
+        }
+        let own = rank(key);
+        if own < next {
+            return faulty();
+        }
+        first = first_of(next, first, own);
+        next = own + 1;
+        i += 1;
+    }
+    span_to(first, next)
+}
+
+// The records of a leaf, read from its page.
+fn judge_part(page: &[u8], n: usize, d: usize) -> Span
+    requires { ⌜ (length (now page) ≡ 1024) × (n ≡ leafOf (now page) .count) × (n ≤ 16) × (1 ≤ d) × (d ≤ 16) ⌝ }
+    ensures { λ r. ⌜ LeafJudged d (recordsIn (leafOf (now (page .entry)))) r ⌝ }
+{
+    let mut tops = [0u16; 16];
+    lead_columns(page, d, lanes(n), &mut tops);
+    judge_records(page, n, d, &tops)
+}
+
+// The same of the leaf at a page in range.
+fn judge_leaf(index: &[u8], page: u32, n: usize, d: usize) -> Span
+    requires { ⌜ (n ≡ leafAt (now index) page .count) × (n ≤ 16) × (1 ≤ d) × (d ≤ 16) × (inRange (now index) page ≡ true) ⌝ }
+    ensures { λ r. ⌜ LeafJudged d (recordsIn (leafAt (now (index .entry)) page)) r ⌝ }
+{
+    let at = page as usize * 1024;
+    let end = at + 1024;
+    judge_part(&index[at..end], n, d)
+}
+
+// Do the keys of an inner page ascend, each entry's first and last in turn?
+fn judge_inner(index: &[u8], page: u32, n: usize) -> Span
+    requires { ⌜ (n ≡ innerAt (now index) page .count) × (n ≤ 16) ⌝ }
+    ensures { λ r. ⌜ InnerJudged (entriesIn (innerAt (now (index .entry)) page)) r ⌝ }
+{
+    let mut first: u64 = 0;
+    let mut next: u64 = 0;
+    let mut i = 0;
+    while i < n {
+        let e = entry_at(index, page, i);
+        let low = rank(e.first);
+        let high = rank(e.last);
+        if low < next {
+            return faulty();
+        }
+        if high <= low {
+            return faulty();
+        }
+        first = first_of(next, first, low);
+        next = high + 1;
+        i += 1;
+    }
+    span_to(first, next)
+}
+
+// The followed page p, by itself.
+pub fn judge_page(index: &[u8], p: u32, d: usize) -> Span
+    requires { ⌜ Reached (viewOf (now index)) p × (d ≡ viewOf (now index) .d) ⌝ }
+    ensures { λ r. ⌜ PageJudged (viewOf (now (index .entry))) p r ⌝ }
+{
+    let n = item_count(index, p);
+    if level_at(index, p) == 0 {
+        return judge_leaf(index, p, n, d);
+    }
+    judge_inner(index, p, n)
 }

@@ -1,19 +1,20 @@
 // Links between pages: the freed chain, the root, and the pages that are followed from it.
 ghost use mathlib.Core.Path.{_≡_};
-ghost use Prim.Native.Nat.{_≤_};
+ghost use Prim.Native.Nat.{suc, _≤_};
 ghost use lib.ListN.{length};
 ghost use Rattle.pagestore.specs.Store.{viewOf, pageAt};
 ghost use Rattle.faults.specs.Faults.{RootFill, FailsAt};
 ghost use Rattle.faults.specs.Linked.{HeaderFine};
 ghost use Rattle.sound_pages.specs.Judged.{Decides, Judges};
 ghost use Rattle.sound_pages.specs.Marks.{Clear, Follows, Ready, Grown, FreedOk};
+use crate::keys::item_count;
 use pagestore::count_at;
+use pagestore::entry_at;
 use pagestore::features_of;
 use pagestore::freed_head;
 use pagestore::fresh_page;
 use pagestore::in_range;
 use pagestore::index_size;
-use pagestore::inner_at;
 use pagestore::level_at;
 use pagestore::link_at;
 use pagestore::page_count;
@@ -118,29 +119,35 @@ pub fn may_follow(index: &[u8], c: u32, above: u8) -> bool
     n <= 16
 }
 
+// The mark of a followed page.
+fn mark_of(level: u8) -> u16
+    ensures { λ r. ⌜ r ≡ suc level ⌝ }
+{
+    level as u16 + 1
+}
+
 // Marks the page, which has the level, after the pages to be followed from it.
-pub fn reach(index: &[u8], page: u32, level: u8, marks: &mut [u8])
+pub fn reach(index: &[u8], page: u32, level: u8, marks: &mut [u16])
     requires { ⌜ Ready (viewOf (now index)) (now marks) page level ⌝ }
     ensures { λ _. ⌜ Grown (viewOf (now (index .entry))) (now (marks .entry)) (now (marks .exit)) page ⌝ }
 {
     let at = place(page);
-    if marks[at] == 1 {
+    if marks[at] != 0 {
         return;
     }
     if level == 0 {
         marks[at] = 1;
         return;
     }
-    let inner = inner_at(index, page);
-    let n = inner.count;
+    let n = item_count(index, page);
     let mut i = 0;
     while i < n {
-        let e = inner.entries[i];
+        let e = entry_at(index, page, i);
         let c = e.child;
         if may_follow(index, c, level) {
             reach(index, c, level - 1, marks);
         }
         i += 1;
     }
-    marks[at] = 1;
+    marks[at] = mark_of(level);
 }

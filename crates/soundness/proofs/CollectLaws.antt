@@ -22,16 +22,16 @@ use Rattle.faults.specs.Faults.{FailsAt}
 use Rattle.faults.specs.Linked.{Followed}
 use Rattle.faults.specs.Stored.{view-stored}
 use Rattle.faults.specs.Shapes.{idents}
-use Rattle.faults.specs.Assembled.{reached-page, mult-none, live-idents, live-count}
+use Rattle.faults.specs.Assembled.{reached-page, mult-none, live-idents}
 use Rattle.faults.specs.Repeated.{repeated-fails}
 use Rattle.repeats.specs.Repeats.{lowestRepeat, Repeated}
 use Rattle.repeats.proofs.RepeatsLaws.{lowest-repeat}
 use Rattle.sound_pages.specs.Judged.{Found, nowhere, at}
-use Rattle.sound_pages.specs.Marks.{Marked, markedTo}
-use Rattle.soundness.specs.Collect.{identOn, holderOf, pairsOn, pairsIf, pairsTo, Joined, Collected}
+use Rattle.sound_pages.specs.Marks.{Seen, MarksAre, markedTo}
+use Rattle.soundness.specs.Collect.{identOn, holderOf, pairsOn, pairsIf, pairsTo, Joined, Collected, Gathered}
 use Rattle.soundness.specs.Outcome.{Counted}
 use Rattle.sound_pages.proofs.JudgeLaws.{take-more}
-use Rattle.sound_pages.proofs.ViewLaws.{leaf-is}
+use Rattle.sound_pages.proofs.ViewLaws.{leaf-is, view-level}
 use Rattle.sound_pages.proofs.EntryLaws.{inner-points}
 use Rattle.sound_pages.proofs.TurnLaws.{marked-yes, marked-no, marked-none, marked-followed}
 
@@ -49,11 +49,6 @@ put-step g d rs l l0 n i x h k e q =
 pub put-start : (l : List ℕ) (n : ℕ) → take (n + 0) l ≡ take n l ++ []
 put-start l n = ap (λ (z : ℕ). take z l) (let e : n + 0 ≡ n = omega arith in e) ∙ sym (append-nil (take n l))
 
--- nothing to put
-pub joined-none : (xs : List (ℕ × ℕ)) (n : ℕ) (ids holders : List ℕ) → xs ≡ [] → Joined (map identOn xs) (map holderOf xs) n ids holders n ids holders
-joined-none xs n ids holders e =
-    rw e (record { count = omega arith; idents = sym (append-nil (take n ids)); pages = sym (append-nil (take n holders)) })
-
 -- ---- ONE PAGE
 
 map-map : {A : Type 0} {B : Type 0} {C : Type 0} (g : B → C) (f : A → B) (xs : List A) → map g (map f xs) ≡ map (λ x. g (f x)) xs
@@ -68,29 +63,31 @@ holders-on : (v : View) (p : ℕ) → map holderOf (pairsOn v p) ≡ map (λ r. 
 unfolding pairsOn
 holders-on v p = map-map holderOf (λ r. (r .id, p)) (recordsOf (v .page p))
 
-pub if-no : (v : View) (m : List ℕ) (p : ℕ) → ¬ Marked m p → pairsIf v m p ≡ []
+if-no : (v : View) (m : List ℕ) (p : ℕ) → getD m p 0 ≡ 0 → pairsIf v m p ≡ []
 unfolding pairsIf
-if-no v m p n = rw (ne-eqb (getD m p 0) 1 n)
+if-no v m p h = rw (eq-eqb (getD m p 0) 0 h)
 
-pub if-yes : (v : View) (m : List ℕ) (p : ℕ) → Marked m p → pairsIf v m p ≡ pairsOn v p
+if-yes : (v : View) (m : List ℕ) (p : ℕ) → ¬ (getD m p 0 ≡ 0) → pairsIf v m p ≡ pairsOn v p
 unfolding pairsIf
-if-yes v m p h = rw (eq-eqb (getD m p 0) 1 h)
+if-yes v m p n = rw (ne-eqb (getD m p 0) 0 n)
 
 no-records : (xs : List Record) → length xs ≡ 0 → xs ≡ []
 no-records [] h = refl
 no-records (x ∷ xs) h = absurd (omega arith)
 
--- an inner page has none
-pub inner-pairs : (b : List ℕ) (m : List ℕ) (p : ℕ) → ¬ (levelAt b p ≡ 0) → pairsIf (viewOf b) m p ≡ []
-unfolding pairsIf pairsOn viewOf
-inner-pairs b m p n =
-    let e : recordsOf (pageAt b p) ≡ [] = no-records (recordsOf (pageAt b p)) (inner-points b p n) in
-    same? (getD m p 0) 1
-    (λ h. rw (eq-eqb (getD m p 0) 1 h, e))
-    (λ h. rw (ne-eqb (getD m p 0) 1 h))
+inner-pairs : (b : List ℕ) (p : ℕ) → ¬ (levelAt b p ≡ 0) → pairsOn (viewOf b) p ≡ []
+unfolding pairsOn viewOf
+inner-pairs b p n = ap (map (λ r. (r .id, p))) (no-records (recordsOf (pageAt b p)) (inner-points b p n))
+
+-- a page that is not marked as a leaf has none
+pub other-pairs : (b m : List ℕ) (p : ℕ) → MarksAre (viewOf b) m → ¬ (getD m p 0 ≡ 1) → pairsIf (viewOf b) m p ≡ []
+other-pairs b m p s n =
+    same? (getD m p 0) 0
+    (λ h. if-no (viewOf b) m p h)
+    (λ h. if-yes (viewOf b) m p h ∙ inner-pairs b p (λ z. n (omega (arith, s .all p (s .reached p (omega (arith, h))), view-level b p, z))))
 
 -- a leaf has those of its records
-module _ (b m : List ℕ) (p : ℕ) (x : Leaf) (e : x ≡ leafAt b p) (h : levelAt b p ≡ 0) (on : Marked m p) where
+module _ (b m : List ℕ) (p : ℕ) (x : Leaf) (e : x ≡ leafAt b p) (h : levelAt b p ≡ 0) (on : ¬ (getD m p 0 ≡ 0)) where
   leaf-records : recordsOf (viewOf b .page p) ≡ recordsIn x
   unfolding viewOf
   leaf-records = ap recordsOf (leaf-is b p x e h)
@@ -117,31 +114,18 @@ module _ (b m : List ℕ) (p : ℕ) (x : Leaf) (e : x ≡ leafAt b p) (h : level
 -- ---- ALL PAGES
 
 module _ (v : View) (m : List ℕ) where
-  pub pairs-none : pairsTo v m 0 ≡ []
+  pairs-none : pairsTo v m 0 ≡ []
   unfolding pairsTo
   pairs-none = refl
 
-  pub pairs-step : (k : ℕ) → pairsTo v m (k + 1) ≡ pairsTo v m k ++ pairsIf v m k
+  pairs-step : (k : ℕ) → pairsTo v m (k + 1) ≡ pairsTo v m k ++ pairsIf v m k
   unfolding pairsTo
   pairs-step k = rw (add-one k)
 
   length-step : (k : ℕ) → length (pairsTo v m (k + 1)) ≡ length (pairsTo v m k) + length (pairsIf v m k)
   length-step k = ap length (pairs-step k) ∙ length-append (pairsTo v m k) (pairsIf v m k)
 
-  -- there is room for one page more
-  pub pairs-room : (p k : ℕ) → p < k → length (pairsTo v m p) + length (pairsIf v m p) ≤ length (pairsTo v m k)
-  pairs-room p zero h = absurd (omega arith)
-  pairs-room p (suc k) h =
-      let e : length (pairsTo v m (suc k)) ≡ length (pairsTo v m k) + length (pairsIf v m k) = ap (λ (z : ℕ). length (pairsTo v m z)) (sym (add-one k)) ∙ length-step k in
-      same? p k
-      (λ s. subst (λ (z : ℕ). length (pairsTo v m z) + length (pairsIf v m z) ≤ length (pairsTo v m (suc k))) (sym s) (omega arith))
-      (λ d. omega (arith, pairs-room p k (omega (arith, d))))
-
-  pub collected-none : (ids holders : List ℕ) → Collected (pairsTo v m 0) 0 ids holders
-  collected-none ids holders =
-      subst (λ (xs : List (ℕ × ℕ)). Collected xs 0 ids holders) (sym pairs-none) (record { count = refl; idents = refl; pages = refl })
-
-  pub collected-step : (p : ℕ) {n r : ℕ} {ids holders ids' holders' : List ℕ} → Collected (pairsTo v m p) n ids holders
+  collected-step : (p : ℕ) {n r : ℕ} {ids holders ids' holders' : List ℕ} → Collected (pairsTo v m p) n ids holders
       → Joined (map identOn (pairsIf v m p)) (map holderOf (pairsIf v m p)) n ids holders r ids' holders' → Collected (pairsTo v m (p + 1)) r ids' holders'
   collected-step p c j =
       record {
@@ -151,6 +135,38 @@ module _ (v : View) (m : List ℕ) where
         pages = j .pages ∙ ap (λ (r : List ℕ). r ++ map holderOf (pairsIf v m p)) (c .pages)
             ∙ sym (ap (map holderOf) (pairs-step p) ∙ map-append holderOf (pairsTo v m p) (pairsIf v m p));
       }
+
+  -- a page that has none
+  pub gathered-none : {p n : ℕ} {ids holders : List ℕ} → Gathered v m p n ids holders → pairsIf v m p ≡ [] → Gathered v m (p + 1) n ids holders
+  gathered-none {p} {n} {ids} {holders} g e =
+      let same : pairsTo v m p ≡ pairsTo v m (p + 1) = sym (pairs-step p ∙ ap (λ (xs : List (ℕ × ℕ)). pairsTo v m p ++ xs) e ∙ append-nil (pairsTo v m p)) in
+      record {
+        few = omega (arith, g .few);
+        count = g .count ∙ ap length same;
+        held = λ h. subst (λ (xs : List (ℕ × ℕ)). Collected xs n ids holders) same (g .held h);
+      }
+
+  -- page 0 is not marked
+  pub gathered-start : (ids holders : List ℕ) → MarksAre v m → Gathered v m 1 0 ids holders
+  gathered-start ids holders s =
+      let off : pairsIf v m 0 ≡ [] = if-no v m 0 (same? (getD m 0 0) 0 (λ z. z) (λ d. absurd (omega (arith, reached-page (s .reached 0 (omega (arith, d))) .0)))) in
+      gathered-none {p = 0} (record {
+        few = omega arith;
+        count = sym (ap length pairs-none);
+        held = λ h. subst (λ (xs : List (ℕ × ℕ)). Collected xs 0 ids holders) (sym pairs-none) (record { count = refl; idents = refl; pages = refl });
+      }) off
+
+  -- one that has k more, for which there is no room
+  pub gathered-full : {p n k : ℕ} {ids holders : List ℕ} → Gathered v m p n ids holders → length (pairsIf v m p) ≡ k → k ≤ 16 → length ids < n + k
+      → Gathered v m (p + 1) (n + k) ids holders
+  gathered-full {p} g e f o = record { few = omega (arith, g .few); count = omega (arith, g .count, length-step p, e); held = λ h. absurd (omega (arith, h, o)) }
+
+  -- and one whose identifiers are put behind the others
+  pub gathered-more : {p n k r : ℕ} {ids holders ids' holders' : List ℕ} → Gathered v m p n ids holders → length (pairsIf v m p) ≡ k → k ≤ 16 → n + k ≤ length ids
+      → Joined (map identOn (pairsIf v m p)) (map holderOf (pairsIf v m p)) n ids holders r ids' holders' → Gathered v m (p + 1) r ids' holders'
+  gathered-more {p} g e f o j =
+      let c = j .count in let l = length-map (pairsIf v m p) identOn in
+      record { few = omega (arith, g .few, c, l, e); count = omega (arith, g .count, c, l, length-step p); held = λ h. collected-step p (g .held (omega (arith, o))) j }
 
   -- what is counted of the identifiers is counted page by page
   module _ (g : List ℕ → ℕ) (zip : g [] ≡ 0) (both : (xs ys : List ℕ) → g (xs ++ ys) ≡ g xs + g ys) where
@@ -162,19 +178,19 @@ module _ (v : View) (m : List ℕ) where
         ap (λ (z : ℕ). g (map identOn (pairsTo v m z))) (sym (add-one k)) ∙ ap (λ (xs : List (ℕ × ℕ)). g (map identOn xs)) (pairs-step k)
         ∙ ap g (map-append identOn (pairsTo v m k) (pairsIf v m k)) ∙ both (map identOn (pairsTo v m k)) (map identOn (pairsIf v m k)) in
         let f : sum (λ p. g (idents v p)) (markedTo m (suc k)) ≡ sum (λ p. g (idents v p)) (markedTo m (k + 1)) = ap (λ (z : ℕ). sum (λ p. g (idents v p)) (markedTo m z)) (sym (add-one k)) in
-        same? (getD m k 0) 1
-        (λ h. omega (arith, e, f, counted-pairs k, ap (sum (λ p. g (idents v p))) (marked-yes m k h), ap (λ (xs : List (ℕ × ℕ)). g (map identOn xs)) (if-yes v m k h), ap g (idents-on v k)))
+        same? (getD m k 0) 0
         (λ h. omega (arith, e, f, counted-pairs k, ap (sum (λ p. g (idents v p))) (marked-no m k h), ap (λ (xs : List (ℕ × ℕ)). g (map identOn xs)) (if-no v m k h), zip))
+        (λ h. omega (arith, e, f, counted-pairs k, ap (sum (λ p. g (idents v p))) (marked-yes m k h), ap (λ (xs : List (ℕ × ℕ)). g (map identOn xs)) (if-yes v m k h), ap g (idents-on v k)))
 
   -- each pair is of a record of a marked page
   pub record PairOk (q : ℕ × ℕ) : Type 0 where
-    pub marked : Marked m (q .1)
+    pub marked : Seen m (q .1)
     pub spot : ℕ
     pub value : Record
     pub at : At (recordsOf (v .page (q .1))) spot value
     pub ident : q .0 ≡ value .id
 
-  on-page : (p : ℕ) → Marked m p → All PairOk (pairsOn v p)
+  on-page : (p : ℕ) → Seen m p → All PairOk (pairsOn v p)
   unfolding pairsOn
   on-page p h =
       spots-all (map (λ r. (r .id, p)) (recordsOf (v .page p)))
@@ -183,14 +199,20 @@ module _ (v : View) (m : List ℕ) where
 
   if-page : (p : ℕ) → All PairOk (pairsIf v m p)
   if-page p =
-      same? (getD m p 0) 1
-      (λ h. subst (All PairOk) (sym (if-yes v m p h)) (on-page p h))
+      same? (getD m p 0) 0
       (λ h. subst (All PairOk) (sym (if-no v m p h)) none)
+      (λ h. subst (All PairOk) (sym (if-yes v m p h)) (on-page p (omega (arith, h))))
 
   pub pairs-ok : (k : ℕ) → All PairOk (pairsTo v m k)
   pairs-ok zero = subst (All PairOk) (sym pairs-none) none
   pairs-ok (suc k) =
       subst (All PairOk) (sym (ap (pairsTo v m) (sym (add-one k)) ∙ pairs-step k)) (all-append (pairs-ok k) (if-page k))
+
+-- they are as many as the records of the marked pages
+pub pairs-sum : (v : View) (m : List ℕ) (k : ℕ) → length (pairsTo v m k) ≡ sum (λ p. length (recordsOf (v .page p))) (markedTo m k)
+pairs-sum v m k =
+    sym (length-map (pairsTo v m k) identOn) ∙ counted-pairs v m length refl length-append k
+    ∙ ap (λ (g : ℕ → ℕ). sum g (markedTo m k)) (λ i p. length-map (recordsOf (v .page p)) identOf i)
 
 -- ---- A REPEATED IDENTIFIER
 
@@ -209,17 +231,6 @@ module _ (b m : List ℕ) (c : Counted (viewOf b) m) where
 
   followed : Followed v (markedTo m (v .count))
   followed = marked-followed v m (c .marks)
-
-  -- they are as many as the points
-  pub pairs-total : length (pairsTo (viewOf b) m (viewOf b .count)) ≡ viewOf b .total
-  pairs-total =
-      let e : length is ≡ sum (λ p. length (idents v p)) (markedTo m (v .count)) = counted-pairs v m length refl length-append (v .count) in
-      let f : sum (λ p. length (idents v p)) (markedTo m (v .count)) ≡ sum (λ p. length (recordsOf (v .page p))) (markedTo m (v .count)) =
-      ap (λ (g : ℕ → ℕ). sum g (markedTo m (v .count))) (λ i p. length-map (recordsOf (v .page p)) identOf i) in
-      omega (arith, length-map ps identOn, e, f, live-count v (view-stored b) (c .linked) (markedTo m (v .count)) followed, c .total)
-
-  pub pairs-few : length (pairsTo (viewOf b) m (viewOf b .count)) ≤ 65535
-  pairs-few = omega (arith, pairs-total, c .most)
 
   times : (i : ℕ) → mult i (map identOf (live v)) ≡ mult i is
   times i =

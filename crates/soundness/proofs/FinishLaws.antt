@@ -1,28 +1,24 @@
--- From the marks and the judged pages to the outcome of the check. Assumes nothing.
+-- From the marks and the judged pages to the verdict. Assumes nothing.
 use mathlib.Core.Path.{_≡_, refl, sym, ap, _∙_, subst}
-use mathlib.Core.Bool.{Bool}
-use mathlib.Core.List.{List, []}
+use mathlib.Core.List.{List}
 use Prim.Native.Nat.{ℕ, zero, suc, _+_, _*_, _≤_, _<_}
 use native.Mathlib.Omega.{arith}
-use lib.Dec.{eqb}
-use lib.ListN.{length, getD, replicate}
-use borrow.Author.Tests.{ne-eqb}
-use Rattle.lists.specs.Basics.{pick}
+use lib.ListN.{length, getD, replicate, length-replicate}
 use Rattle.lists.specs.Members.{spot-below}
-use Rattle.lists.specs.Sorting.{sum}
 use Rattle.pagestore.specs.declared.Entry.{Entry}
-use Rattle.pagestore.specs.Store.{levelOf, recordsOf, View, viewOf}
+use Rattle.pagestore.specs.Store.{levelOf, View, viewOf}
 use Rattle.trees.specs.Trees.{live}
 use Rattle.faults.specs.Faults.{IsPage, RootFill, Rooted, Reached, EntryAt, NoFault, EntryFault, FailsAt}
-use Rattle.faults.specs.Linked.{HeaderFine, Linked, PageFine, InState, Followed}
+use Rattle.faults.specs.Linked.{HeaderFine, InState}
 use Rattle.faults.specs.Stored.{view-stored}
 use Rattle.faults.specs.Assembled.{reached-page, live-count}
-use Rattle.sound_pages.specs.Judged.{Found, nowhere, at}
-use Rattle.sound_pages.specs.Marks.{Marked, Clear, Ready, Grown, MarksAre, FreedOk, PagesFine, markedTo, Lost}
-use Rattle.soundness.specs.Outcome.{Start, Outcome, Zeros}
+use Rattle.sound_pages.specs.Marks.{Marked, Seen, Clear, Ready, Grown, MarksAre, FreedOk, PagesFine, Named, markedTo, Lost}
+use Rattle.soundness.specs.Collect.{pairsTo, Collected, Gathered}
+use Rattle.soundness.specs.Outcome.{Start, Counted, Lent, Whole}
 use Rattle.sound_pages.proofs.MarkLaws.{clear-marks, marks-are}
 use Rattle.sound_pages.proofs.EntryLaws.{few-entries}
 use Rattle.sound_pages.proofs.TurnLaws.{marked-followed}
+use Rattle.soundness.proofs.CollectLaws.{pairs-sum}
 
 -- ---- THE ROOT
 
@@ -44,79 +40,83 @@ ready-root v {m} {f} {r} {l} s c e k =
     }
 
 pub grown-marks : (v : View) {m m' : List ℕ} {r : ℕ} → r ≡ v .root → Grown v m m' r → MarksAre v m'
-grown-marks v {m' = m'} e g = marks-are v m' (g .marks) (subst (Marked m') e (g .done))
+grown-marks v {m' = m'} e g = marks-are v m' (g .marks) (subst (Seen m') e (g .done))
 
 -- ---- ALL PAGES JUDGED
 
-module _ (b : List ℕ) {m f n : List ℕ} (s : Start (viewOf b) f) (a : MarksAre (viewOf b) m) (g : PagesFine (viewOf b) n (viewOf b .count)) where
+pub whole : (b : List ℕ) {m f firsts lasts named i h : List ℕ} {n : ℕ} → Start (viewOf b) f → MarksAre (viewOf b) m
+    → PagesFine (viewOf b) firsts lasts (viewOf b .count) × Gathered (viewOf b) m (viewOf b .count) n i h → Named (viewOf b) named (16 * viewOf b .count)
+    → (viewOf b .total ≤ 65535 → viewOf b .total ≤ length i) → length h ≡ length i → Whole (viewOf b) m f n i h
+whole b s a g w r e =
+    let low : (p i : ℕ) (e : Entry) → EntryAt (viewOf b) p i e → 16 * p + i < 16 * viewOf b .count =
+    λ p i e x. omega (arith, reached-page (x .reached) .1, few-entries b p (x .reached), spot-below (x .at)) in
+    record {
+      start = s;
+      marks = a;
+      linked = record {
+        ground = record { header = s .header; freed = s .freed .fine; rootFreed = s .freed .marks .other (viewOf b .root) (s .rootFreed); rootFill = s .rootFill };
+        fine = λ p i e x. w .fine p i e x (low p i e x);
+        alone = λ p i q j e u x y c. w .alone p i q j e u x y (low p i e x) (low q j u y) c;
+      };
+      fine = λ p r. g .0 .pages p (reached-page r .1) r;
+      points = g .1;
+      ids = r;
+      holders = e;
+    }
+
+module _ (b : List ℕ) {m f i h : List ℕ} {n : ℕ} (w : Whole (viewOf b) m f n i h) where
   abbrev v : View
   v = viewOf b
 
-  low : {p i : ℕ} {e : Entry} → EntryAt v p i e → 16 * p + i < 16 * v .count
-  low {p} x = omega (arith, reached-page (x .reached) .1, few-entries b p (x .reached), spot-below (x .at))
-
-  pub linked : Linked (viewOf b)
-  linked =
-      record {
-        ground = record { header = s .header; freed = s .freed .fine; rootFreed = s .freed .marks .other (v .root) (s .rootFreed); rootFill = s .rootFill };
-        fine = λ p i e x. g .entries .fine p i e x (low x);
-        alone = λ p i q j e u x y c. g .entries .alone p i q j e u x y (low x) (low y) c;
-      }
-
-  pub pages-fine : (p : ℕ) → Reached (viewOf b) p → PageFine (viewOf b) p
-  pages-fine p r = g .pages p (reached-page r .1) r
-
   entry-fine : (p : ℕ) → ¬ EntryFault v p
-  entry-fine p (EntryFault.range {i = i} {e = e} x n) = n (linked .fine p i e x .range)
-  entry-fine p (EntryFault.level {i = i} {e = e} x n) = n (linked .fine p i e x .level)
-  entry-fine p (EntryFault.fill {i = i} {e = e} x n) = n (linked .fine p i e x .fill)
-  entry-fine p (EntryFault.first {i = i} {e = e} x n) = n (linked .fine p i e x .first)
-  entry-fine p (EntryFault.last {i = i} {e = e} x n) = n (linked .fine p i e x .last)
-  entry-fine p (EntryFault.root {i = i} {e = e} x n) = linked .fine p i e x .root n
-  entry-fine p (EntryFault.freed {i = i} {e = e} x n) = omega (arith, n, linked .fine p i e x .freed)
-  entry-fine p (EntryFault.fresh {i = i} {e = e} x n) = omega (arith, n .1, linked .fine p i e x .fresh)
-  entry-fine p (EntryFault.named {i = i} {q = q} {j = j} {e = e} {f = u} x y n c) = n (linked .alone p i q j e u x y c)
+  entry-fine p (EntryFault.range {i = i} {e = e} x n) = n (w .linked .fine p i e x .range)
+  entry-fine p (EntryFault.level {i = i} {e = e} x n) = n (w .linked .fine p i e x .level)
+  entry-fine p (EntryFault.fill {i = i} {e = e} x n) = n (w .linked .fine p i e x .fill)
+  entry-fine p (EntryFault.first {i = i} {e = e} x n) = n (w .linked .fine p i e x .first)
+  entry-fine p (EntryFault.last {i = i} {e = e} x n) = n (w .linked .fine p i e x .last)
+  entry-fine p (EntryFault.root {i = i} {e = e} x n) = w .linked .fine p i e x .root n
+  entry-fine p (EntryFault.freed {i = i} {e = e} x n) = omega (arith, n, w .linked .fine p i e x .freed)
+  entry-fine p (EntryFault.fresh {i = i} {e = e} x n) = omega (arith, n .1, w .linked .fine p i e x .fresh)
+  entry-fine p (EntryFault.named {i = i} {q = q} {j = j} {e = e} {f = u} x y n c) = n (w .linked .alone p i q j e u x y c)
 
   no-fault : NoFault v
-  no-fault = record { features = s .header .features; rootFill = λ r. s .rootFill; entries = entry-fine }
+  no-fault = record { features = w .start .header .features; rootFill = λ r. w .start .rootFill; entries = entry-fine }
 
-  followed : Followed v (markedTo m (v .count))
-  followed = marked-followed v m a
+  -- the records counted are those of the tree
+  counted : length (live v) ≡ n
+  counted =
+      live-count v (view-stored b) (w .linked) (markedTo m (v .count)) (marked-followed v m (w .marks)) ∙ sym (w .points .count ∙ pairs-sum v m (v .count))
 
-  abbrev points : ℕ
-  points = sum (λ p. length (recordsOf (viewOf b .page p))) (markedTo m (viewOf b .count))
+  pub whole-total : {t : ℕ} → t ≡ viewOf b .total → ¬ (n ≡ t) → FailsAt (viewOf b) 0
+  whole-total e d = FailsAt.total no-fault (λ z. d (sym counted ∙ sym z ∙ sym e))
 
-  counted : length (live v) ≡ points
-  counted = live-count v (view-stored b) linked (markedTo m (v .count)) followed
+  pub whole-most : 65535 < n → FailsAt (viewOf b) 0
+  whole-most d = FailsAt.most no-fault (omega (arith, d, counted))
 
-  pub tree-total : {k t : ℕ} → k ≡ sum (λ p. length (recordsOf (viewOf b .page p))) (markedTo m (viewOf b .count)) → t ≡ viewOf b .total → ¬ (k ≡ t) → FailsAt (viewOf b) 0
-  tree-total e h d = FailsAt.total no-fault (λ z. d (e ∙ sym counted ∙ sym z ∙ sym h))
+  pub whole-lost : {p : ℕ} → Lost (viewOf b) p → FailsAt (viewOf b) p
+  whole-lost l = FailsAt.state no-fault (l .range) (l .reached) (l .freed) (l .fresh)
 
-  pub tree-most : {k : ℕ} → k ≡ sum (λ p. length (recordsOf (viewOf b .page p))) (markedTo m (viewOf b .count)) → 65535 < k → FailsAt (viewOf b) 0
-  tree-most e d = FailsAt.most no-fault (omega (arith, d, e, counted))
+  module _ {t : ℕ} (e : t ≡ viewOf b .total) (d : n ≡ t) (l : n ≤ 65535) where
+    pub whole-counted : ((z : ℕ) → IsPage (viewOf b) z → InState (viewOf b) z) → Counted (viewOf b) m
+    whole-counted st =
+        record { linked = w .linked; fine = w .fine; state = st; marks = w .marks; total = sym e ∙ sym d ∙ sym counted; most = omega (arith, e, d, l) }
 
-  lost-fails : {p : ℕ} → Lost v p → FailsAt v p
-  lost-fails l = FailsAt.state no-fault (l .range) (l .reached) (l .freed) (l .fresh)
+    pub whole-room : n ≤ length i
+    whole-room = omega (arith, e, d, l, w .ids (omega (arith, e, d, l)))
 
-  -- the end of the check but for identifiers
-  pub tree-done : {k t q c : ℕ} → k ≡ sum (λ p. length (recordsOf (viewOf b .page p))) (markedTo m (viewOf b .count)) → t ≡ viewOf b .total → k ≡ t → k ≤ 65535
-      → c ≡ pick (eqb q 0) 0 2 → Found ((z : ℕ) → IsPage (viewOf b) z → InState (viewOf b) z) (Lost (viewOf b)) q → Outcome (viewOf b) m (record { code = c; page = q })
-  tree-done e h d l x (nowhere st) =
-      subst (λ (k : ℕ). Outcome v m (record { code = k; page = 0 })) (sym x)
-      (Outcome.fine (record { linked = linked; fine = pages-fine; state = st; marks = a; total = sym h ∙ sym d ∙ e ∙ sym counted; most = omega (arith, h, d, l) }))
-  tree-done e h d l x (at q o lost) =
-      subst (λ (k : ℕ). Outcome v m (record { code = k; page = q })) (sym (x ∙ ap (λ (y : Bool). pick y 0 2) (ne-eqb q 0 (λ z. absurd (omega arith)))))
-      (Outcome.fails (lost-fails lost))
+    pub whole-collected : Collected (pairsTo (viewOf b) m (viewOf b .count)) n i h
+    whole-collected = w .points .held whole-room
 
 -- ---- RUNS OF ZEROS
 
-pub zeros-replicate : (n : ℕ) → Zeros (replicate n 0)
-zeros-replicate n = record { zero = nought n }
-  where
-    nought : (n q : ℕ) → getD {A = ℕ} (replicate n 0) q 0 ≡ 0
-    nought zero q = refl
-    nought (suc n) zero = refl
-    nought (suc n) (suc q) = nought n q
+nought : (n q : ℕ) → getD {A = ℕ} (replicate n 0) q 0 ≡ 0
+nought zero q = refl
+nought (suc n) zero = refl
+nought (suc n) (suc q) = nought n q
 
-pub zeros-clear : (v : View) (m : List ℕ) → Zeros m → v .count ≤ length m → Clear v m
-zeros-clear v m z h = record { size = h; none = λ q e. absurd (omega (arith, e, z .zero q)) }
+pub clear-zeros : (v : View) (n : ℕ) → v .count ≤ n → Clear v (replicate n 0)
+clear-zeros v n h = record { size = omega (arith, length-replicate {A = ℕ} n 0); none = nought n }
+
+pub lent-zeros : (v : View) (k n : ℕ) → v .count ≤ k → (v .total ≤ 65535 → v .total ≤ n) → Lent v (replicate k 0) (replicate k 0) (replicate k 0) (replicate n 0) (replicate n 0)
+lent-zeros v k n h f =
+    record { named = clear-zeros v k h; firsts = omega (arith, length-replicate {A = ℕ} k 0); lasts = omega (arith, length-replicate {A = ℕ} k 0); ids = λ l. omega (arith, length-replicate {A = ℕ} n 0, f l); holders = refl }

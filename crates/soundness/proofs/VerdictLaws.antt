@@ -1,5 +1,5 @@
--- The verdict, from the outcome of the links and from the identifiers. Assumes nothing.
-use mathlib.Core.Path.{_≡_, refl, sym, ap, _∙_, subst}
+-- The verdict, from what is known of all but identifiers, and from these. Assumes nothing.
+use mathlib.Core.Path.{_≡_, sym, ap, _∙_, subst}
 use mathlib.Core.Bool.{Bool}
 use mathlib.Core.List.{List, map}
 use Prim.Native.Nat.{ℕ, _≤_}
@@ -16,16 +16,7 @@ use Rattle.faults.specs.Faults.{FailsAt}
 use Rattle.faults.specs.Stored.{view-stored}
 use Rattle.faults.specs.Assembled.{linked-sound}
 use Rattle.sound_pages.specs.Judged.{Found, nowhere, at}
-use Rattle.soundness.specs.Outcome.{Counted, Outcome, Verdict}
-use Rattle.soundness.specs.declared.Checked.{Checked}
-
-pub outcome-fails : (b : List ℕ) {m : List ℕ} {r : Checked} → Outcome (viewOf b) m r → ¬ (r .code ≡ 0) → Verdict b r
-outcome-fails b (Outcome.fine c) n = absurd (n refl)
-outcome-fails b (Outcome.fails f) n = Verdict.fails f
-
-pub outcome-counted : (b : List ℕ) {m : List ℕ} {r : Checked} → Outcome (viewOf b) m r → r .code ≡ 0 → Counted (viewOf b) m
-outcome-counted b (Outcome.fine c) e = c
-outcome-counted b (Outcome.fails f) e = absurd (omega arith)
+use Rattle.soundness.specs.Outcome.{Counted, Verdict}
 
 counted-sound : (b m : List ℕ) → Counted (viewOf b) m → ((i : ℕ) → mult i (map identOf (live (viewOf b))) ≤ 1) → Permitted (length b) → SoundIndex b
 unfolding viewOf

@@ -1,11 +1,15 @@
--- The identifiers of the followed leaves, each with the page that holds it.
+-- The identifiers of the followed leaves, each with the page that holds it, and what the visit of the followed pages gives.
 use mathlib.Core.Path.{_≡_}
 use mathlib.Core.List.{List, [], _++_, map}
-use Prim.Native.Nat.{ℕ, zero, suc, _+_}
+use Prim.Native.Nat.{ℕ, zero, suc, _+_, _*_, _≤_}
 use lib.Dec.{eqb}
 use lib.ListN.{length, getD, take}
 use Rattle.lists.specs.Basics.{pick}
 use Rattle.pagestore.specs.Store.{recordsOf, View}
+use Rattle.faults.specs.Faults.{FailsAt}
+use Rattle.sound_pages.specs.Judged.{Found}
+use Rattle.sound_pages.specs.Marks.{PagesFine}
+use Rattle.soundness.specs.declared.Visit.{Visit}
 
 abbrev pub identOn : ℕ × ℕ → ℕ
 identOn x = x .0
@@ -19,7 +23,7 @@ pairsOn v p = map (λ r. (r .id, p)) (recordsOf (v .page p))
 
 -- those of page p, if it is marked in m
 unfoldable pub pairsIf : View → List ℕ → ℕ → List (ℕ × ℕ)
-pairsIf v m p = pick (eqb (getD m p 0) 1) (pairsOn v p) []
+pairsIf v m p = pick (eqb (getD m p 0) 0) [] (pairsOn v p)
 
 -- those of the marked pages below k, the lowest page first
 unfoldable pub pairsTo : View → List ℕ → ℕ → List (ℕ × ℕ)
@@ -37,3 +41,14 @@ pub record Collected (xs : List (ℕ × ℕ)) (n : ℕ) (ids holders : List ℕ)
   pub count : n ≡ length xs
   pub idents : take n ids ≡ map identOn xs
   pub pages : take n holders ≡ map holderOf xs
+
+-- the marked pages below p have n of them, which are collected where there is room
+pub record Gathered (v : View) (m : List ℕ) (p n : ℕ) (ids holders : List ℕ) : Type 0 where
+  pub few : n ≤ 16 * p
+  pub count : n ≡ length (pairsTo v m p)
+  pub held : n ≤ length ids → Collected (pairsTo v m p) n ids holders
+
+-- the answer of the visit: where each followed page is fine by itself, their ends are kept and their records counted
+abbrev pub Visited : View → List ℕ → List ℕ → List ℕ → List ℕ → List ℕ → Visit → Type 0
+Visited v m firsts lasts ids holders r =
+    Found (PagesFine v firsts lasts (v .count) × Gathered v m (v .count) (r .points) ids holders) (FailsAt v) (r .page)

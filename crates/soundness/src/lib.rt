@@ -1,35 +1,41 @@
 // The check: is an index sound, and if not, at which page does soundness fail?
 //
 // In phases, each of which ends at the first fault: the header; the chain of freed pages, which are marked; the root; `reach`, the only recursion, which marks
-// the pages that are followed; these pages in turn; the total; pages in no state; identifiers. Linear on any bytes.
+// the pages that are followed; these pages in turn, each by itself; their entries; the total; pages in no state; identifiers. Linear on any bytes.
 ghost use mathlib.Core.Path.{_≡_};
 ghost use Prim.Native.Nat.{_≤_};
 ghost use lib.Dec.{eqb};
-ghost use lib.ListN.{length};
 ghost use Rattle.lists.specs.Basics.{pick};
 ghost use Rattle.pagestore.specs.Store.{viewOf};
-ghost use Rattle.sound_pages.specs.Marks.{Clear};
-ghost use Rattle.soundness.specs.Outcome.{Start, Outcome, Verdict, Zeros};
-use ids::find_repeat;
+ghost use Rattle.sound_pages.specs.Marks.{Clear, MarksAre};
+ghost use Rattle.soundness.specs.Outcome.{Start, Lent, Whole, Verdict};
 use pagestore::features_of;
+use pagestore::page_count;
 use pagestore::root_level;
 use pagestore::root_page;
 use pagestore::total_records;
-use sound_pages::count_points;
+use repeats::lowest_repeat_of;
 use sound_pages::find_lost;
 use sound_pages::header_fine;
-use sound_pages::judge_pages;
+use sound_pages::judge_parents;
 use sound_pages::place;
 use sound_pages::reach;
 use sound_pages::root_filled;
 use sound_pages::walk_freed;
+use visiting::visit;
 
-mod ids;
+mod visiting;
 
 // The answer: code 0, or 2 with a page at which soundness fails.
 pub struct Checked {
     pub code: u8,
     pub page: u32,
+}
+
+// What the visit of the followed pages gives: a page that is not fine by itself, or 0, and the number of records.
+pub struct Visit {
+    pub page: u32,
+    pub points: usize,
 }
 
 fn code_of(page: u32) -> u8
@@ -38,18 +44,18 @@ fn code_of(page: u32) -> u8
     if page == 0 { 0 } else { 2 }
 }
 
-// The tree, below a root that has no fault of its own.
-fn check_tree(index: &[u8], marks: &mut [u8], freed: &[u8], named: &mut [u8]) -> Checked
-    requires { ⌜ Start (viewOf (now index)) (now freed) × Clear (viewOf (now index)) (now marks) × Clear (viewOf (now index)) (now named) ⌝ }
-    ensures { λ r. ⌜ Outcome (viewOf (now (index .entry))) (now (marks .exit)) r ⌝ }
+// What is judged of the whole, where no page and no entry has a fault: the total of n records, pages in no state, identifiers.
+fn check_whole(
+    index: &[u8],
+    n: usize,
+    marks: &[u16],
+    freed: &[u8],
+    ids: &[u32],
+    holders: &[u16],
+) -> Checked
+    requires { ⌜ Whole (viewOf (now index)) (now marks) (now freed) n (now ids) (now holders) ⌝ }
+    ensures { λ r. ⌜ Verdict (now (index .entry)) r ⌝ }
 {
-    reach(index, root_page(index), root_level(index), marks);
-    let d = features_of(index) as usize;
-    let p = judge_pages(index, d, marks, freed, named);
-    if p != 0 {
-        return Checked { code: 2, page: p };
-    }
-    let n = count_points(index, marks);
     let total = place(total_records(index));
     if n != total {
         return Checked { code: 2, page: 0 };
@@ -58,16 +64,108 @@ fn check_tree(index: &[u8], marks: &mut [u8], freed: &[u8], named: &mut [u8]) ->
         return Checked { code: 2, page: 0 };
     }
     let q = find_lost(index, marks, freed);
+    if q != 0 {
+        return Checked { code: 2, page: q };
+    }
+    let p = lowest_repeat_of(ids, holders, n) as u32;
     Checked {
-        code: code_of(q),
-        page: q,
+        code: code_of(p),
+        page: p,
     }
 }
 
-// All but identifiers.
-fn check_links(index: &[u8], marks: &mut [u8], freed: &mut [u8], named: &mut [u8]) -> Checked
-    requires { ⌜ Clear (viewOf (now index)) (now marks) × Clear (viewOf (now index)) (now freed) × Clear (viewOf (now index)) (now named) ⌝ }
-    ensures { λ r. ⌜ Outcome (viewOf (now (index .entry))) (now (marks .exit)) r ⌝ }
+// The tree, of which the followed pages are marked.
+fn check_tree(
+    index: &[u8],
+    marks: &[u16],
+    freed: &[u8],
+    named: &mut [u8],
+    firsts: &mut [u64],
+    lasts: &mut [u64],
+    ids: &mut [u32],
+    holders: &mut [u16],
+) -> Checked
+    requires { ⌜ Start (viewOf (now index)) (now freed) × MarksAre (viewOf (now index)) (now marks)
+        × Lent (viewOf (now index)) (now named) (now firsts) (now lasts) (now ids) (now holders) ⌝ }
+    ensures { λ r. ⌜ Verdict (now (index .entry)) r ⌝ }
+{
+    let d = features_of(index) as usize;
+    let v = visit(index, d, marks, firsts, lasts, ids, holders);
+    if v.page != 0 {
+        return Checked {
+            code: 2,
+            page: v.page,
+        };
+    }
+    let p = judge_parents(index, marks, freed, firsts, lasts, named);
+    if p != 0 {
+        return Checked { code: 2, page: p };
+    }
+    check_whole(index, v.points, marks, freed, ids, holders)
+}
+
+fn tree_few(index: &[u8], marks: &[u16], freed: &[u8]) -> Checked
+    requires { ⌜ Start (viewOf (now index)) (now freed) × MarksAre (viewOf (now index)) (now marks)
+        × (viewOf (now index) .count ≤ 1024) × (viewOf (now index) .total ≤ 4096) ⌝ }
+    ensures { λ r. ⌜ Verdict (now (index .entry)) r ⌝ }
+{
+    let mut named = [0u8; 1024];
+    let mut firsts = [0u64; 1024];
+    let mut lasts = [0u64; 1024];
+    let mut ids = [0u32; 4096];
+    let mut holders = [0u16; 4096];
+    check_tree(
+        index,
+        marks,
+        freed,
+        &mut named,
+        &mut firsts,
+        &mut lasts,
+        &mut ids,
+        &mut holders,
+    )
+}
+
+fn tree_many(index: &[u8], marks: &[u16], freed: &[u8]) -> Checked
+    requires { ⌜ Start (viewOf (now index)) (now freed) × MarksAre (viewOf (now index)) (now marks) ⌝ }
+    ensures { λ r. ⌜ Verdict (now (index .entry)) r ⌝ }
+{
+    let mut named = [0u8; 16384];
+    let mut firsts = [0u64; 16384];
+    let mut lasts = [0u64; 16384];
+    let mut ids = [0u32; 65535];
+    let mut holders = [0u16; 65535];
+    check_tree(
+        index,
+        marks,
+        freed,
+        &mut named,
+        &mut firsts,
+        &mut lasts,
+        &mut ids,
+        &mut holders,
+    )
+}
+
+// The tree below a root that has no fault of its own. A small index is spared the room for 16,384 pages and 65,535 points.
+fn follow(index: &[u8], marks: &mut [u16], freed: &[u8]) -> Checked
+    requires { ⌜ Start (viewOf (now index)) (now freed) × Clear (viewOf (now index)) (now marks) ⌝ }
+    ensures { λ r. ⌜ Verdict (now (index .entry)) r ⌝ }
+{
+    reach(index, root_page(index), root_level(index), marks);
+    if 1024 < page_count(index) {
+        return tree_many(index, marks, freed);
+    }
+    if 4096 < total_records(index) {
+        return tree_many(index, marks, freed);
+    }
+    tree_few(index, marks, freed)
+}
+
+// The whole check, with two lent runs of zeros that have a place for each page.
+fn check_in(index: &[u8], marks: &mut [u16], freed: &mut [u8]) -> Checked
+    requires { ⌜ Clear (viewOf (now index)) (now marks) × Clear (viewOf (now index)) (now freed) ⌝ }
+    ensures { λ r. ⌜ Verdict (now (index .entry)) r ⌝ }
 {
     if !header_fine(index) {
         return Checked { code: 2, page: 0 };
@@ -86,31 +184,32 @@ fn check_links(index: &[u8], marks: &mut [u8], freed: &mut [u8], named: &mut [u8
             page: root,
         };
     }
-    check_tree(index, marks, freed, named)
+    follow(index, marks, freed)
 }
 
-// The whole check, with three lent runs of zeros that have a place for each page.
-fn check_in(index: &[u8], marks: &mut [u8], freed: &mut [u8], named: &mut [u8]) -> Checked
-    requires { ⌜ (length (now marks) ≡ 16384) × (length (now freed) ≡ 16384) × (length (now named) ≡ 16384) × Zeros (now marks) × Zeros (now freed) × Zeros (now named) ⌝ }
+fn check_few(index: &[u8]) -> Checked
+    requires { ⌜ viewOf (now index) .count ≤ 1024 ⌝ }
     ensures { λ r. ⌜ Verdict (now (index .entry)) r ⌝ }
 {
-    let r = check_links(index, marks, freed, named);
-    if r.code != 0 {
-        return r;
-    }
-    let q = find_repeat(index, marks);
-    Checked {
-        code: code_of(q),
-        page: q,
-    }
+    let mut marks = [0u16; 1024];
+    let mut freed = [0u8; 1024];
+    check_in(index, &mut marks, &mut freed)
+}
+
+fn check_many(index: &[u8]) -> Checked
+    ensures { λ r. ⌜ Verdict (now (index .entry)) r ⌝ }
+{
+    let mut marks = [0u16; 16384];
+    let mut freed = [0u8; 16384];
+    check_in(index, &mut marks, &mut freed)
 }
 
 // Is the index sound? The length is for the caller to test: of one that is not permitted, 0 says nothing.
 pub fn check(index: &[u8]) -> Checked
     ensures { λ r. ⌜ Verdict (now (index .entry)) r ⌝ }
 {
-    let mut marks = [0u8; 16384];
-    let mut freed = [0u8; 16384];
-    let mut named = [0u8; 16384];
-    check_in(index, &mut marks, &mut freed, &mut named)
+    if page_count(index) <= 1024 {
+        return check_few(index);
+    }
+    check_many(index)
 }

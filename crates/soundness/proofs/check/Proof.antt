@@ -1,31 +1,31 @@
-use mathlib.Core.Path.{refl}
-use Prim.Native.Nat.{_-_}
+use Rattle.pagestore.specs.Store.{viewOf}
 use borrow.Author.Needs.{needs}
-use Rattle.soundness.proofs.FinishLaws.{zeros-replicate}
+use native.Mathlib.Omega.{arith}
 use Rattle.soundness.proofs.check.Statement.{statement}
 use Rattle.soundness.proofs.check.Tie as tie
 
-slice-aggregate-check-in : tie.Need-slice-aggregate-check-in
-slice-aggregate-check-in c = search needs
+page-count-requires : tie.Need-page-count-requires
+page-count-requires c κs = search needs
 
-slice-aggregate-check-in-2 : tie.Need-slice-aggregate-check-in-2
-slice-aggregate-check-in-2 c = search needs
-
-slice-aggregate-check-in-3 : tie.Need-slice-aggregate-check-in-3
-slice-aggregate-check-in-3 c = search needs
-
-check-in-requires : tie.Need-check-in-requires
-check-in-requires c κs = (refl, refl, refl, zeros-replicate 16384, zeros-replicate 16384, zeros-replicate 16384)
+check-few-requires : tie.Need-check-few-requires
+unfolding viewOf
+check-few-requires c κs = omega (arith, c .before .page-count .ensures, c .if1 .taken)
 
 returns : tie.Need-returns
-returns c = c .before .before .before .check-in .ensures
+returns c = c .check-few .ensures
+
+check-many-requires : tie.Need-check-many-requires
+check-many-requires c κs = search needs
+
+returns-2 : tie.Need-returns-2
+returns-2 c = c .check-many .ensures
 
 pub check-spec : {M : Type 1} → statement M
 check-spec =
     tie.close
     (tie.spec
-    slice-aggregate-check-in
-    slice-aggregate-check-in-2
-    slice-aggregate-check-in-3
-    check-in-requires
-    returns)
+    page-count-requires
+    check-few-requires
+    returns
+    check-many-requires
+    returns-2)

@@ -1,23 +1,12 @@
-use mathlib.Core.Path.{_∙_}
-use Prim.Native.Nat.{_-_}
-use native.Mathlib.Omega.{arith}
-use Rattle.sound_pages.proofs.JudgeLaws.{found-at, found-nowhere}
 use Rattle.pagestore.specs.Store.{viewOf}
-use Rattle.soundness.proofs.FinishLaws.{ready-root, grown-marks, tree-total, tree-most, tree-done}
-use Rattle.soundness.specs.Outcome.{Outcome}
+use Rattle.sound_pages.proofs.JudgeLaws.{found-at, found-nowhere}
+use Rattle.soundness.proofs.FinishLaws.{whole}
+use Rattle.soundness.specs.Outcome.{Verdict}
+use Rattle.trees.specs.Trees.{pages}
 use borrow.Author.Needs.{needs}
+use native.Mathlib.Omega.{arith}
 use Rattle.soundness.proofs.check_tree.Statement.{statement}
 use Rattle.soundness.proofs.check_tree.Tie as tie
-
-root-page-requires : tie.Need-root-page-requires
-root-page-requires c κs = search needs
-
-root-level-requires : tie.Need-root-level-requires
-root-level-requires c κs = search needs
-
-reach-requires : tie.Need-reach-requires
-unfolding viewOf
-reach-requires c κs = let s = (c .before .before .before .before .before .before .before) in let b = s .args .index .now in let T = s .pre .0 in ready-root (viewOf b) T (s .pre .1) (c .before .before .root-page .ensures) (c .before .root-level .ensures)
 
 features-of-requires : tie.Need-features-of-requires
 features-of-requires c κs = search needs
@@ -25,9 +14,9 @@ features-of-requires c κs = search needs
 cast-d : tie.Need-cast-d
 cast-d c = search needs
 
-judge-pages-requires : tie.Need-judge-pages-requires
+visit-requires : tie.Need-visit-requires
 unfolding viewOf
-judge-pages-requires c κs = let s = (c .before .before .before .before .before .before .before .before .before .before .before .before .before) in let b = s .args .index .now in let T = s .pre .0 in let M = grown-marks (viewOf b) (c .before .before .before .before .before .before .before .before .root-page .ensures) (c .before .before .before .before .before .reach .ensures) in (omega (arith, T .header .root .0, T .header .root .1), c .before .before .features-of .ensures, M, T .freed .marks, s .pre .2)
+visit-requires c κs = let s = (c .before .before .before .before .before .before .before .before .before .before .before .before .before) in let b = s .args .index .now in let T = s .pre .0 in let N = s .pre .2 in (omega (arith, T .header .root .0, T .header .root .1), c .before .before .before .before .features-of .ensures, s .pre .1, N .firsts, N .lasts, N .holders)
 
 same-length : tie.Need-same-length
 same-length c = search needs
@@ -35,28 +24,17 @@ same-length c = search needs
 same-length-2 : tie.Need-same-length-2
 same-length-2 c = search needs
 
-returns : tie.Need-returns
-returns c = Outcome.fails (found-at (c .before .before .before .judge-pages .ensures) (c .if1 .taken))
-
-count-points-requires : tie.Need-count-points-requires
-unfolding viewOf
-count-points-requires c κs = let s = (c .before .before .before .before .before .before .before .before .before .before .before .before .before .before .before .before .before .before) in let b = s .args .index .now in let T = s .pre .0 in let M = grown-marks (viewOf b) (c .before .before .before .before .before .before .before .before .before .before .before .before .before .root-page .ensures) (c .before .before .before .before .before .before .before .before .before .before .reach .ensures) in M
-
-total-records-requires : tie.Need-total-records-requires
-total-records-requires c κs = search needs
-
-place-requires : tie.Need-place-requires
-place-requires c κs = search needs
-
 same-length-3 : tie.Need-same-length-3
 same-length-3 c = search needs
 
 same-length-4 : tie.Need-same-length-4
 same-length-4 c = search needs
 
-returns-2 : tie.Need-returns-2
-unfolding viewOf
-returns-2 c = let s = (c .before .before .before .before .before .before .before .before .before .before .before .before .before .before .before .before .before .before .before .before .before .before) in let b = s .args .index .now in let T = s .pre .0 in let M = grown-marks (viewOf b) (c .before .before .before .before .before .before .before .before .before .before .before .before .before .before .before .before .before .root-page .ensures) (c .before .before .before .before .before .before .before .before .before .before .before .before .before .before .reach .ensures) in let G = found-nowhere (c .before .before .before .before .before .before .before .before .judge-pages .ensures) (c .before .before .before .before .before .if1 .left) in let t = c .before .place .ensures ∙ c .before .before .total-records .ensures in let n = c .before .before .before .count-points .ensures in Outcome.fails (tree-total b T M G n t (c .if2 .taken))
+returns : tie.Need-returns
+returns c = Verdict.fails (found-at (c .before .before .before .before .before .before .before .before .before .before .visit .ensures) (c .if1 .taken))
+
+judge-parents-requires : tie.Need-judge-parents-requires
+judge-parents-requires c κs = let s = (c .before .before .before .before .before .before .before .before .before .before .before .before .before .before .before .before .before .before .before .before .before .before .before .before .before .before .before) in let b = s .args .index .now in let T = s .pre .0 in let N = s .pre .2 in let P = c .before .before .before .before .before .before .before .before .before .before .before .before .before .visit in let g = found-nowhere (P .ensures) (c .before .before .before .if1 .left) in (omega (arith, T .header .root .0, T .header .root .1), record { marks = s .pre .1; freed = T .freed .marks; pages = g .0; fresh = T .header .fresh .1 }, N .named)
 
 same-length-5 : tie.Need-same-length-5
 same-length-5 c = search needs
@@ -64,51 +42,62 @@ same-length-5 c = search needs
 same-length-6 : tie.Need-same-length-6
 same-length-6 c = search needs
 
-returns-3 : tie.Need-returns-3
-unfolding viewOf
-returns-3 c = let s = (c .before .before .before .before .before .before .before .before .before .before .before .before .before .before .before .before .before .before .before .before .before .before .before) in let b = s .args .index .now in let T = s .pre .0 in let M = grown-marks (viewOf b) (c .before .before .before .before .before .before .before .before .before .before .before .before .before .before .before .before .before .before .root-page .ensures) (c .before .before .before .before .before .before .before .before .before .before .before .before .before .before .before .reach .ensures) in let G = found-nowhere (c .before .before .before .before .before .before .before .before .before .judge-pages .ensures) (c .before .before .before .before .before .before .if1 .left) in let t = c .before .before .place .ensures ∙ c .before .before .before .total-records .ensures in let n = c .before .before .before .before .count-points .ensures in Outcome.fails (tree-most b T M G n (c .if3 .taken))
-
-find-lost-requires : tie.Need-find-lost-requires
-unfolding viewOf
-find-lost-requires c κs = let s = (c .before .before .before .before .before .before .before .before .before .before .before .before .before .before .before .before .before .before .before .before .before .before .before .before) in let b = s .args .index .now in let T = s .pre .0 in let M = grown-marks (viewOf b) (c .before .before .before .before .before .before .before .before .before .before .before .before .before .before .before .before .before .before .before .root-page .ensures) (c .before .before .before .before .before .before .before .before .before .before .before .before .before .before .before .before .reach .ensures) in (M, T .freed .marks, T .header .fresh .0, T .header .fresh .1)
-
-code-of-requires : tie.Need-code-of-requires
-code-of-requires c κs = search needs
-
 same-length-7 : tie.Need-same-length-7
 same-length-7 c = search needs
 
 same-length-8 : tie.Need-same-length-8
 same-length-8 c = search needs
 
-returns-4 : tie.Need-returns-4
-unfolding viewOf
-returns-4 c = let s = (c .before .before .before .before .before .before .before .before .before .before .before .before .before .before .before .before .before .before .before .before .before .before .before .before .before .before) in let b = s .args .index .now in let T = s .pre .0 in let M = grown-marks (viewOf b) (c .before .before .before .before .before .before .before .before .before .before .before .before .before .before .before .before .before .before .before .before .before .root-page .ensures) (c .before .before .before .before .before .before .before .before .before .before .before .before .before .before .before .before .before .before .reach .ensures) in let G = found-nowhere (c .before .before .before .before .before .before .before .before .before .before .before .before .judge-pages .ensures) (c .before .before .before .before .before .before .before .before .before .if1 .left) in let t = c .before .before .before .before .before .place .ensures ∙ c .before .before .before .before .before .before .total-records .ensures in let n = c .before .before .before .before .before .before .before .count-points .ensures in tree-done b T M G n t (c .before .before .before .before .if2 .left) (c .before .before .before .if3 .left) (c .code-of .ensures) (c .before .find-lost .ensures)
+same-length-9 : tie.Need-same-length-9
+same-length-9 c = search needs
+
+returns-2 : tie.Need-returns-2
+returns-2 c = Verdict.fails (found-at (c .before .before .before .judge-parents .ensures) (c .if2 .taken))
+
+check-whole-requires : tie.Need-check-whole-requires
+check-whole-requires c κs = let s = (c .before .before .before .before .before .before .before .before .before .before .before .before .before .before .before .before .before .before .before .before .before .before .before .before .before .before .before .before .before .before .before .before .before) in let b = s .args .index .now in let T = s .pre .0 in let N = s .pre .2 in let P = c .before .before .before .before .before .before .before .before .before .before .before .before .before .before .before .before .before .before .before .visit in let g = found-nowhere (P .ensures) (c .before .before .before .before .before .before .before .before .before .if1 .left) in let e = P .kept .1 .1 .1 .1 .1 .0 in let h = P .kept .1 .1 .1 .1 .1 .1 .0 in whole b T (s .pre .1) g (found-nowhere (c .before .before .before .before .before .judge-parents .ensures) (c .before .before .if2 .left)) (λ l. omega (arith, e, N .ids l)) (omega (arith, e, h, N .holders))
+
+same-length-10 : tie.Need-same-length-10
+same-length-10 c = search needs
+
+same-length-11 : tie.Need-same-length-11
+same-length-11 c = search needs
+
+same-length-12 : tie.Need-same-length-12
+same-length-12 c = search needs
+
+same-length-13 : tie.Need-same-length-13
+same-length-13 c = search needs
+
+same-length-14 : tie.Need-same-length-14
+same-length-14 c = search needs
+
+returns-3 : tie.Need-returns-3
+returns-3 c = c .check-whole .ensures
 
 pub check-tree-spec : {M : Type 1} → statement M
 check-tree-spec =
     tie.close
     (tie.spec
-    root-page-requires
-    root-level-requires
-    reach-requires
     features-of-requires
     cast-d
-    judge-pages-requires
+    visit-requires
     same-length
     same-length-2
-    returns
-    count-points-requires
-    total-records-requires
-    place-requires
     same-length-3
     same-length-4
-    returns-2
+    returns
+    judge-parents-requires
     same-length-5
     same-length-6
-    returns-3
-    find-lost-requires
-    code-of-requires
     same-length-7
     same-length-8
-    returns-4)
+    same-length-9
+    returns-2
+    check-whole-requires
+    same-length-10
+    same-length-11
+    same-length-12
+    same-length-13
+    same-length-14
+    returns-3)

@@ -8,7 +8,7 @@ use Rattle.sound_pages.specs.Judged.{Found}
 use borrow.Author.Tests.{not-true, not-false}
 use Rattle.pagestore.specs.Store.{viewOf}
 use Rattle.faults.specs.Faults.{IsPage}
-use Rattle.sound_pages.specs.Marks.{Marked}
+use Rattle.sound_pages.specs.Marks.{Marked, Seen}
 use Rattle.sound_pages.proofs.TurnLaws.{state-more, state-of, state-lost, state-all}
 use Rattle.sound_pages.proofs.pages.find_lost.Statement.{statement}
 use Rattle.sound_pages.proofs.pages.find_lost.Tie as tie
@@ -35,7 +35,7 @@ in-state-requires c κs = let s = (c .before .before .before .before .before .be
 
 returns : tie.Need-returns Inv-loop μ-loop
 unfolding viewOf
-returns c = let s = (c .before .before .before .before .before .before .before .before .before) in let b = s .args .index .now in let m = s .args .marks .now in let f = s .args .freed .now in let L = c .before .before .before .before .loop in let A = c .before .before .place .ensures in let h = c .before .before .before .loop-test .taken in Found.at (L .p) (L .inv .1) (state-lost (viewOf b) m f (s .pre .0) (s .pre .1) (subst (λ (q : ℕ). (¬ Marked m q) × (¬ Marked f q)) A (faults (c .before .in-state .ensures) (not-true _ (c .if1 .taken)))) (L .inv .1, omega (arith, h, c .before .before .before .before .before .fresh-page .ensures, s .pre .3)) (omega (arith, h, c .before .before .before .before .before .fresh-page .ensures)))
+returns c = let s = (c .before .before .before .before .before .before .before .before .before) in let b = s .args .index .now in let m = s .args .marks .now in let f = s .args .freed .now in let L = c .before .before .before .before .loop in let A = c .before .before .place .ensures in let h = c .before .before .before .loop-test .taken in Found.at (L .p) (L .inv .1) (state-lost (viewOf b) m f (s .pre .0) (s .pre .1) (subst (λ (q : ℕ). (¬ Seen m q) × (¬ Marked f q)) A (faults (c .before .in-state .ensures) (not-true _ (c .if1 .taken)))) (L .inv .1, omega (arith, h, c .before .before .before .before .before .fresh-page .ensures, s .pre .3)) (omega (arith, h, c .before .before .before .before .before .fresh-page .ensures)))
 
 add-p : tie.Need-add-p Inv-loop μ-loop
 add-p c = omega (arith, c .before .before .before .loop-test .taken)
@@ -44,7 +44,7 @@ loop-less : tie.Need-loop-less Inv-loop μ-loop
 loop-less c = omega (arith, c .before .before .before .loop-test .taken)
 
 loop-again : tie.Need-loop-again Inv-loop μ-loop
-loop-again c = let s = (c .before .before .before .before .before .before .before .before .before) in let b = s .args .index .now in let m = s .args .marks .now in let f = s .args .freed .now in let L = c .before .before .before .before .loop in let A = c .before .before .place .ensures in (state-more (viewOf b) (L .inv .0) (state-of (viewOf b) m f (s .pre .0) (s .pre .1) (subst (λ (q : ℕ). Marked m q ⊎ Marked f q) A (passes (c .before .in-state .ensures) (not-false _ (c .if1 .left))))), omega arith, omega (arith, c .before .before .before .loop-test .taken))
+loop-again c = let s = (c .before .before .before .before .before .before .before .before .before) in let b = s .args .index .now in let m = s .args .marks .now in let f = s .args .freed .now in let L = c .before .before .before .before .loop in let A = c .before .before .place .ensures in (state-more (viewOf b) (L .inv .0) (state-of (viewOf b) m f (s .pre .0) (s .pre .1) (subst (λ (q : ℕ). Seen m q ⊎ Marked f q) A (passes (c .before .in-state .ensures) (not-false _ (c .if1 .left))))), omega arith, omega (arith, c .before .before .before .loop-test .taken))
 
 returns-2 : tie.Need-returns-2 Inv-loop μ-loop
 unfolding viewOf

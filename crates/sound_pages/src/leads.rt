@@ -1,0 +1,79 @@
+// The keys of the records of a leaf, by the greatest leads of their coordinates: column by column, all records of the leaf together.
+ghost use mathlib.Core.Path.{_≡_};
+ghost use Prim.Native.Nat.{_+_, _-_, _*_, _<_, _≤_};
+ghost use lib.ListN.{length, getD};
+ghost use Rattle.lists.specs.Basics.{pick};
+ghost use Rattle.pagestore.specs.Layout.{leafOf};
+ghost use Rattle.pagestore.specs.LayoutLaws.{noRecord};
+ghost use Rattle.trees.specs.Trees.{keyOf};
+ghost use Rattle.sound_pages.specs.Leads.{leadOf, leadTo, Leads};
+use geometry::Height;
+use geometry::Key;
+use geometry::Pyramid;
+use geometry::points::greater;
+use geometry::points::magnitude;
+use pagestore::read_coord;
+use pagestore::read_ident;
+
+// How many records are looked at together: so compiled, a loop over them has lanes and no rest.
+pub fn lanes(n: usize) -> usize
+    requires { ⌜ n ≤ 16 ⌝ }
+    ensures { λ r. ⌜ (n ≤ r) × (r ≤ 16) ⌝ }
+{
+    if n <= 8 { 8 } else { 16 }
+}
+
+// The lead of coordinate m of record i: its magnitude, followed by how far m is below 15.
+fn lead(page: &[u8], m: usize, i: usize) -> u16
+    requires { ⌜ (length (now page) ≡ 1024) × (m < 16) × (i < 16) ⌝ }
+    ensures { λ r. ⌜ r ≡ leadOf m (getD (leafOf (now (page .entry)) .records) i noRecord .coords) ⌝ }
+{
+    let h = magnitude(read_coord(page, m, i));
+    h * 16 + (15 - m as u16)
+}
+
+// The greatest leads of the first n records, with coordinate m.
+fn lead_column(page: &[u8], m: usize, n: usize, tops: &mut [u16])
+    requires { ⌜ (length (now page) ≡ 1024) × (m < 16) × (n ≤ 16) × Leads (leafOf (now page)) m n (now tops) ⌝ }
+    ensures { λ _. ⌜ Leads (leafOf (now (page .entry))) (m + 1) n (now (tops .exit)) ⌝ }
+{
+    let mut i = 0;
+    while i < n {
+        tops[i] = greater(tops[i], lead(page, m, i));
+        i += 1;
+    }
+}
+
+// The same with each of the first d coordinates.
+pub fn lead_columns(page: &[u8], d: usize, n: usize, tops: &mut [u16])
+    requires { ⌜ (length (now page) ≡ 1024) × (d ≤ 16) × (n ≤ 16) × Leads (leafOf (now page)) 0 n (now tops) ⌝ }
+    ensures { λ _. ⌜ Leads (leafOf (now (page .entry))) d n (now (tops .exit)) ⌝ }
+{
+    let mut m = 0;
+    while m < d {
+        lead_column(page, m, n, tops);
+        m += 1;
+    }
+}
+
+// The number of the pyramid on axis j of d, on the side below 0 or not.
+fn pyramid_on(j: usize, d: usize, below: bool) -> u8
+    requires { ⌜ (j < d) × (d ≤ 16) ⌝ }
+    ensures { λ r. ⌜ r ≡ pick below j (j + d) ⌝ }
+{
+    if below { j as u8 } else { (j + d) as u8 }
+}
+
+// The key of record i with d features, by its greatest lead.
+pub fn lead_key(page: &[u8], top: u16, i: usize, d: usize) -> Key
+    requires { ⌜ (length (now page) ≡ 1024) × (i < 16) × (1 ≤ d) × (d ≤ 16) × (top ≡ leadTo d (getD (leafOf (now page) .records) i noRecord .coords)) ⌝ }
+    ensures { λ k. ⌜ k ≡ keyOf d (getD (leafOf (now (page .entry)) .records) i noRecord) ⌝ }
+{
+    let j = 15 - (top % 16) as usize;
+    let below = read_coord(page, j, i) < 1000;
+    Key {
+        pyramid: Pyramid(pyramid_on(j, d, below)),
+        height: Height(top / 16),
+        id: read_ident(page, i),
+    }
+}
