@@ -41,4 +41,4 @@ upward-seventeen e h b lent four =
 
 -- p-examples: every example of the list holds
 pub p-examples : All Holds examples
-p-examples = all-append (all-mapped figure geometry.examples geometry-laws.p-examples) (all-mapped asked search.examples (all-map upward-seventeen search-laws.answers-hold))
+p-examples = all-append (all-mapped figure geometry.examples geometry-laws.figures-hold) (all-mapped asked search.examples (all-map upward-seventeen search-laws.answers-hold))
