@@ -23,7 +23,7 @@ use Rattle.pagestore.specs.Fits.{RecordFits}
 use Rattle.pagestore.specs.Layout.{leafOf}
 use Rattle.pagestore.specs.LayoutLaws.{noRecord, leaf-fits, leaf-slots}
 use Rattle.search.specs.Steps.{Asked}
-use Rattle.search.specs.Columns.{coordsAt, costFrom, gapSquare, mostCost, Sized, Sums, notPast, BehindPast}
+use Rattle.search.specs.Columns.{coordsAt, costFrom, gapSquare, mostCost, Sized, Sums, costSpan, quartersLeft, Quarters, notPast, BehindPast}
 
 -- the square of a gap below 2,048
 pub square-most : (x y : ℕ) → x < 2048 → y < 2048 → gapSquare x y ≤ mostCost
@@ -42,36 +42,56 @@ pub cost-more : (page q : List ℕ) (m r : ℕ) → m < length q → length q �
 unfolding costFrom
 cost-more page q m r h l g = dist-more q (coordsAt page r) m h (omega (arith, coords-slots page r g))
 
--- four of them
-pub cost-four : (page q : List ℕ) (m r : ℕ) → m + 4 ≤ length q → length q ≤ 16 → r < 16
-    → costFrom page q m r ≡ ((gapSquare (getD q m 0) (getD (coordsAt page r) m 0) + gapSquare (getD q (m + 1) 0) (getD (coordsAt page r) (m + 1) 0))
-    + (gapSquare (getD q (m + 2) 0) (getD (coordsAt page r) (m + 2) 0) + gapSquare (getD q (m + 3) 0) (getD (coordsAt page r) (m + 3) 0))) + costFrom page q (m + 4) r
-cost-four page q m r h l g =
-    let step : (k j : ℕ) → k < length q → k + 1 ≡ j → costFrom page q k r ≡ gapSquare (getD q k 0) (getD (coordsAt page r) k 0) + costFrom page q j r =
-    λ k j u e. cost-more page q k r u l g ∙ ap (λ (x : ℕ). gapSquare (getD q k 0) (getD (coordsAt page r) k 0) + costFrom page q x r) e in
-    let a = step m (m + 1) (omega arith) refl in
-    let b = step (m + 1) (m + 2) (omega arith) (omega arith) in
-    let c = step (m + 2) (m + 3) (omega arith) (omega arith) in
-    let e = step (m + 3) (m + 4) (omega arith) (omega arith) in
-    omega (arith, a, b, c, e)
+-- a coordinate more of a run
+span-more : (page q : List ℕ) (a n k b r : ℕ) → k ≡ suc n → suc a ≡ b → costSpan page q a k r ≡ gapSquare (getD q a 0) (getD (coordsAt page r) a 0) + costSpan page q b n r
+unfolding costSpan
+span-more page q a n k b r e f = rw (e, sym f)
+
+-- a run, and what comes behind it
+span-join : (page q : List ℕ) (a n r : ℕ) → a + n ≤ length q → length q ≤ 16 → r < 16 → costFrom page q a r ≡ costSpan page q a n r + costFrom page q (a + n) r
+unfolding costSpan
+span-join page q a zero r h l g = let e : costFrom page q a r ≡ costFrom page q (a + 0) r = ap (λ (x : ℕ). costFrom page q x r) (omega arith) in omega (arith, e)
+span-join page q a (suc n) r h l g =
+    let e = cost-more page q a r (omega arith) l g in
+    let f : costFrom page q (a + 1) r ≡ costSpan page q (suc a) n r + costFrom page q (a + suc n) r =
+    ap (λ (x : ℕ). costFrom page q x r) (omega arith) ∙ span-join page q (suc a) n r (omega arith) l g ∙ ap (λ (x : ℕ). costSpan page q (suc a) n r + costFrom page q x r) (omega arith) in
+    omega (arith, e, f)
+
+-- before the first turn all is left, after the last what is behind the quarters
+quarters-all : (page q : List ℕ) (s r : ℕ) → 4 * s ≤ length q → length q ≤ 16 → r < 16 → quartersLeft page q s 0 r ≡ costFrom page q 0 r
+unfolding quartersLeft
+quarters-all page q s r h l g =
+    let join : (a b : ℕ) → a + s ≡ b → b ≤ length q → costFrom page q a r ≡ costSpan page q a (s - 0) r + costFrom page q b r =
+    λ a b e f. let w : a + (s - 0) ≡ b = omega arith in span-join page q a (s - 0) r (omega arith) l g ∙ ap (λ (x : ℕ). costSpan page q a (s - 0) r + costFrom page q x r) w in
+    let w = join 0 (0 + s) (omega arith) (omega arith) in
+    let x = join (0 + s) (0 + s + s) (omega arith) (omega arith) in
+    let y = join (0 + s + s) (0 + s + s + s) (omega arith) (omega arith) in
+    let z = join (0 + s + s + s) (4 * s) (omega arith) (omega arith) in
+    omega (arith, w, x, y, z)
+
+quarters-none : (page q : List ℕ) (s m r : ℕ) → s ≤ m → quartersLeft page q s m r ≡ costFrom page q (4 * s) r
+unfolding quartersLeft costSpan
+quarters-none page q s m r h = let e : s - m ≡ 0 = omega arith in rw e (omega arith)
 
 pub cost-end : (page q : List ℕ) (r : ℕ) → costFrom page q (length q) r ≡ 0
 unfolding costFrom
 cost-end page q r = dist-end q (coordsAt page r) (length q) (le-refl (length q))
 
--- k coordinates have been added to the sums below i, none to those from i on
-pub record Adding (page q : List ℕ) (m k n i : ℕ) (sums : List ℕ) : Type 0 where
+-- something has been added to the sums below i, nothing to those from i on: before, after: what is left to add for each record; lo, hi: so many coordinates
+-- have been added
+pub record Adding (before after whole : ℕ → ℕ) (lo hi n i : ℕ) (sums : List ℕ) : Type 0 where
   pub slots : length sums ≡ 16
-  pub done : (r : ℕ) → r < i → (getD sums r 0 + costFrom page q (m + k) r ≡ costFrom page q 0 r) × (getD sums r 0 ≤ mostCost * (m + k))
-  pub todo : (r : ℕ) → i ≤ r → r < n → (getD sums r 0 + costFrom page q m r ≡ costFrom page q 0 r) × (getD sums r 0 ≤ mostCost * m)
+  pub done : (r : ℕ) → r < i → (getD sums r 0 + after r ≡ whole r) × (getD sums r 0 ≤ mostCost * hi)
+  pub todo : (r : ℕ) → i ≤ r → r < n → (getD sums r 0 + before r ≡ whole r) × (getD sums r 0 ≤ mostCost * lo)
 
-module _ (page q : List ℕ) (m k n : ℕ) where
-  pub adding-start : (sums : List ℕ) → Sums page q m n sums → Adding page q m k n 0 sums
-  adding-start sums s = record { slots = s .slots; done = λ r h. absurd (omega arith); todo = λ r l h. (s .each r h, s .low r h) }
+module _ (before after whole : ℕ → ℕ) (lo hi n : ℕ) where
+  pub adding-start : (sums : List ℕ) → length sums ≡ 16 → ((r : ℕ) → r < n → getD sums r 0 + before r ≡ whole r) → ((r : ℕ) → r < n → getD sums r 0 ≤ mostCost * lo)
+      → Adding before after whole lo hi n 0 sums
+  adding-start sums l e f = record { slots = l; done = λ r h. absurd (omega arith); todo = λ r l h. (e r h, f r h) }
 
-  -- c, the cost of k coordinates, is added to the sum at i
-  pub adding-next : (i c : ℕ) (sums : List ℕ) → i < n → n ≤ 16 → costFrom page q m i ≡ c + costFrom page q (m + k) i → c ≤ mostCost * k → Adding page q m k n i sums
-      → Adding page q m k n (i + 1) (set sums i (getD sums i 0 + c))
+  -- c is added to the sum at i
+  pub adding-next : (i c : ℕ) (sums : List ℕ) → i < n → n ≤ 16 → before i ≡ c + after i → c + mostCost * lo ≤ mostCost * hi → Adding before after whole lo hi n i sums
+      → Adding before after whole lo hi n (i + 1) (set sums i (getD sums i 0 + c))
   adding-next i c sums h f e l a =
       record {
         slots = length-set sums i (getD sums i 0 + c) ∙ a .slots;
@@ -79,21 +99,75 @@ module _ (page q : List ℕ) (m k n : ℕ) where
         todo = λ r g t. rw (getD-set-other sums i r (getD sums i 0 + c) 0 (omega arith)) (a .todo r (omega arith) t);
       }
     where
-      here : (r : ℕ) → r ≡ i → (getD (set sums i (getD sums i 0 + c)) r 0 + costFrom page q (m + k) r ≡ costFrom page q 0 r) × (getD (set sums i (getD sums i 0 + c)) r 0 ≤ mostCost * (m + k))
+      here : (r : ℕ) → r ≡ i → (getD (set sums i (getD sums i 0 + c)) r 0 + after r ≡ whole r) × (getD (set sums i (getD sums i 0 + c)) r 0 ≤ mostCost * hi)
       here r z =
           let s = a .slots in
           let w = a .todo i (le-refl i) h in
           rw (z, getD-set-same sums i (getD sums i 0 + c) 0 (omega arith)) (omega (arith, w .0), omega (arith, w .1))
 
-      there : (r : ℕ) → r < i + 1 → (r ≡ i → ⊥) → (getD (set sums i (getD sums i 0 + c)) r 0 + costFrom page q (m + k) r ≡ costFrom page q 0 r) × (getD (set sums i (getD sums i 0 + c)) r 0 ≤ mostCost * (m + k))
+      there : (r : ℕ) → r < i + 1 → (r ≡ i → ⊥) → (getD (set sums i (getD sums i 0 + c)) r 0 + after r ≡ whole r) × (getD (set sums i (getD sums i 0 + c)) r 0 ≤ mostCost * hi)
       there r g z = rw (getD-set-other sums i r (getD sums i 0 + c) 0 (omega arith)) (a .done r (omega (arith, z)))
 
-  pub adding-end : (i : ℕ) (sums : List ℕ) → n ≤ i → Sized page q n → m + k ≤ length q → Adding page q m k n i sums → Sums page q (m + k) n sums
-  adding-end i sums h s w a = record { sized = s; within = w; slots = a .slots; each = λ r g. a .done r (omega arith) .0; low = λ r g. a .done r (omega arith) .1 }
+  -- no sum is near the end of its 32 bits
+  pub adding-fits : (i : ℕ) (sums : List ℕ) → Adding before after whole lo hi n i sums → i < n → lo ≤ 16 → getD sums i 0 ≤ 67043344
+  adding-fits i sums a h l = let w = a .todo i (le-refl i) h .1 in omega arith
 
--- no sum is near the end of its 32 bits
-pub adding-fits : (page q : List ℕ) (m k n i : ℕ) (sums : List ℕ) → Adding page q m k n i sums → i < n → m ≤ 16 → getD sums i 0 ≤ 67043344
-adding-fits page q m k n i sums a h l = let w = a .todo i (le-refl i) h .1 in omega arith
+-- a column, and four of them
+pub column-start : (page q : List ℕ) (m n : ℕ) (sums : List ℕ) → Sums page q m n sums → Adding (costFrom page q m) (costFrom page q (m + 1)) (costFrom page q 0) m (m + 1) n 0 sums
+column-start page q m n sums s = adding-start (costFrom page q m) (costFrom page q (m + 1)) (costFrom page q 0) m (m + 1) n sums (s .slots) (s .each) (s .low)
+
+pub column-end : (page q : List ℕ) (m n i : ℕ) (sums : List ℕ) → n ≤ i → Sized page q n → m < length q → Adding (costFrom page q m) (costFrom page q (m + 1)) (costFrom page q 0) m (m + 1) n i sums
+    → Sums page q (m + 1) n sums
+column-end page q m n i sums h s w a =
+    record { sized = s; within = omega arith; slots = a .slots; each = λ r g. a .done r (omega arith) .0; low = λ r g. a .done r (omega arith) .1 }
+
+module _ (page q : List ℕ) (s m n : ℕ) where
+  abbrev pub AddingFour : ℕ → List ℕ → Type 0
+  AddingFour i sums = Adding (quartersLeft page q s m) (quartersLeft page q s (m + 1)) (costFrom page q 0) (4 * m) (4 * (m + 1)) n i sums
+
+  pub four-start : (sums : List ℕ) → Quarters page q s m n sums → AddingFour 0 sums
+  four-start sums w = adding-start (quartersLeft page q s m) (quartersLeft page q s (m + 1)) (costFrom page q 0) (4 * m) (4 * (m + 1)) n sums (w .slots) (w .each) (w .low)
+
+  pub four-end : (i : ℕ) (sums : List ℕ) → n ≤ i → Sized page q n → 4 * s ≤ length q → m < s → AddingFour i sums → Quarters page q s (m + 1) n sums
+  four-end i sums h z w l a =
+      record { sized = z; within = w; turns = omega arith; slots = a .slots; each = λ r g. a .done r (omega arith) .0; low = λ r g. a .done r (omega arith) .1 }
+
+  -- one coordinate of each quarter
+  pub quarters-more : (r : ℕ) → m < s → quartersLeft page q s m r
+      ≡ ((gapSquare (getD q m 0) (getD (coordsAt page r) m 0) + gapSquare (getD q (m + s) 0) (getD (coordsAt page r) (m + s) 0))
+      + (gapSquare (getD q (m + s + s) 0) (getD (coordsAt page r) (m + s + s) 0) + gapSquare (getD q (m + s + s + s) 0) (getD (coordsAt page r) (m + s + s + s) 0)))
+      + quartersLeft page q s (m + 1) r
+  unfolding quartersLeft
+  quarters-more r h =
+      let e : s - m ≡ suc (s - (m + 1)) = omega arith in
+      let step : (a b : ℕ) → suc a ≡ b → costSpan page q a (s - m) r ≡ gapSquare (getD q a 0) (getD (coordsAt page r) a 0) + costSpan page q b (s - (m + 1)) r = λ a b f. span-more page q a (s - (m + 1)) (s - m) b r e f in
+      let w = step m (m + 1) (omega arith) in
+      let x = step (m + s) (m + 1 + s) (omega arith) in
+      let y = step (m + s + s) (m + 1 + s + s) (omega arith) in
+      let z = step (m + s + s + s) (m + 1 + s + s + s) (omega arith) in
+      omega (arith, w, x, y, z)
+
+pub quarters-start : (page q : List ℕ) (s n : ℕ) (sums : List ℕ) → 4 * s ≤ length q → Sums page q 0 n sums → Quarters page q s 0 n sums
+quarters-start page q s n sums h w =
+    record {
+      sized = w .sized;
+      within = h;
+      turns = omega arith;
+      slots = w .slots;
+      each = λ r g. let few = w .sized .few in rw (quarters-all page q s r h (w .sized .most) (omega arith)) (w .each r g);
+      low = λ r g. omega (arith, w .low r g);
+    }
+
+pub quarters-end : (page q : List ℕ) (s m n : ℕ) (sums : List ℕ) → s ≤ m → Quarters page q s m n sums → Sums page q (4 * s) n sums
+quarters-end page q s m n sums h w =
+    let e : m ≡ s = omega (arith, w .turns) in
+    record {
+      sized = w .sized;
+      within = w .within;
+      slots = w .slots;
+      each = λ r g. rw (quarters-none page q s m r h) at (w .each r g);
+      low = λ r g. omega (arith, w .low r g, e);
+    }
 
 -- before the first column
 pub sums-start : (page q : List ℕ) (n : ℕ) → length page ≡ 1024 → Asked q → n ≤ 16 → Sums page q 0 n (replicate 16 0)

@@ -2,7 +2,7 @@
 use mathlib.Core.Path.{_≡_}
 use mathlib.Core.Bool.{Bool, true, not}
 use mathlib.Core.List.{List}
-use Prim.Native.Nat.{ℕ, _+_, _-_, _*_, _≤_, _<_}
+use Prim.Native.Nat.{ℕ, zero, suc, _+_, _-_, _*_, _≤_, _<_}
 use lib.Dec.{ltb}
 use lib.ListN.{length, getD, drop}
 use Rattle.lists.specs.Basics.{All}
@@ -43,6 +43,26 @@ pub record Sums (page q : List ℕ) (m n : ℕ) (sums : List ℕ) : Type 0 where
   pub slots : length sums ≡ 16
   pub each : (r : ℕ) → r < n → getD sums r 0 + costFrom page q m r ≡ costFrom page q 0 r
   pub low : (r : ℕ) → r < n → getD sums r 0 ≤ mostCost * m
+
+-- what n coordinates from m on cost
+unfoldable pub costSpan : List ℕ → List ℕ → ℕ → ℕ → ℕ → ℕ
+costSpan page q m zero r = 0
+costSpan page q m (suc n) r = gapSquare (getD q m 0) (getD (coordsAt page r) m 0) + costSpan page q (suc m) n r
+
+-- of four runs of s coordinates the first m each are added: what is left to add
+unfoldable pub quartersLeft : List ℕ → List ℕ → ℕ → ℕ → ℕ → ℕ
+unfolding costSpan costFrom
+quartersLeft page q s m r =
+    ((costSpan page q m (s - m) r + costSpan page q (m + s) (s - m) r) + (costSpan page q (m + s + s) (s - m) r + costSpan page q (m + s + s + s) (s - m) r)) + costFrom page q (4 * s) r
+
+-- the sums hold what those cost
+pub record Quarters (page q : List ℕ) (s m n : ℕ) (sums : List ℕ) : Type 0 where
+  pub sized : Sized page q n
+  pub within : 4 * s ≤ length q
+  pub turns : m ≤ s
+  pub slots : length sums ≡ 16
+  pub each : (r : ℕ) → r < n → getD sums r 0 + quartersLeft page q s m r ≡ costFrom page q 0 r
+  pub low : (r : ℕ) → r < n → getD sums r 0 ≤ mostCost * (4 * m)
 
 -- a row of record i of a leaf page at a position
 abbrev pub rowAt : List ℕ → ℕ → ℕ → ℕ → Row

@@ -4,7 +4,7 @@ ghost use mathlib.Core.Path.{_≡_};
 ghost use Prim.Native.Nat.{_+_, _*_, _≤_, _<_};
 ghost use lib.IntN.{pos, natAbs, _-ℤ_};
 ghost use lib.ListN.{length, getD};
-ghost use Rattle.search.specs.Columns.{coordsAt, gapSquare, mostCost, Sums};
+ghost use Rattle.search.specs.Columns.{coordsAt, gapSquare, mostCost, Sums, Quarters};
 use pagestore::read_coord;
 
 // The gap of two stored coordinates, in 16 bits with its sign: so much a lane of the loops below holds.
@@ -54,37 +54,41 @@ fn add_column(page: &[u8], q: &[u16], m: usize, n: usize, sums: &mut [u32])
     }
 }
 
-// The same of four coordinates at a time.
-fn add_four(page: &[u8], q: &[u16], m: usize, n: usize, sums: &mut [u32])
-    requires { ⌜ Sums (now page) (now q) m n (now sums) × (m + 4 ≤ length (now q)) ⌝ }
-    ensures { λ _. ⌜ Sums (now (page .entry)) (now (q .entry)) (m + 4) n (now (sums .exit)) ⌝ }
+// The same of four coordinates, `apart` from each other: so the first turns ask for every line of the page's memory.
+fn add_four(page: &[u8], q: &[u16], m: usize, apart: usize, n: usize, sums: &mut [u32])
+    requires { ⌜ Quarters (now page) (now q) apart m n (now sums) × (m < apart) ⌝ }
+    ensures { λ _. ⌜ Quarters (now (page .entry)) (now (q .entry)) apart (m + 1) n (now (sums .exit)) ⌝ }
 {
+    let second = m + apart;
+    let third = second + apart;
+    let fourth = third + apart;
     let x = q[m];
-    let y = q[m + 1];
-    let z = q[m + 2];
-    let w = q[m + 3];
+    let y = q[second];
+    let z = q[third];
+    let w = q[fourth];
     let mut r = 0;
     while r < n {
         let a = cost_at(page, m, r, x);
-        let b = cost_at(page, m + 1, r, y);
-        let c = cost_at(page, m + 2, r, z);
-        let e = cost_at(page, m + 3, r, w);
+        let b = cost_at(page, second, r, y);
+        let c = cost_at(page, third, r, z);
+        let e = cost_at(page, fourth, r, w);
         sums[r] += (a + b) + (c + e);
         r += 1;
     }
 }
 
-// Four coordinates after four: how many are added then.
-fn add_fours(page: &[u8], q: &[u16], n: usize, sums: &mut [u32]) -> usize
+// The four quarters of the coordinates side by side: how many are added then.
+fn add_quarters(page: &[u8], q: &[u16], n: usize, sums: &mut [u32]) -> usize
     requires { ⌜ Sums (now page) (now q) 0 n (now sums) ⌝ }
     ensures { λ m. ⌜ Sums (now (page .entry)) (now (q .entry)) m n (now (sums .exit)) ⌝ }
 {
+    let apart = q.len() / 4;
     let mut m = 0;
-    while m + 3 < q.len() {
-        add_four(page, q, m, n, sums);
-        m += 4;
+    while m < apart {
+        add_four(page, q, m, apart, n, sums);
+        m += 1;
     }
-    m
+    4 * apart
 }
 
 // The coordinates that are left, one by one.
@@ -104,6 +108,6 @@ pub fn add_columns(page: &[u8], q: &[u16], n: usize, sums: &mut [u32])
     requires { ⌜ Sums (now page) (now q) 0 n (now sums) ⌝ }
     ensures { λ _. ⌜ Sums (now (page .entry)) (now (q .entry)) (length (now (q .entry))) n (now (sums .exit)) ⌝ }
 {
-    let m = add_fours(page, q, n, sums);
+    let m = add_quarters(page, q, n, sums);
     add_rest(page, q, m, n, sums);
 }
