@@ -31,35 +31,43 @@ lead-reads cs m x h e f = ap (λ (y : ℕ). y * 16 + (15 - m)) (f ∙ ap (λ (z 
 
 -- ---- COLUMNS
 
--- the first i of n records with one coordinate more
-pub record Leading (x : Leaf) (m n i : ℕ) (tops : List ℕ) : Type 0 where
+-- one coordinate more, and four
+pub lead-next : (cs : List ℕ) (m : ℕ) {a l t : ℕ} → l ≡ leadOf m cs → t ≡ max a l → a ≡ leadTo m cs → t ≡ leadTo (m + 1) cs
+unfolding leadTo
+lead-next cs m {a} {l} e f g = rw (add-one m) (f ∙ (λ i. max (g i) (e i)))
+
+pub lead-fourth : (cs : List ℕ) (m : ℕ) {a b c e t k l p q : ℕ} → k ≡ leadOf m cs → b ≡ max a k → l ≡ leadOf (m + 1) cs → c ≡ max b l
+    → p ≡ leadOf (m + 2) cs → e ≡ max c p → q ≡ leadOf (m + 3) cs → t ≡ max e q → a ≡ leadTo m cs → t ≡ leadTo (m + 4) cs
+lead-fourth cs m f1 g1 f2 g2 f3 g3 f4 g4 s =
+    let one = lead-next cs m f1 g1 s in
+    let two = lead-next cs (m + 1) f2 g2 one ∙ ap (λ (z : ℕ). leadTo z cs) (let y : m + 1 + 1 ≡ m + 2 = omega arith in y) in
+    let three = lead-next cs (m + 2) f3 g3 two ∙ ap (λ (z : ℕ). leadTo z cs) (let y : m + 2 + 1 ≡ m + 3 = omega arith in y) in
+    lead-next cs (m + 3) f4 g4 three ∙ ap (λ (z : ℕ). leadTo z cs) (let y : m + 3 + 1 ≡ m + 4 = omega arith in y)
+
+-- the first i of n records have their leads up to coordinate k, the others up to m
+pub record Leading (x : Leaf) (m k n i : ℕ) (tops : List ℕ) : Type 0 where
   pub size : n ≤ length tops
-  pub done : (j : ℕ) → j < i → getD tops j 0 ≡ leadTo (m + 1) (getD (x .records) j noRecord .coords)
+  pub done : (j : ℕ) → j < i → getD tops j 0 ≡ leadTo k (getD (x .records) j noRecord .coords)
   pub left : (j : ℕ) → i ≤ j → j < n → getD tops j 0 ≡ leadTo m (getD (x .records) j noRecord .coords)
 
-lead-next : (m : ℕ) (cs : List ℕ) → leadTo (m + 1) cs ≡ max (leadTo m cs) (leadOf m cs)
-unfolding leadTo
-lead-next m cs = rw (add-one m)
+module _ (x : Leaf) (m k n : ℕ) where
+  pub leading-start : {tops : List ℕ} → Leads x m n tops → Leading x m k n 0 tops
+  leading-start s = record { size = s .size; done = λ j h. absurd (omega arith); left = λ j h w. s .top j w }
 
-module _ (x : Leaf) (m n : ℕ) where
-  pub leading-start : {tops : List ℕ} → Leads x m n tops → Leading x m n 0 tops
-  leading-start s = record { size = s .size; done = λ j h. absurd (omega arith); left = λ j h k. s .top j k }
-
-  pub leading-step : {tops : List ℕ} {i t l : ℕ} → Leading x m n i tops → i < n → l ≡ leadOf m (getD (x .records) i noRecord .coords) → t ≡ max (getD tops i 0) l
-      → Leading x m n (i + 1) (set tops i t)
-  leading-step {tops} {i} {t} {l} s h e f =
-      let k : i < length tops = omega (arith, s .size) in
+  pub leading-step : {tops : List ℕ} {i t : ℕ} → Leading x m k n i tops → i < n
+      → (getD tops i 0 ≡ leadTo m (getD (x .records) i noRecord .coords) → t ≡ leadTo k (getD (x .records) i noRecord .coords)) → Leading x m k n (i + 1) (set tops i t)
+  leading-step {tops} {i} {t} s h f =
+      let l : i < length tops = omega (arith, s .size) in
       record {
         size = omega (arith, length-set tops i t, s .size);
         done = λ j b. same? j i
-            (λ z. subst (λ (y : ℕ). getD (set tops i t) y 0 ≡ leadTo (m + 1) (getD (x .records) y noRecord .coords)) (sym z)
-            (getD-set-same tops i t 0 k ∙ f ∙ ap (λ (y : ℕ). max y l) (s .left i (omega arith) h)
-            ∙ ap (λ (y : ℕ). max (leadTo m (getD (x .records) i noRecord .coords)) y) e ∙ sym (lead-next m (getD (x .records) i noRecord .coords))))
+            (λ z. subst (λ (y : ℕ). getD (set tops i t) y 0 ≡ leadTo k (getD (x .records) y noRecord .coords)) (sym z)
+            (getD-set-same tops i t 0 l ∙ f (s .left i (omega arith) h)))
             (λ d. getD-set-other tops i j t 0 d ∙ s .done j (omega (arith, d)));
         left = λ j a b. getD-set-other tops i j t 0 (omega arith) ∙ s .left j (omega arith) b;
       }
 
-  pub leading-done : {tops : List ℕ} {i : ℕ} → Leading x m n i tops → n ≤ i → Leads x (m + 1) n tops
+  pub leading-done : {tops : List ℕ} {i : ℕ} → Leading x m k n i tops → n ≤ i → Leads x k n tops
   leading-done s h = record { size = s .size; top = λ j b. s .done j (omega arith) }
 
 nought : (n q : ℕ) → getD {A = ℕ} (replicate n 0) q 0 ≡ 0

@@ -33,7 +33,7 @@ fn lead(page: &[u8], m: usize, i: usize) -> u16
 }
 
 // The greatest leads of the first n records, with coordinate m.
-fn lead_column(page: &[u8], m: usize, n: usize, tops: &mut [u16])
+fn lead_one(page: &[u8], m: usize, n: usize, tops: &mut [u16])
     requires { ⌜ (length (now page) ≡ 1024) × (m < 16) × (n ≤ 16) × Leads (leafOf (now page)) m n (now tops) ⌝ }
     ensures { λ _. ⌜ Leads (leafOf (now (page .entry))) (m + 1) n (now (tops .exit)) ⌝ }
 {
@@ -44,16 +44,53 @@ fn lead_column(page: &[u8], m: usize, n: usize, tops: &mut [u16])
     }
 }
 
-// The same with each of the first d coordinates.
+// The same with four coordinates from m on.
+fn lead_four(page: &[u8], m: usize, n: usize, tops: &mut [u16])
+    requires { ⌜ (length (now page) ≡ 1024) × (m + 3 < 16) × (n ≤ 16) × Leads (leafOf (now page)) m n (now tops) ⌝ }
+    ensures { λ _. ⌜ Leads (leafOf (now (page .entry))) (m + 4) n (now (tops .exit)) ⌝ }
+{
+    let mut i = 0;
+    while i < n {
+        let a = greater(tops[i], lead(page, m, i));
+        let b = greater(a, lead(page, m + 1, i));
+        let c = greater(b, lead(page, m + 2, i));
+        tops[i] = greater(c, lead(page, m + 3, i));
+        i += 1;
+    }
+}
+
+// With the first d coordinates as far as they go in fours: how many these are.
+fn lead_fours(page: &[u8], d: usize, n: usize, tops: &mut [u16]) -> usize
+    requires { ⌜ (length (now page) ≡ 1024) × (d ≤ 16) × (n ≤ 16) × Leads (leafOf (now page)) 0 n (now tops) ⌝ }
+    ensures { λ m. ⌜ Leads (leafOf (now (page .entry))) m n (now (tops .exit)) × (m ≤ d) ⌝ }
+{
+    let mut m = 0;
+    while m + 3 < d {
+        lead_four(page, m, n, tops);
+        m += 4;
+    }
+    m
+}
+
+// With each of the first d coordinates, those before `from` being done.
+fn lead_rest(page: &[u8], from: usize, d: usize, n: usize, tops: &mut [u16])
+    requires { ⌜ (length (now page) ≡ 1024) × (from ≤ d) × (d ≤ 16) × (n ≤ 16) × Leads (leafOf (now page)) from n (now tops) ⌝ }
+    ensures { λ _. ⌜ Leads (leafOf (now (page .entry))) d n (now (tops .exit)) ⌝ }
+{
+    let mut m = from;
+    while m < d {
+        lead_one(page, m, n, tops);
+        m += 1;
+    }
+}
+
+// The greatest leads of the first n records with d features.
 pub fn lead_columns(page: &[u8], d: usize, n: usize, tops: &mut [u16])
     requires { ⌜ (length (now page) ≡ 1024) × (d ≤ 16) × (n ≤ 16) × Leads (leafOf (now page)) 0 n (now tops) ⌝ }
     ensures { λ _. ⌜ Leads (leafOf (now (page .entry))) d n (now (tops .exit)) ⌝ }
 {
-    let mut m = 0;
-    while m < d {
-        lead_column(page, m, n, tops);
-        m += 1;
-    }
+    let m = lead_fours(page, d, n, tops);
+    lead_rest(page, m, d, n, tops);
 }
 
 // The number of the pyramid on axis j of d, on the side below 0 or not.

@@ -31,7 +31,7 @@ returns-3 c = let s = (c .before .before .before .before .before .before .before
 
 lowest-repeat-of-requires : tie.Need-lowest-repeat-of-requires
 unfolding viewOf
-lowest-repeat-of-requires c κs = let s = (c .before .before .before .before .before .before .before .before .before .before .before) in let b = s .args .index .now in let w = s .pre in let t = c .before .before .before .before .place .ensures ∙ c .before .before .before .before .before .total-records .ensures in let d = c .before .before .before .if1 .left in let l = c .before .before .if2 .left in let r = whole-room b w t d l in (l, r, omega (arith, r, w .holders))
+lowest-repeat-of-requires c κs = let s = (c .before .before .before .before .before .before .before .before .before .before .before) in let b = s .args .index .now in let w = s .pre in let t = c .before .before .before .before .place .ensures ∙ c .before .before .before .before .before .total-records .ensures in let d = c .before .before .before .if1 .left in let l = c .before .before .if2 .left in let r = whole-room b w t d l in (omega (arith, l), omega (arith, r), omega (arith, r, w .holders))
 
 cast-p : tie.Need-cast-p
 cast-p c = search needs
