@@ -1,4 +1,4 @@
-// Points: range test and conversion, pyramid and height, squared distance.
+// Points: range test and conversion, pyramid and height, the cost of a gap.
 // A record holds each coordinate with 1,000 added (`pointOf` reads it back), so everything here but the conversion is on unsigned numbers.
 ghost use mathlib.Core.Path.{_≡_};
 ghost use mathlib.Core.Bool.{true};
@@ -7,7 +7,7 @@ ghost use lib.IntN.{natAbs};
 ghost use lib.Dec.{leb};
 ghost use lib.ListN.{length};
 ghost use Rattle.lists.specs.Basics.{pick};
-ghost use Rattle.geometry.specs.Points.{heightOf, axisOf, pyramidOf, distance};
+ghost use Rattle.geometry.specs.Points.{heightOf, axisOf, pyramidOf};
 ghost use Rattle.geometry.specs.Stored.{coordOf, pointOf, stored, slotsOf, inRange};
 use crate::Height;
 use crate::Pair;
@@ -117,7 +117,7 @@ fn top_lead(p: &[u16]) -> u32
 }
 
 // The number of the pyramid on axis j of d, on the side below 0 or not.
-fn pyramid_no(j: usize, d: usize, below: bool) -> u8
+pub fn pyramid_no(j: usize, d: usize, below: bool) -> u8
     requires { ⌜ (j < d) × (d ≤ 16) ⌝ }
     ensures { λ r. ⌜ r ≡ pick below j (j + d) ⌝ }
 {
@@ -152,18 +152,4 @@ pub fn cost(gap: u16) -> u64
 {
     let g = wide(gap);
     g * g
-}
-
-// The squared distance of two points; p may have further slots.
-pub fn squared_distance(q: &[u16], p: &[u16]) -> u64
-    requires { ⌜ (length (now q) ≤ 16) × (length (now q) ≤ length (now p)) ⌝ }
-    ensures { λ r. ⌜ r ≡ distance (pointOf (now (q .entry))) (pointOf (now (p .entry))) ⌝ }
-{
-    let mut sum: u64 = 0;
-    let mut m = 0;
-    while m < q.len() {
-        sum += cost(apart(q[m], p[m]));
-        m += 1;
-    }
-    sum
 }

@@ -1,7 +1,7 @@
 // Leaf pages: records by columns, so that coordinate m of all records lies together (docs/LAYOUT.md).
 ghost use mathlib.Core.Path.{_≡_};
 ghost use mathlib.Core.List.{[]};
-ghost use Prim.Native.Nat.{_<_};
+ghost use Prim.Native.Nat.{_<_, _≤_};
 ghost use lib.ListN.{length, getD};
 ghost use Rattle.pagestore.specs.Bytes.{leAt};
 ghost use Rattle.pagestore.specs.Layout.{coordRoom, coordAt, recordAt, leafOf, putCoords, putRecord, leafBytes};
@@ -77,6 +77,14 @@ pub fn read_ident(page: &[u8], i: usize) -> u32
     ensures { λ r. ⌜ r ≡ getD (leafOf (now (page .entry)) .records) i noRecord .id ⌝ }
 {
     get_u32(page, IDENTS + 4 * i)
+}
+
+// How many slots of a leaf are looked at together for so many records: as many as fill whole lanes, so that a loop over them has no rest.
+pub fn lanes(count: usize) -> usize
+    requires { ⌜ count ≤ 16 ⌝ }
+    ensures { λ r. ⌜ (count ≤ r) × (r ≤ 16) ⌝ }
+{
+    if count <= 8 { 8 } else { 16 }
 }
 
 // One record of a leaf, read from its page by itself.

@@ -15,16 +15,17 @@ mod shift;
 
 // One page, handed over as a part of the index.
 pub use inners::write_inner;
+pub use leaves::lanes;
 pub use leaves::read_coord;
 pub use leaves::read_count;
 pub use leaves::read_ident;
 pub use leaves::read_leaf;
 pub use leaves::read_record;
+pub use leaves::set_leaf;
 pub use leaves::write_leaf;
 
 // Pages by number.
 pub use inners::set_inner;
-pub use leaves::set_leaf;
 pub use links::set_link;
 pub use pages::count_at;
 pub use pages::entry_at;

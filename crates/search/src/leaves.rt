@@ -16,6 +16,7 @@ use candidates::Row;
 use candidates::behind;
 use candidates::offer;
 use pagestore::in_range;
+use pagestore::lanes;
 use pagestore::read_count;
 use pagestore::read_ident;
 
@@ -24,14 +25,6 @@ pub fn filled(count: usize) -> usize
     ensures { λ r. ⌜ r ≡ min count 16 ⌝ }
 {
     if count < 16 { count } else { 16 }
-}
-
-// How many slots are summed for so many records: those that fill whole lanes.
-fn lanes(count: usize) -> usize
-    requires { ⌜ count ≤ 16 ⌝ }
-    ensures { λ r. ⌜ (count ≤ r) × (r ≤ 16) ⌝ }
-{
-    if count <= 8 { 8 } else { 16 }
 }
 
 fn wide(x: u32) -> u64

@@ -12,13 +12,13 @@ ghost use Rattle.faults.specs.Faults.{Reached};
 ghost use Rattle.sound_pages.specs.Judged.{Decides, LeafJudged, InnerJudged, PageJudged};
 ghost use Rattle.sound_pages.specs.Leads.{Leads};
 use crate::Span;
-use crate::leads::lanes;
 use crate::leads::lead_columns;
 use crate::leads::lead_key;
 use geometry::Key;
 use geometry::keys::key_number;
 use pagestore::count_at;
 use pagestore::entry_at;
+use pagestore::lanes;
 use pagestore::level_at;
 
 // A key as a number; there is room for one more.

@@ -2,7 +2,6 @@
 ghost use mathlib.Core.Path.{_≡_};
 ghost use Prim.Native.Nat.{_+_, _-_, _*_, _<_, _≤_};
 ghost use lib.ListN.{length, getD};
-ghost use Rattle.lists.specs.Basics.{pick};
 ghost use Rattle.pagestore.specs.Layout.{leafOf};
 ghost use Rattle.pagestore.specs.LayoutLaws.{noRecord};
 ghost use Rattle.trees.specs.Trees.{keyOf};
@@ -12,16 +11,9 @@ use geometry::Key;
 use geometry::Pyramid;
 use geometry::points::greater;
 use geometry::points::magnitude;
+use geometry::points::pyramid_no;
 use pagestore::read_coord;
 use pagestore::read_ident;
-
-// How many records are looked at together: so compiled, a loop over them has lanes and no rest.
-pub fn lanes(n: usize) -> usize
-    requires { ⌜ n ≤ 16 ⌝ }
-    ensures { λ r. ⌜ (n ≤ r) × (r ≤ 16) ⌝ }
-{
-    if n <= 8 { 8 } else { 16 }
-}
 
 // The lead of coordinate m of record i: its magnitude, followed by how far m is below 15.
 fn lead(page: &[u8], m: usize, i: usize) -> u16
@@ -93,14 +85,6 @@ pub fn lead_columns(page: &[u8], d: usize, n: usize, tops: &mut [u16])
     lead_rest(page, m, d, n, tops);
 }
 
-// The number of the pyramid on axis j of d, on the side below 0 or not.
-fn pyramid_on(j: usize, d: usize, below: bool) -> u8
-    requires { ⌜ (j < d) × (d ≤ 16) ⌝ }
-    ensures { λ r. ⌜ r ≡ pick below j (j + d) ⌝ }
-{
-    if below { j as u8 } else { (j + d) as u8 }
-}
-
 // The key of record i with d features, by its greatest lead.
 pub fn lead_key(page: &[u8], top: u16, i: usize, d: usize) -> Key
     requires { ⌜ (length (now page) ≡ 1024) × (i < 16) × (1 ≤ d) × (d ≤ 16) × (top ≡ leadTo d (getD (leafOf (now page) .records) i noRecord .coords)) ⌝ }
@@ -109,7 +93,7 @@ pub fn lead_key(page: &[u8], top: u16, i: usize, d: usize) -> Key
     let j = 15 - (top % 16) as usize;
     let below = read_coord(page, j, i) < 1000;
     Key {
-        pyramid: Pyramid(pyramid_on(j, d, below)),
+        pyramid: Pyramid(pyramid_no(j, d, below)),
         height: Height(top / 16),
         id: read_ident(page, i),
     }
