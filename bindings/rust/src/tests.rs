@@ -415,6 +415,15 @@ fn deepest(entries: usize) -> Vec<u8> {
     index
 }
 
+/// More points than the check's smaller arrays take, with identifiers that share their low bits: it makes all the larger ones.
+fn crowded() -> Vec<u8> {
+    let mut index = Index::open(Index::make(bytes(2600), 1).unwrap().into_bytes()).unwrap().with_identifiers();
+    for n in 1..=16_500u32 {
+        index.insert(n << 16, &[(n % 2001) as i16 - 1000]).unwrap();
+    }
+    index.into_bytes()
+}
+
 fn on_stack<T: Send + 'static>(bytes: usize, run: impl FnOnce() -> T + Send + 'static) -> T {
     std::thread::Builder::new().stack_size(bytes).spawn(run).unwrap().join().unwrap()
 }
@@ -431,6 +440,10 @@ fn acts_keep_to_their_stack() {
         sound.insert(18, &[18]).unwrap();
         sound.delete(1).unwrap();
         sound.question(&[1], 64, &mut Tally::default()).unwrap();
+        let mut large = Index::over(crowded());
+        large.insert(1, &[1]).unwrap();
+        large.delete(1 << 16).unwrap();
+        large.question(&[1], 64, &mut Tally::default()).unwrap();
     });
     on_stack(512 * 1024, || {
         let mut bytes = deepest(1);

@@ -26,12 +26,12 @@ rows-held ds ts n d t l = length-take-le n (rowsOf ds ts) (length-rowsOf n ds ts
 
 -- ---- THE OUTCOME
 
-module _ (rules : List Rule) (means : Type 0) (b : List ℕ) (p : List ℤ) (k : ℕ) where
+module _ (rules : List Rule) (answers : Found → Type 0) (b : List ℕ) (p : List ℤ) (k : ℕ) where
   nothing-with : (m : ℕ) → m ≢ 0 → foundWith m b p k ≡ nothingFound
   nothing-with zero w = absurd (w refl)
   nothing-with (suc m) w = refl
 
-  pub asked-refused : (m : ℕ) (o : Outcome) → First rules m → m ≢ 0 → Refused m o → OutcomeBy rules means b p k o
+  pub asked-refused : (m : ℕ) (o : Outcome) → First rules m → m ≢ 0 → Refused m o → OutcomeBy rules answers b p k o
   asked-refused m o f w h =
       let e : foundWith (o .answer .code) b p k ≡ nothingFound = ap (λ (x : ℕ). foundWith x b p k) (h .code) ∙ nothing-with m w in
       record {
@@ -46,7 +46,7 @@ module _ (rules : List Rule) (means : Type 0) (b : List ℕ) (p : List ℤ) (k :
         carried = λ z. absurd (w (sym (h .code) ∙ z));
       }
 
-  pub asked-answered : (m : ℕ) (o : Outcome) → First rules m → m ≡ 0 → k ≤ 64 → means → Answered b p k o → OutcomeBy rules means b p k o
+  pub asked-answered : (m : ℕ) (o : Outcome) → First rules m → m ≡ 0 → k ≤ 64 → answers (found b (map stored p) k) → Answered b p k o → OutcomeBy rules answers b p k o
   asked-answered m o f z top w h =
       let e : found b (map stored p) k ≡ foundWith (o .answer .code) b p k = sym (ap (λ (x : ℕ). foundWith x b p k) (h .code)) in
       let rows : rowsIn (o .list .distances) (o .list .tags) (o .list .count) ≡ foundWith (o .answer .code) b p k .rows = ap (λ (x : Found). x .rows) (h .same ∙ e) in
@@ -60,7 +60,7 @@ module _ (rules : List Rule) (means : Type 0) (b : List ℕ) (p : List ℤ) (k :
         rows = rows;
         distances = h .distances;
         tags = h .tags;
-        carried = λ z. w;
+        carried = λ z. subst answers (sym (h .same)) w;
       }
 
 -- what the search returns, as an outcome

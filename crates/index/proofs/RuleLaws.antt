@@ -2,19 +2,20 @@
 use mathlib.Core.Path.{_≡_, refl, _∙_, subst}
 use mathlib.Core.Bool.{Bool, true}
 use mathlib.Core.Logic.{_≢_, inl, inr}
-use mathlib.Core.List.{List, [], _∷_, _++_}
+use mathlib.Core.List.{List, [], _∷_, _++_, map}
 use Prim.Native.Nat.{ℕ, _≤_, _<_}
 use native.Mathlib.Omega.{arith}
 use lib.IntN.{ℤ}
 use lib.ListN.{length}
 use Rattle.lists.specs.Tests.{three}
-use Rattle.geometry.specs.Stored.{inRange}
+use Rattle.geometry.specs.Stored.{stored, inRange}
+use Rattle.search.specs.Visit.{found}
 use Rattle.pagestore.specs.Store.{View, viewOf, fieldAt, features, total}
 use Rattle.trees.specs.Sound.{SoundIndex}
 use Rattle.index.specs.Refusals.{Rule, First, checkRules, insertRules, deleteRules, questionRules}
 use Rattle.index.specs.RefusalLaws.{Hold, numbered, all-hold, refused-before, refused-after, later}
 use Rattle.index.specs.Outcomes.{Decides}
-use Rattle.index.specs.Answers.{FoundAnswers, search-answers}
+use Rattle.index.specs.Answers.{AnswersIfSound, search-answers}
 use Rattle.index.specs.Trusted.{Suits, trustedPoint, trustedInsert, trustedQuestion, pairRules}
 use Rattle.index.specs.Vouched.{vouchedInsert, vouchedDelete}
 
@@ -122,6 +123,6 @@ pub may-search : (b : List ℕ) (p : List ℤ) (k lent n : ℕ) → First (trust
 may-search b p k lent n f e = let h = none-refuses (trustedQuestion b p k lent) n refl f e in (h .1 .1 .0 .0, h .1 .1 .0 .1, h .1 .1 .1 .0, h .1 .1 .1 .1 .0 .0, h .1 .1 .1 .1 .0 .1)
 
 -- and what it finds on a sound index
-pub trusted-answers : (b : List ℕ) (p : List ℤ) (k lent n : ℕ) → First (trustedQuestion b p k lent) n → n ≡ 0 → SoundIndex b → FoundAnswers b p k
+pub trusted-answers : (b : List ℕ) (p : List ℤ) (k lent n : ℕ) → First (trustedQuestion b p k lent) n → n ≡ 0 → AnswersIfSound b p k (found b (map stored p) k)
 trusted-answers b p k lent n f e s =
     let h = none-refuses (trustedQuestion b p k lent) n refl f e in search-answers b s p (h .1 .1 .0 .2) (h .1 .1 .1 .0) k (h .1 .1 .1 .1 .0 .0)

@@ -46,9 +46,9 @@ pub record Answers (b : List ℕ) (p : List ℤ) (k : ℕ) (f : Found) : Type 0 
   -- p, as it is stored, stands for p
   pub point : pointOf (map stored p) ≡ p
 
--- the search's rows and count do
-abbrev pub FoundAnswers : List ℕ → List ℤ → ℕ → Type 0
-FoundAnswers b p k = Answers b p k (found b (map stored p) k)
+-- where nothing is known of the index: it does if the index is sound
+abbrev pub AnswersIfSound : List ℕ → List ℤ → ℕ → Found → Type 0
+AnswersIfSound b p k f = SoundIndex b → Answers b p k f
 
 -- ---- THE ROWS OF THE LIVE RECORDS
 
@@ -91,7 +91,7 @@ asked-point p r = ap pointOf (sym (slots-own p)) ∙ slots-back p (in-range p r)
 -- ---- WHAT THE SEARCH FINDS
 
 -- on a sound index of as many features as p has coordinates
-pub search-answers : (b : List ℕ) → SoundIndex b → (p : List ℤ) → length p ≡ viewOf b .d → inRange p ≡ true → (k : ℕ) → 1 ≤ k → FoundAnswers b p k
+pub search-answers : (b : List ℕ) → SoundIndex b → (p : List ℤ) → length p ≡ viewOf b .d → inRange p ≡ true → (k : ℕ) → 1 ≤ k → Answers b p k (found b (map stored p) k)
 search-answers b s p d r k one =
     let q = map stored p in
     let same : length q ≡ viewOf b .d = length-map p stored ∙ d in

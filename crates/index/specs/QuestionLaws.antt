@@ -6,7 +6,8 @@ use Prim.Native.Nat.{ℕ, zero, suc, _≤_}
 use native.Mathlib.Omega.{arith}
 use lib.IntN.{ℤ}
 use lib.Dec.{eqb}
-use lib.ListN.{length, drop}
+use lib.ListN.{length, take, drop}
+use lib.Seq.{take-at}
 use borrow.Author.Tests.{ne-eqb}
 use Rattle.lists.specs.Basics.{pick}
 use Rattle.geometry.specs.Stored.{stored}
@@ -24,7 +25,7 @@ use Rattle.lending.specs.Delivered.{Delivered, rowsAfter, tallyAfter}
 use Rattle.index.specs.Refusals.{Rule, First, questionRules}
 use Rattle.index.specs.RefusalLaws.{all-hold}
 use Rattle.index.specs.Outcomes.{unlessRefused, foundWith, nothingFound}
-use Rattle.index.specs.Answers.{FoundAnswers}
+use Rattle.index.specs.Answers.{Answers}
 use Rattle.index.specs.Questions.{written, QuestionedBy, OutcomeBy, Questioned, QuestionOutcome}
 
 module _ (lent : List Row) (l : Candidates) (f : Found) where
@@ -39,23 +40,28 @@ tally-by : (n : ℕ) (t u : Tally) → pick (eqb n 0) t u ≡ unlessRefused n t 
 tally-by zero t u = refl
 tally-by (suc n) t u = rw (ne-eqb (suc n) 0 (λ (e : suc n ≡ 0). omega arith))
 
-module _ (rules : List Rule) (means : Type 0) (b : List ℕ) (p : List ℤ) (k : ℕ) (lent : List Row) (tally : Tally) (o : Outcome) (a : OutcomeBy rules means b p k o) where
+module _ (rules : List Rule) (answers : Found → Type 0) (b : List ℕ) (p : List ℤ) (k : ℕ) (lent : List Row) (tally : Tally) (o : Outcome) (a : OutcomeBy rules answers b p k o) where
   -- where it is carried out, there is room for the k rows asked for
   module _ (room : o .answer .code ≡ 0 → (k ≤ 64) × (k ≤ length lent)) where
-    pub handed-over : (r : Answer) (lent' : List Row) (tally' : Tally) → Delivered o lent tally r lent' tally' → QuestionedBy rules means b p k lent tally r lent' tally'
+    pub handed-over : (r : Answer) (lent' : List Row) (tally' : Tally) → Delivered o lent tally r lent' tally' → QuestionedBy rules answers b p k lent tally r lent' tally'
     handed-over r lent' tally' h =
         let few : o .list .count ≤ k = a .few in
         let e : o .list .count ≡ length (foundWith (o .answer .code) b p k .rows) = a .listed ∙ a .count in
-        subst (λ (x : Answer). QuestionedBy rules means b p k lent tally x lent' tally') (sym (h .same))
+        let lent-then : lent' ≡ written (foundWith (o .answer .code) b p k .rows) lent =
+        h .filling
+        ∙ rows-by lent (o .list) (found b (map stored p) k) (o .answer .code) (a .rows) e (λ z. let top : k ≤ 64 = room z .0 in
+        let most : k ≤ length lent = room z .1 in filled-is (o .list) lent (a .distances) (a .tags) (omega arith) (omega arith)) in
+        let rows-then : rowsIn (o .list .distances) (o .list .tags) (o .list .count) ≡ take (o .answer .count) lent' =
+        a .rows
+        ∙ sym (ap (take (o .answer .count)) lent-then ∙ take-at (foundWith (o .answer .code) b p k .rows) (drop (length (foundWith (o .answer .code) b p k .rows)) lent) (o .answer .count) (sym (a .count))) in
+        subst (λ (x : Answer). QuestionedBy rules answers b p k lent tally x lent' tally') (sym (h .same))
         (record {
           first = a .first;
           count = a .count;
           leaves = a .leaves;
-          rows = h .filling
-              ∙ rows-by lent (o .list) (found b (map stored p) k) (o .answer .code) (a .rows) e (λ z. let top : k ≤ 64 = room z .0 in
-              let most : k ≤ length lent = room z .1 in filled-is (o .list) lent (a .distances) (a .tags) (omega arith) (omega arith));
+          rows = lent-then;
           tallying = h .count ∙ tally-by (o .answer .code) (counted tally (o .answer .leaves)) tally;
-          carried = a .carried;
+          carried = λ z. subst (λ (xs : List Row). answers (record { rows = xs; leaves = o .answer .leaves })) rows-then (a .carried z);
         })
 
 -- the act's: where it is carried out, its rules leave room
@@ -65,4 +71,4 @@ module _ (b : List ℕ) (p : List ℤ) (k : ℕ) (lent : List Row) (tally : Tall
       let w = all-hold (questionRules b p k (length lent)) refl (subst (First (questionRules b p k (length lent))) z f) in (w .1 .1 .1 .1 .0 .1, w .1 .1 .1 .1 .1 .0)
 
   pub question-hands : QuestionOutcome b p k (length lent) o → (r : Answer) (lent' : List Row) (tally' : Tally) → Delivered o lent tally r lent' tally' → Questioned b p k lent tally r lent' tally'
-  question-hands a = handed-over (questionRules b p k (length lent)) (FoundAnswers b p k) b p k lent tally o a (room (a .first))
+  question-hands a = handed-over (questionRules b p k (length lent)) (Answers b p k) b p k lent tally o a (room (a .first))

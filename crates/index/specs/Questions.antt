@@ -3,7 +3,7 @@ use mathlib.Core.Path.{_≡_}
 use mathlib.Core.List.{List, _++_, map}
 use Prim.Native.Nat.{ℕ, _≤_}
 use lib.IntN.{ℤ}
-use lib.ListN.{length, drop}
+use lib.ListN.{length, take, drop}
 use Rattle.geometry.specs.Stored.{stored}
 use Rattle.candidates.specs.declared.Row.{Row}
 use Rattle.candidates.specs.Held.{rowsIn}
@@ -14,24 +14,24 @@ use Rattle.lending.specs.declared.Tally.{Tally}
 use Rattle.lending.specs.Tallies.{counted}
 use Rattle.index.specs.Refusals.{Rule, First, questionRules}
 use Rattle.index.specs.Outcomes.{unlessRefused, foundWith}
-use Rattle.index.specs.Answers.{FoundAnswers}
+use Rattle.index.specs.Answers.{Answers}
 
 -- rows lent, once these rows have been returned in them: rows past those keep their contents
 abbrev pub written : List Row → List Row → List Row
 written rows lent = rows ++ drop (length rows) lent
 
 -- What a question for the k nearest of p on index b returns and leaves, by its rules. lent, tally: the rows lent and the caller's tally before it;
--- means: what is known where it is carried out.
-pub record QuestionedBy (rules : List Rule) (means : Type 0) (b : List ℕ) (p : List ℤ) (k : ℕ) (lent : List Row) (tally : Tally) (r : Answer) (lent' : List Row) (tally' : Tally) : Type 0 where
+-- answers: what is promised of the rows returned and of the count where it is carried out.
+pub record QuestionedBy (rules : List Rule) (answers : Found → Type 0) (b : List ℕ) (p : List ℤ) (k : ℕ) (lent : List Row) (tally : Tally) (r : Answer) (lent' : List Row) (tally' : Tally) : Type 0 where
   pub first : First rules (r .code)
   pub count : r .count ≡ length (foundWith (r .code) b p k .rows)
   pub leaves : r .leaves ≡ foundWith (r .code) b p k .leaves
   pub rows : lent' ≡ written (foundWith (r .code) b p k .rows) lent
   pub tallying : tally' ≡ unlessRefused (r .code) (counted tally (r .leaves)) tally
-  pub carried : r .code ≡ 0 → means
+  pub carried : r .code ≡ 0 → answers (record { rows = take (r .count) lent'; leaves = r .leaves })
 
 -- the same by value, before it is handed over: an outcome o
-pub record OutcomeBy (rules : List Rule) (means : Type 0) (b : List ℕ) (p : List ℤ) (k : ℕ) (o : Outcome) : Type 0 where
+pub record OutcomeBy (rules : List Rule) (answers : Found → Type 0) (b : List ℕ) (p : List ℤ) (k : ℕ) (o : Outcome) : Type 0 where
   pub first : First rules (o .answer .code)
   pub listed : o .list .count ≡ o .answer .count
   pub few : o .list .count ≤ k
@@ -40,15 +40,15 @@ pub record OutcomeBy (rules : List Rule) (means : Type 0) (b : List ℕ) (p : Li
   pub rows : rowsIn (o .list .distances) (o .list .tags) (o .list .count) ≡ foundWith (o .answer .code) b p k .rows
   pub distances : length (o .list .distances) ≡ 64
   pub tags : length (o .list .tags) ≡ 64
-  pub carried : o .answer .code ≡ 0 → means
+  pub carried : o .answer .code ≡ 0 → answers (record { rows = rowsIn (o .list .distances) (o .list .tags) (o .list .count); leaves = o .answer .leaves })
 
 -- The act: its rules are the table's, and where it is carried out, the rows are the k nearest of the live records and the count is that of demand 3's set.
 abbrev pub Questioned : List ℕ → List ℤ → ℕ → List Row → Tally → Answer → List Row → Tally → Type 0
-Questioned b p k lent tally r lent' tally' = QuestionedBy (questionRules b p k (length lent)) (FoundAnswers b p k) b p k lent tally r lent' tally'
+Questioned b p k lent tally r lent' tally' = QuestionedBy (questionRules b p k (length lent)) (Answers b p k) b p k lent tally r lent' tally'
 
 -- and by value, with n rows lent
 abbrev pub QuestionOutcome : List ℕ → List ℤ → ℕ → ℕ → Outcome → Type 0
-QuestionOutcome b p k n o = OutcomeBy (questionRules b p k n) (FoundAnswers b p k) b p k o
+QuestionOutcome b p k n o = OutcomeBy (questionRules b p k n) (Answers b p k) b p k o
 
 -- refused with the number n: 0 rows, 0 leaves
 pub record Refused (n : ℕ) (o : Outcome) : Type 0 where

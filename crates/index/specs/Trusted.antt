@@ -14,7 +14,7 @@ use lib.ListN.{length}
 use Rattle.geometry.specs.Stored.{inRange}
 use Rattle.pagestore.specs.declared.Record.{Record}
 use Rattle.pagestore.specs.Store.{View, viewOf, fieldAt, level, freeAt}
-use Rattle.trees.specs.Sound.{Permitted, SoundIndex}
+use Rattle.trees.specs.Sound.{Permitted}
 use Rattle.tree.specs.Insertion.{pagesWanted}
 use Rattle.tree.specs.Lookup.{findIn}
 use Rattle.lending.specs.declared.Answer.{Answer}
@@ -22,7 +22,7 @@ use Rattle.lending.specs.declared.Outcome.{Outcome}
 use Rattle.lending.specs.declared.Tally.{Tally}
 use Rattle.candidates.specs.declared.Row.{Row}
 use Rattle.index.specs.Refusals.{Rule, First, recordOf}
-use Rattle.index.specs.Answers.{FoundAnswers}
+use Rattle.index.specs.Answers.{AnswersIfSound}
 use Rattle.index.specs.Questions.{OutcomeBy, QuestionedBy}
 
 -- the point p has as many coordinates as the index b has features: 1 to 16
@@ -91,7 +91,7 @@ numbers (rule ∷ rules) = rule .0 ∷ numbers rules
 
 -- A question without the check, by value and as it is handed over. Where it is carried out on a sound index, its rows and its count are the act's.
 abbrev pub TrustedOutcome : List ℕ → List ℤ → ℕ → ℕ → Outcome → Type 0
-TrustedOutcome b p k n o = OutcomeBy (trustedQuestion b p k n) (SoundIndex b → FoundAnswers b p k) b p k o
+TrustedOutcome b p k n o = OutcomeBy (trustedQuestion b p k n) (AnswersIfSound b p k) b p k o
 
 abbrev pub TrustedQuestioned : List ℕ → List ℤ → ℕ → List Row → Tally → Answer → List Row → Tally → Type 0
-TrustedQuestioned b p k lent tally r lent' tally' = QuestionedBy (trustedQuestion b p k (length lent)) (SoundIndex b → FoundAnswers b p k) b p k lent tally r lent' tally'
+TrustedQuestioned b p k lent tally r lent' tally' = QuestionedBy (trustedQuestion b p k (length lent)) (AnswersIfSound b p k) b p k lent tally r lent' tally'

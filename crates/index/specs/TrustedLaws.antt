@@ -22,7 +22,7 @@ use Rattle.lending.specs.declared.Tally.{Tally}
 use Rattle.lending.specs.Delivered.{Delivered}
 use Rattle.index.specs.Refusals.{Rule, First, liveTimes, pagesToEven, insertRules, deleteRules, questionRules}
 use Rattle.index.specs.RefusalLaws.{evening-takes-none, all-hold, put-in, later}
-use Rattle.index.specs.Answers.{FoundAnswers}
+use Rattle.index.specs.Answers.{AnswersIfSound}
 use Rattle.index.specs.Questions.{QuestionOutcome, Questioned}
 use Rattle.index.specs.QuestionLaws.{handed-over}
 use Rattle.index.specs.Trusted.{Suits, trustedInsert, trustedDelete, trustedQuestion, numbers, TrustedOutcome, TrustedQuestioned}
@@ -144,7 +144,7 @@ module _ (b : List ℕ) (p : List ℤ) (k : ℕ) (lent : List Row) (tally : Tall
       let w = all-hold (trustedQuestion b p k (length lent)) refl (subst (First (trustedQuestion b p k (length lent))) z f) in (w .1 .1 .1 .1 .0 .1, w .1 .1 .1 .1 .1 .0)
 
   pub trusted-hands : TrustedOutcome b p k (length lent) o → (r : Answer) (lent' : List Row) (tally' : Tally) → Delivered o lent tally r lent' tally' → TrustedQuestioned b p k lent tally r lent' tally'
-  trusted-hands a = handed-over (trustedQuestion b p k (length lent)) (SoundIndex b → FoundAnswers b p k) b p k lent tally o a (room (a .first))
+  trusted-hands a = handed-over (trustedQuestion b p k (length lent)) (AnswersIfSound b p k) b p k lent tally o a (room (a .first))
 
 -- on a sound index the trusted question is the question
 pub questioned-same : (b : List ℕ) → SoundIndex b → (p : List ℤ) (k : ℕ) (lent : List Row) (tally : Tally) (r : Answer) (lent' : List Row) (tally' : Tally)

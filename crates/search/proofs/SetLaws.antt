@@ -61,7 +61,7 @@ module _ (b : List ℕ) (s : SoundIndex b) (q : List ℕ) (same : length q ≡ v
   abbrev v : View
   v = viewOf b
 
-  -- the bound of a leaf that holds records is the bound of its span
+  -- the bound of a leaf that holds records is the bound of its span (01)
   leaf-bound : (t : Item 1) → Ordered (v .d) 0 t → 0 < length (t .1)
       → IsBound square (pointOf q) (firstKey (v .d) (t .1) .pyramid .0) (firstKey (v .d) (t .1) .height .0) (lastKey (v .d) (t .1) .pyramid .0) (lastKey (v .d) (t .1) .height .0) (leafBound (v .d) q t)
   unfolding leafBound spanBound firstKey lastKey keyOf
@@ -98,6 +98,11 @@ module _ (b : List ℕ) (s : SoundIndex b) (q : List ℕ) (same : length q ≡ v
       back : k ≤ length (nearest ranking k (rowsOf v q)) → (length (live v) < k) ⊎ Near (v .d) (pointOf q) (t .1) (lastDistance v q k) → leb (leafBound (v .d) q t) (lastDistance v q k) ≡ true
       back f (inl g) = let h = nearest-length v q k .1 g in absurd (omega arith)
       back f (inr g) = le-leb _ _ (le-trans (leaf-bound t o some .least (g .point) (g .features) (g .grid) (g .after) (g .upto)) (g .near))
+
+  -- leaves-bound: so for all leaves of the index: `leafBound` is reached by a grid point of the span and is least
+  pub leaves-bound : 0 < v .total → All (λ t. IsBound square (pointOf q) (firstKey (v .d) (t .1) .pyramid .0) (firstKey (v .d) (t .1) .height .0) (lastKey (v .d) (t .1) .pyramid .0) (lastKey (v .d) (t .1) .height .0) (leafBound (v .d) q t)) (leavesOf v)
+  unfolding leavesOf Branching
+  leaves-bound h = all-map (λ t (o : Ordered (v .d) 0 t). leaf-bound t o (o .some)) (leaves-ordered (v .d) (v .level) (treeOf v) (tree-ordered b s h))
 
   -- set-points: a leaf is in the set just if it holds records, and fewer than k points live or its span has a grid point no farther than the last row
   pub set-points : All (λ t. (toRead v q k t ≡ true → Called v q k t) × (Called v q k t → toRead v q k t ≡ true)) (leavesOf v)

@@ -2,7 +2,7 @@
 use denote.Ref.{now}
 use borrow.Author.Needs.{needs}
 use Rattle.index.specs.Refusals.{questionRules}
-use Rattle.index.specs.Answers.{FoundAnswers}
+use Rattle.index.specs.Answers.{Answers}
 use Rattle.index.specs.TrustedLaws.{asked-same}
 use Rattle.index.proofs.RuleLaws.{checked-sound, question-unsound}
 use Rattle.index.proofs.AskLaws.{asked-refused}
@@ -18,7 +18,7 @@ refused-requires c κs = search needs
 returns : tie.Need-returns
 returns c =
     let a = c .before .before .before .before .args in let b = now (a .index) in let p = now (a .point) in
-    asked-refused (questionRules b p (a .what .k) (a .lent)) (FoundAnswers b p (a .what .k)) b p (a .what .k) _ _ (question-unsound b _ (c .before .before .refuse-index .ensures) (c .before .if1 .taken) p (a .what .k) (a .lent)) (c .before .if1 .taken) (c .refused .ensures)
+    asked-refused (questionRules b p (a .what .k) (a .lent)) (Answers b p (a .what .k)) b p (a .what .k) _ _ (question-unsound b _ (c .before .before .refuse-index .ensures) (c .before .if1 .taken) p (a .what .k) (a .lent)) (c .before .if1 .taken) (c .refused .ensures)
 
 question-outcome-requires : tie.Need-question-outcome-requires
 question-outcome-requires c κs = search needs

@@ -1,8 +1,7 @@
 -- `index::trusted::question_outcome` meets its contract: what its callees find, put together. Assumes nothing.
 use denote.Ref.{now}
 use borrow.Author.Needs.{needs}
-use Rattle.trees.specs.Sound.{SoundIndex}
-use Rattle.index.specs.Answers.{FoundAnswers}
+use Rattle.index.specs.Answers.{AnswersIfSound}
 use Rattle.index.specs.Trusted.{trustedQuestion}
 use Rattle.index.proofs.RuleLaws.{may-search, trusted-answers}
 use Rattle.index.proofs.AskLaws.{asked-refused, asked-answered}
@@ -18,7 +17,7 @@ refused-requires c κs = search needs
 returns : tie.Need-returns
 returns c =
     let a = c .before .before .before .before .args in let b = now (a .index) in let p = now (a .point) in
-    asked-refused (trustedQuestion b p (a .what .k) (a .lent)) (SoundIndex b → FoundAnswers b p (a .what .k)) b p (a .what .k) _ _ (c .before .before .refuse-question .ensures) (c .before .if1 .taken) (c .refused .ensures)
+    asked-refused (trustedQuestion b p (a .what .k) (a .lent)) (AnswersIfSound b p (a .what .k)) b p (a .what .k) _ _ (c .before .before .refuse-question .ensures) (c .before .if1 .taken) (c .refused .ensures)
 
 answered-requires : tie.Need-answered-requires
 answered-requires c κs =
@@ -27,7 +26,7 @@ answered-requires c κs =
 returns-2 : tie.Need-returns-2
 returns-2 c =
     let a = c .before .before .before .before .args in let b = now (a .index) in let p = now (a .point) in let first = c .before .before .refuse-question .ensures in
-    asked-answered (trustedQuestion b p (a .what .k) (a .lent)) (SoundIndex b → FoundAnswers b p (a .what .k)) b p (a .what .k) _ _ first (c .before .if1 .left) (may-search b p (a .what .k) (a .lent) _ first (c .before .if1 .left) .4) (trusted-answers b p (a .what .k) (a .lent) _ first (c .before .if1 .left)) (c .answered .ensures)
+    asked-answered (trustedQuestion b p (a .what .k) (a .lent)) (AnswersIfSound b p (a .what .k)) b p (a .what .k) _ _ first (c .before .if1 .left) (may-search b p (a .what .k) (a .lent) _ first (c .before .if1 .left) .4) (trusted-answers b p (a .what .k) (a .lent) _ first (c .before .if1 .left)) (c .answered .ensures)
 
 pub question-outcome-spec : {M : Type 1} → statement M
 question-outcome-spec =
