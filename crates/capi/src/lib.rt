@@ -1,4 +1,4 @@
-// The acts for programs in C and other languages (include/epoch_index.h). Each is the act of `index` and promises what that promises.
+// The acts for programs in C and other languages (include/epoch_index.h, include/epoch_index_unchecked.h). Each is the act of `index` and promises what that promises.
 ghost use mathlib.Core.Path.{_≡_};
 ghost use lib.ListN.{length};
 ghost use Rattle.index.specs.CheckAnswers.{CheckAnswer};

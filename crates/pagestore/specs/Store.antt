@@ -1,5 +1,5 @@
 -- The page store: what an index holds, whatever its bytes are, and what each operation leaves. Nothing above this crate sees a byte:
--- the definitions without a mark open only to the modules below this one. Of these, RangeLaws, PageLaws, FreeLaws and NewLaws say all that is
+-- the definitions without a mark open only to the modules below this one. Of these, RangeLaws, PageLaws, FreeLaws, NewLaws and CountLaws say all that is
 -- used of them above; StretchLaws is for the proofs of this crate.
 use mathlib.Core.Path.{_≡_}
 use mathlib.Core.Bool.{Bool, false, _&&_}

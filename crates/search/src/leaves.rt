@@ -97,9 +97,9 @@ fn offer_record(
     offer(distances, tags, n, k, row)
 }
 
-// Offers the records of a leaf page, handed over as a part of the index, to the n rows held. No other function of the
-// search reads a leaf page. The distances come first, all together;
-// where none is near enough, no record is looked at.
+// Offers the records of a leaf page, handed over as a part of the index, to the n rows held. No function of the search reads a
+// leaf page but this one and those to which it hands the part on. The distances come first, all together; where none is near
+// enough, no record is looked at.
 fn offer_leaf(
     page: &[u8],
     q: &[u16],

@@ -1,4 +1,4 @@
-// The tree over the page store: insert, delete, find, leaves in key order. Each function is total, whatever the index holds.
+// The tree over the page store: insert, delete, find, the number of leaves. Nothing is assumed of what the index holds.
 mod keyed;
 mod lookup;
 
