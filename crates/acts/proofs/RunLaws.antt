@@ -2,7 +2,7 @@
 use mathlib.Core.Path.{_≡_, refl, sym, ap, _∙_, subst}
 use mathlib.Core.Logic.{_⊎_, inl, inr}
 use mathlib.Core.Bool.{true, false}
-use mathlib.Core.List.{List, [], _++_}
+use mathlib.Core.List.{List, [], _++_, append-nil}
 use Prim.Native.Nat.{ℕ, suc, _+_, _-_, _≤_, _<_}
 use native.Mathlib.Omega.{arith}
 use lib.ListN.{length, take, drop}
@@ -20,7 +20,7 @@ use Rattle.acts_step.specs.declared.Progress.{Progress}
 use Rattle.acts_step.proofs.PutLaws.{written-then}
 use Rattle.acts_step.proofs.AdvanceLaws.{advances-none, advances-then, takes-advances, written-none, hands-none, hands-more}
 use Rattle.acts_step.proofs.PrintLaws.{text-prints, text-ends}
-use Rattle.acts.specs.Running.{Fits, Placed, Open, Full, Broken, Cleared, roomy, flushed, broken, Ran, Through, UsedUp, Taken, Closed, stays, closed, fails, Whole}
+use Rattle.acts.specs.Running.{Fits, Placed, Open, Full, Cleared, roomy, flushed, broken, Ran, Through, Stopped, UsedUp, Taken, Closed, stays, closed, fails, early, late, Printed, Whole}
 
 -- ---- THE LINES OF A CHUNK
 
@@ -116,29 +116,43 @@ pub flush-makes : (out : List ℕ) (s r : Progress) → Full (length out) s → 
 flush-makes out s r (inl e) most f n = let z = f .empty in flushed e f (record { room = omega arith; numbers = omega arith })
 flush-makes out s r (inr e) most f n = let z = f .number in absurd (omega arith)
 
-pub flush-ends : (out : List ℕ) (s t r : Progress) → Flushed s t → Placed t false (t .at) 0 r → Cleared out s r
-flush-ends out s t r f p =
-    broken (record { d = p .d ∙ f .d; number = p .number ∙ f .number; held = p .held ∙ f .held; at = p .placed ∙ f .at; empty = p .ends }) (p .goes)
+-- there is no number for the line
+pub flush-ends : (out : List ℕ) (s t r : Progress) → 18446744073709551614 < t .number → Flushed s t → Placed t false (t .at) 0 r → Cleared out s r
+flush-ends out s t r n f p =
+    let z = f .number in
+    broken (omega arith) (record { d = p .d ∙ f .d; number = p .number ∙ f .number; held = p .held ∙ f .held; at = p .placed ∙ f .at; empty = p .ends }) (p .goes)
 
-pub cleared-broken : {out : List ℕ} {s t : Progress} → Cleared out s t → s .going ≡ true → t .going ≡ false → Broken t
-cleared-broken (roomy o e) g h = false-true (sym h ∙ ap (λ (x : Progress). x .going) e ∙ g)
-cleared-broken (flushed n f o) g h = record { stops = h; empty = f .empty }
-cleared-broken (broken f e) g h = record { stops = h; empty = f .empty }
+-- a run that ends there had no room or no number
+cleared-full : {out : List ℕ} {s t : Progress} → Cleared out s t → s .going ≡ true → t .going ≡ false → Full (length out) s × Flushed s t
+cleared-full (roomy o e) g h = false-true (sym h ∙ ap (λ (x : Progress). x .going) e ∙ g)
+cleared-full (flushed n f o) g h = (inl n, f)
+cleared-full (broken n f e) g h = (inr n, f)
 
 pub cleared-open : {out : List ℕ} {s t : Progress} → Cleared out s t → t .going ≡ true → Open (length out) t
 cleared-open {out = out} (roomy o e) h = subst (Open (length out)) (sym e) o
 cleared-open (flushed n f o) h = o
-cleared-open (broken f e) h = false-true (sym e ∙ h)
+cleared-open (broken n f e) h = false-true (sym e ∙ h)
 
 pub cleared-same : {out : List ℕ} {s t : Progress} → Cleared out s t → (t .held ≡ s .held) × ((t .at ≡ s .at) × (t .end ≤ s .end))
 cleared-same {s = s} {t = t} (roomy o e) = let z : t .end ≡ s .end = ap (λ (x : Progress). x .end) e in (ap (λ (x : Progress). x .held) e, (ap (λ (x : Progress). x .at) e, omega arith))
 cleared-same (flushed n f o) = let z = f .empty in (f .held, (f .at, omega arith))
-cleared-same (broken f e) = let z = f .empty in (f .held, (f .at, omega arith))
+cleared-same (broken n f e) = let z = f .empty in (f .held, (f .at, omega arith))
 
 pub cleared-hands : (b held out i : List ℕ) (s t : Progress) → Cleared out s t → s .end ≤ length out → s .going ≡ true → t .going ≡ true → (w : List ℕ) × Hands b held out i s b held out i t w
 cleared-hands b held out i s t (roomy o e) fit g h = ([], subst (λ (x : Progress). Hands b held out i s b held out i x []) (sym e) (hands-none b held out i s s fit refl refl refl refl refl))
 cleared-hands b held out i s t (flushed n f o) fit g h = (take (s .end) out, flush n f (h ∙ sym g))
-cleared-hands b held out i s t (broken f e) fit g h = false-true (sym e ∙ h)
+cleared-hands b held out i s t (broken n f e) fit g h = false-true (sym e ∙ h)
+
+pub cleared-fits : {index held out : List ℕ} {t u : Progress} → Fits index held out t → Cleared out t u → Fits index held out u
+cleared-fits f k =
+    let same = cleared-same k in let h = same .0 in let e = same .1 .1 in let p = f .few in let q = f .space in
+    record { pages = f .pages; line = f .line; few = omega arith; space = omega arith; most = f .most }
+
+stopped-at : {b held out i : List ℕ} {s : Progress} {index held' out' j : List ℕ} {t u : Progress} {w : List ℕ} → Hands b held out i s index held' out' j t w → t .going ≡ true
+    → Cleared out' t u → u .going ≡ false → Stopped b held out i s index held' out' u
+stopped-at {j = j} {t = t} {w = w} h g k e =
+    let z = cleared-full k g e in
+    record { at = t; left = j; handed = w; hands = h; goes = g; full = z .0; empties = z .1; stops = e }
 
 -- ---- ALL OF A CHUNK
 
@@ -182,6 +196,13 @@ module _ (index held chunk out : List ℕ) (s t : Progress) (h : t .held ≡ s .
     fits = w .fits;
   }
 
+  pub use-broken : (index' held' out' : List ℕ) (r u : Progress) → s .end ≤ length out → t .d ≡ s .d → t .number ≡ s .number → t .going ≡ s .going
+      → Uses index held chunk out t index' held' out' r → r .going ≡ true → Cleared out' r u → u .going ≡ false → UsedUp index held chunk out s index' held' out' u
+  use-broken index' held' out' r u fit d n g w on k z = record {
+    through = inr (stopped-at (both (hands-none index held out chunk s t fit h d n g e) (w .hands)) on k z);
+    fits = cleared-fits (w .fits) k;
+  }
+
 pub use-turn : (index₀ held₀ chunk out₀ : List ℕ) (t₀ : Progress) (index held out : List ℕ) (t u : Progress) (index' held' out' : List ℕ) (r : Progress)
     → Uses index₀ held₀ chunk out₀ t₀ index held out t → t .going ≡ true → Cleared out t u → u .going ≡ true → length index' ≡ length index → length held' ≡ length held
     → length out' ≡ length out → Ran index held chunk out u index' held' out' r → Uses index₀ held₀ chunk out₀ t₀ index' held' out' r
@@ -209,17 +230,8 @@ use-less chunk out t u r on h k go o =
     let g : t .at < r .at = let b : u .at < length chunk = omega arith in let z = o go b (cleared-open k go) in omega arith in
     cases (r .going) (λ e. rw (e, on) (omega arith)) (λ e. rw (e, on) (omega arith))
 
-pub cleared-fits : {index held out : List ℕ} {t u : Progress} → Fits index held out t → Cleared out t u → Fits index held out u
-cleared-fits f k =
-    let same = cleared-same k in let h = same .0 in let e = same .1 .1 in let p = f .few in let q = f .space in
-    record { pages = f .pages; line = f .line; few = omega arith; space = omega arith; most = f .most }
-
 pub use-needs : {index held out : List ℕ} (n : ℕ) (t u : Progress) → Fits index held out t → t .at ≤ n → Cleared out t u → Fits index held out u × (u .at ≤ n)
 use-needs n t u f w k = let a = cleared-same k .1 .0 in (cleared-fits f k, omega arith)
-
-pub use-broken : (index₀ held₀ chunk out₀ : List ℕ) (s : Progress) (index held out : List ℕ) (t u : Progress) → Fits index held out t → t .going ≡ true → Cleared out t u → u .going ≡ false
-    → UsedUp index₀ held₀ chunk out₀ s index held out u
-use-broken index₀ held₀ chunk out₀ s index held out t u f on k e = record { through = inr (cleared-broken k on e); fits = cleared-fits f k }
 
 -- ---- THE CHUNKS OF AN INPUT
 
@@ -232,34 +244,40 @@ pub record Reads (index₀ held₀ chunk₀ out₀ : List ℕ) (t₀ : Progress)
 
 pub input-start : (index held chunk out : List ℕ) (t : Progress) → Fits index held out t → Reads index held chunk out t index held chunk out t
 input-start index held chunk out t f = record {
-  taken = record { through = inl ([], record { left = []; handed = []; hands = hands-none index held out [] t t (f .space) refl refl refl refl refl; all = λ e. refl }); fits = f };
+  taken = record { input = []; through = inl (record { left = []; handed = []; hands = hands-none index held out [] t t (f .space) refl refl refl refl refl; all = λ e. refl }); fits = f };
   pages = refl;
   lines = refl;
   chunks = refl;
   space = refl;
 }
 
-through-then : {b held out i : List ℕ} {s : Progress} {m held₁ out₁ j : List ℕ} {t : Progress} {c held₂ out₂ : List ℕ} {r : Progress}
-    → Through b held out i s m held₁ out₁ t → t .going ≡ true → Through m held₁ out₁ j t c held₂ out₂ r → Through b held out (i ++ j) s c held₂ out₂ r
-through-then {b = b} {held = held} {out = out} {i = i} {s = s} {m = m} {held₁ = held₁} {out₁ = out₁} {j = j} {t = t} p g q = record {
+-- with more input j behind what is done
+through-more : {b held out i : List ℕ} {s : Progress} {m held₁ out₁ : List ℕ} {t : Progress} (j : List ℕ) (p : Through b held out i s m held₁ out₁ t) → t .going ≡ true
+    → Hands b held out (i ++ j) s m held₁ out₁ j t (p .handed)
+through-more {b = b} {held = held} {out = out} {i = i} {s = s} {m = m} {held₁ = held₁} {out₁ = out₁} {t = t} j p g =
+    subst (λ (x : List ℕ). Hands b held out (i ++ j) s m held₁ out₁ (x ++ j) t (p .handed)) (p .all g) (hands-more j (p .hands))
+
+takes-on : {b held out i : List ℕ} {s : Progress} {m held₁ out₁ j : List ℕ} {t : Progress} {c held₂ out₂ : List ℕ} {r : Progress}
+    → Through b held out i s m held₁ out₁ t ⊎ Stopped b held out i s m held₁ out₁ t → t .going ≡ true → Through m held₁ out₁ j t c held₂ out₂ r ⊎ Stopped m held₁ out₁ j t c held₂ out₂ r
+    → Through b held out (i ++ j) s c held₂ out₂ r ⊎ Stopped b held out (i ++ j) s c held₂ out₂ r
+takes-on (inr p) g q = false-true (sym (p .stops) ∙ g)
+takes-on {j = j} (inl p) g (inl q) = inl (record { left = q .left; handed = p .handed ++ q .handed; hands = both (through-more j p g) (q .hands); all = q .all })
+takes-on {j = j} (inl p) g (inr q) = inr (record {
+  at = q .at;
   left = q .left;
   handed = p .handed ++ q .handed;
-  hands = both (subst (λ (x : List ℕ). Hands b held out (i ++ j) s m held₁ out₁ (x ++ j) t (p .handed)) (p .all g) (hands-more j (p .hands))) (q .hands);
-  all = q .all;
-}
-
-takes-on : {b held out : List ℕ} {s : Progress} {m held₁ out₁ j : List ℕ} {t : Progress} {c held₂ out₂ : List ℕ} {r : Progress}
-    → ((i : List ℕ) × Through b held out i s m held₁ out₁ t) ⊎ Broken t → t .going ≡ true → Through m held₁ out₁ j t c held₂ out₂ r ⊎ Broken r
-    → ((i : List ℕ) × Through b held out i s c held₂ out₂ r) ⊎ Broken r
-takes-on p g (inr q) = inr q
-takes-on (inr p) g (inl q) = false-true (sym (p .stops) ∙ g)
-takes-on {j = j} (inl p) g (inl q) = inl (p .0 ++ j, through-then (p .1) g q)
+  hands = both (through-more j p g) (q .hands);
+  goes = q .goes;
+  full = q .full;
+  empties = q .empties;
+  stops = q .stops;
+})
 
 pub input-turn : (index₀ held₀ chunk₀ out₀ : List ℕ) (t₀ : Progress) (index held chunk out index' held' chunk' part out' : List ℕ) (t r : Progress)
     → Reads index₀ held₀ chunk₀ out₀ t₀ index held chunk out t → t .going ≡ true → length index' ≡ length index → length held' ≡ length held → length chunk' ≡ length chunk
     → length out' ≡ length out → UsedUp index held part out t index' held' out' r → Reads index₀ held₀ chunk₀ out₀ t₀ index' held' chunk' out' r
 input-turn index₀ held₀ chunk₀ out₀ t₀ index held chunk out index' held' chunk' part out' t r w g a b c d f = record {
-  taken = record { through = takes-on (w .taken .through) g (f .through); fits = f .fits };
+  taken = record { input = w .taken .input ++ part; through = takes-on (w .taken .through) g (f .through); fits = f .fits };
   pages = a ∙ w .pages;
   lines = b ∙ w .lines;
   chunks = c ∙ w .chunks;
@@ -280,34 +298,45 @@ closes-room (step.last w e) = e .done .room
 closed-space : {b held out : List ℕ} {s : Progress} {c out' : List ℕ} {r : Progress} → s .end ≤ length out → length out' ≡ length out → Closed b held out s c out' r → r .end ≤ length out'
 closed-space {s = s} {r = r} fit len (stays g a b e) = let h : r .end ≡ s .end = ap (λ (x : Progress). x .end) e in omega arith
 closed-space fit len (closed t g k h w) = let o = cleared-open k h .room in let y = closes-room w in omega arith
-closed-space fit len (fails y) = let z = y .empty in omega arith
+closed-space fit len (fails g k h a b) = let z = cleared-same k .1 .1 in omega arith
 
--- b: the bytes that the index is made in
-abbrev Printed : List ℕ → List ℕ → List ℕ → Progress → Type 0
-Printed b index out r = (i : List ℕ) × ((handed : List ℕ) × Prints b i index (handed ++ take (r .end) out))
+module _ {b held out i : List ℕ} {s : Progress} {m held₁ out₁ : List ℕ} {t : Progress} {c out₂ : List ℕ} {r : Progress} where
+  through-closed : Fresh s → Fits m held₁ out₁ t → Through b held out i s m held₁ out₁ t → Closed m held₁ out₁ t c out₂ r
+      → Printed b held out i s c out₂ r ⊎ Stopped b held out i s c held₁ out₂ r
+  through-closed f y p (stays g x z e) = rw (x, z, e) (inl (record {
+    handed = p .handed;
+    ends = early (p .hands) g;
+    prints = subst (λ (j : List ℕ). Prints b j m (p .handed ++ take (t .end) out₁)) (append-nil i) (text-ends b held out i s m held₁ out₁ (p .left) t (p .handed) f (p .hands) g []);
+  }))
+  through-closed f y p (closed u g k h w) =
+      let room = cleared-hands m held₁ out₁ [] t u k (y .space) g h in
+      let all : Hands b held out i s m held₁ out₁ [] t (p .handed) = subst (λ (x : List ℕ). Hands b held out i s m held₁ out₁ x t (p .handed)) (p .all g) (p .hands) in
+      let z = cleared-fits y k in let few = z .few in let line = z .line in
+      let fit : u .held ≤ length held₁ = omega arith in
+      inl (record {
+        handed = p .handed ++ room .0;
+        ends = late (both all (room .1)) h w;
+        prints = text-prints b held out i s m held₁ out₁ u (p .handed ++ room .0) f (both all (room .1)) h c out₂ r fit (z .space) w;
+      })
+  through-closed f y p (fails g k h x z) = rw (x, z) (inr (stopped-at (p .hands) g k h))
 
-prints-closed : {b held out i : List ℕ} {s : Progress} {m held₁ out₁ : List ℕ} {t : Progress} {c out₂ : List ℕ} {r : Progress} → Fresh s → Fits m held₁ out₁ t
-    → Through b held out i s m held₁ out₁ t → Closed m held₁ out₁ t c out₂ r → Printed b c out₂ r ⊎ Broken r
-prints-closed {b = b} {held = held} {out = out} {i = i} {s = s} {m = m} {held₁ = held₁} {out₁ = out₁} {t = t} f y p (stays g x z e) =
-    inl (rw (x, z, e) (i ++ [], (p .handed, text-ends b held out i s m held₁ out₁ (p .left) t (p .handed) f (p .hands) g [])))
-prints-closed {b = b} {held = held} {out = out} {i = i} {s = s} {m = m} {held₁ = held₁} {out₁ = out₁} {t = t} {c = c} {out₂ = out₂} {r = r} f y p (closed u g k h w) =
-    let room = cleared-hands m held₁ out₁ [] t u k (y .space) g h in
-    let all : Hands b held out i s m held₁ out₁ [] t (p .handed) = subst (λ (x : List ℕ). Hands b held out i s m held₁ out₁ x t (p .handed)) (p .all g) (p .hands) in
-    let z = cleared-fits y k in let few = z .few in let line = z .line in
-    let fit : u .held ≤ length held₁ = omega arith in
-    inl (i, (p .handed ++ room .0, text-prints b held out i s m held₁ out₁ u (p .handed ++ room .0) f (both all (room .1)) h c out₂ r fit (z .space) w))
-prints-closed f y p (fails z) = inr z
+  stopped-closed : Stopped b held out i s m held₁ out₁ t → Closed m held₁ out₁ t c out₂ r → Stopped b held out i s c held₁ out₂ r
+  stopped-closed y (stays g x z e) = rw (x, z, e) y
+  stopped-closed y (closed u g k h w) = false-true (sym (y .stops) ∙ g)
+  stopped-closed y (fails g k h x z) = false-true (sym (y .stops) ∙ g)
 
-broken-closed : {m held₁ out₁ : List ℕ} {t : Progress} {c out₂ : List ℕ} {r : Progress} → Broken t → Closed m held₁ out₁ t c out₂ r → Broken r
-broken-closed y (stays g x z e) = subst Broken (sym e) y
-broken-closed y (closed u g k h w) = false-true (sym (y .stops) ∙ g)
-broken-closed y (fails z) = z
-
-either : {b held out : List ℕ} {s : Progress} {m held₁ out₁ : List ℕ} {t : Progress} {c out₂ : List ℕ} {r : Progress} → Fresh s → Fits m held₁ out₁ t
-    → ((i : List ℕ) × Through b held out i s m held₁ out₁ t) ⊎ Broken t → Closed m held₁ out₁ t c out₂ r → Printed b c out₂ r ⊎ Broken r
-either f y (inl p) k = prints-closed f y (p .1) k
-either f y (inr p) k = inr (broken-closed p k)
+  either : Fresh s → Fits m held₁ out₁ t → Through b held out i s m held₁ out₁ t ⊎ Stopped b held out i s m held₁ out₁ t → Closed m held₁ out₁ t c out₂ r
+      → Printed b held out i s c out₂ r ⊎ Stopped b held out i s c held₁ out₂ r
+  either f y (inl p) k = through-closed f y p k
+  either f y (inr p) k = inr (stopped-closed p k)
 
 pub whole-run : (b held out : List ℕ) (s : Progress) (m held₁ out₁ : List ℕ) (t : Progress) (c out₂ : List ℕ) (r : Progress) → Fresh s → length out₂ ≡ length out₁
-    → Taken b held out s m held₁ out₁ t → Closed m held₁ out₁ t c out₂ r → Whole b c out₂ r
-whole-run b held out s m held₁ out₁ t c out₂ r f len p k = record { prints = either f (p .fits) (p .through) k; space = closed-space (p .fits .space) len k }
+    → Taken b held out s m held₁ out₁ t → Closed m held₁ out₁ t c out₂ r → Whole b held out c out₂ r
+whole-run b held out s m held₁ out₁ t c out₂ r f len p k = record {
+  input = p .input;
+  start = s;
+  fresh = f;
+  line = held₁;
+  ends = either f (p .fits) (p .through) k;
+  space = closed-space (p .fits .space) len k;
+}

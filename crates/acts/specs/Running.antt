@@ -7,7 +7,7 @@ use Prim.Native.Nat.{ℕ, _+_, _≤_, _<_}
 use lib.ListN.{length, take, drop}
 use Rattle.acts_text.specs.Bytes.{Written}
 use Rattle.acts_step.specs.Steps.{indexBytes, mostPrinted}
-use Rattle.acts_step.specs.Advances.{Closes, Advances, Flushed, Hands}
+use Rattle.acts_step.specs.Advances.{Closes, Advances, Flushed, Hands, Fresh}
 use Rattle.acts_step.specs.Texts.{Prints}
 use Rattle.acts_step.specs.declared.Progress.{Progress}
 
@@ -37,16 +37,12 @@ pub record Open (space : ℕ) (s : Progress) : Type 0 where
 abbrev pub Full : ℕ → Progress → Type 0
 Full space s = (space < s .end + mostPrinted) ⊎ (18446744073709551615 ≤ s .number)
 
--- the run has ended since a write failed or line numbers are used up; nothing is left in the buffer
-pub record Broken (r : Progress) : Type 0 where
-  pub stops : r .going ≡ false
-  pub empty : r .end ≡ 0
-
--- room is made for a line: there was room, or all that stood in the buffer is handed over since there was none, or the run is broken
+-- room is made for a line: there was room; or there was none, and all that stood in the buffer is handed over; or it is, and the run ends, since line
+-- numbers are used up
 pub data Cleared (out : List ℕ) (s r : Progress) : Type 0 where
   roomy : Open (length out) s → r ≡ s → Cleared out s r
   flushed : length out < s .end + mostPrinted → Flushed s r → Open (length out) r → Cleared out s r
-  broken : Flushed s r → r .going ≡ false → Cleared out s r
+  broken : 18446744073709551615 ≤ s .number → Flushed s r → r .going ≡ false → Cleared out s r
 
 -- the lines of a chunk are done, from s .at on: the text that they print is written in the buffer behind what stood there, and every other byte of the
 -- buffer is as before. A run that goes on stops at the chunk's end, or where a line cannot be done. b, held, out: index, line and buffer before it
@@ -66,23 +62,53 @@ pub record Through (b held out i : List ℕ) (s : Progress) (index held' out' : 
   pub hands : Hands b held out i s index held' out' left r handed
   pub all : r .going ≡ true → left ≡ []
 
--- a chunk is done with, or the run is broken
+-- the run went on within the input i up to progress at, where no line can be done, and has ended there: what its lines print up to there was handed over
+-- before, or stood in the buffer, which is handed over last
+pub record Stopped (b held out i : List ℕ) (s : Progress) (index held' out' : List ℕ) (r : Progress) : Type 0 where
+  pub at : Progress
+  pub left : List ℕ
+  pub handed : List ℕ
+  pub hands : Hands b held out i s index held' out' left at handed
+  pub goes : at .going ≡ true
+  pub full : Full (length out') at
+  pub empties : Flushed at r
+  pub stops : r .going ≡ false
+
+-- a chunk is done with, or the run has stopped in it
 pub record UsedUp (b held chunk out : List ℕ) (s : Progress) (index held' out' : List ℕ) (r : Progress) : Type 0 where
-  pub through : Through b held out chunk s index held' out' r ⊎ Broken r
+  pub through : Through b held out chunk s index held' out' r ⊎ Stopped b held out chunk s index held' out' r
   pub fits : Fits index held' out' r
 
--- the same of what was read, i
+-- the same of what was read
 pub record Taken (b held out : List ℕ) (s : Progress) (index held' out' : List ℕ) (r : Progress) : Type 0 where
-  pub through : ((i : List ℕ) × Through b held out i s index held' out' r) ⊎ Broken r
+  pub input : List ℕ
+  pub through : Through b held out input s index held' out' r ⊎ Stopped b held out input s index held' out' r
   pub fits : Fits index held' out' r
 
 -- the end of input: a run that goes on ends a last line, once there is room for what it prints
 pub data Closed (b held out : List ℕ) (s : Progress) (index out' : List ℕ) (r : Progress) : Type 0 where
   stays : s .going ≡ false → index ≡ b → out' ≡ out → r ≡ s → Closed b held out s index out' r
   closed : (t : Progress) → s .going ≡ true → Cleared out s t → t .going ≡ true → Closes b held out t index out' r → Closed b held out s index out' r
-  fails : Broken r → Closed b held out s index out' r
+  fails : s .going ≡ true → Cleared out s r → r .going ≡ false → index ≡ b → out' ≡ out → Closed b held out s index out' r
 
--- a whole run: what was handed over, and then what stands in the buffer, is the text that the input i, which was read, calls for
-pub record Whole (b index out : List ℕ) (r : Progress) : Type 0 where
-  pub prints : ((i : List ℕ) × ((handed : List ℕ) × Prints b i index (handed ++ take (r .end) out))) ⊎ Broken r
-  pub space : r .end ≤ length out
+-- how a run on the input i ends that does not stop, with w handed over for want of room
+pub data Ends (b held out i : List ℕ) (s : Progress) (index out' : List ℕ) (r : Progress) (w : List ℕ) : Type 0 where
+  -- by its first line
+  early : {held' left : List ℕ} → Hands b held out i s index held' out' left r w → r .going ≡ false → Ends b held out i s index out' r w
+  -- with the input, whose end ends a last line
+  late : {m held' out₁ : List ℕ} {t : Progress} → Hands b held out i s m held' out₁ [] t w → t .going ≡ true → Closes m held' out₁ t index out' r → Ends b held out i s index out' r w
+
+-- then what was handed over, and what stands in the buffer, is the text that i calls for
+pub record Printed (b held out i : List ℕ) (s : Progress) (index out' : List ℕ) (r : Progress) : Type 0 where
+  pub handed : List ℕ
+  pub ends : Ends b held out i s index out' r handed
+  pub prints : Prints b i index (handed ++ take (r .end) out')
+
+-- a whole run, on the input that was read; line: the buffer of the current line at its end
+pub record Whole (b held out index out' : List ℕ) (r : Progress) : Type 0 where
+  pub input : List ℕ
+  pub start : Progress
+  pub fresh : Fresh start
+  pub line : List ℕ
+  pub ends : Printed b held out input start index out' r ⊎ Stopped b held out input start index line out' r
+  pub space : r .end ≤ length out'

@@ -153,7 +153,7 @@ fn close(index: &mut [u8], held: &[u8], out: &mut [u8], s: Progress) -> Progress
 // A whole run, from its first line to the end of input. What is left in `out` is still to be written.
 fn run(index: &mut [u8], held: &mut [u8], chunk: &mut [u8], out: &mut [u8]) -> Progress
     requires { ⌜ (length (now index) ≡ indexBytes) × (257 ≤ length (now held)) × (mostPrinted ≤ length (now out)) ⌝ }
-    ensures { λ r. ⌜ Whole (now (index .entry)) (now (index .exit)) (now (out .exit)) r ⌝ }
+    ensures { λ r. ⌜ Whole (now (index .entry)) (now (held .entry)) (now (out .entry)) (now (index .exit)) (now (out .exit)) r ⌝ }
 {
     let s = Progress {
         going: true,

@@ -2,7 +2,7 @@
 use mathlib.Core.Path.{refl}
 use borrow.Author.Tests.{not-true, not-false}
 use Rattle.acts.specs.Running.{stays, closed, fails}
-use Rattle.acts.proofs.RunLaws.{cleared-broken, close-needs}
+use Rattle.acts.proofs.RunLaws.{close-needs}
 use borrow.Author.Needs.{needs}
 use Rattle.acts.proofs.close.Statement.{statement}
 use Rattle.acts.proofs.close.Tie as tie
@@ -17,7 +17,7 @@ same-length : tie.Need-same-length
 same-length c = search needs
 
 returns-2 : tie.Need-returns-2
-returns-2 c = fails (cleared-broken (c .before .before .make-room .ensures) (not-false _ (c .before .before .before .before .if1 .left)) (not-true _ (c .if2 .taken)))
+returns-2 c = fails (not-false _ (c .before .before .before .before .if1 .left)) (c .before .before .make-room .ensures) (not-true _ (c .if2 .taken)) refl refl
 
 end-input-requires : tie.Need-end-input-requires
 end-input-requires c κs = close-needs (c .before .before .before .before .before .before .before .before .before .before .before .args .s) (c .before .before .before .before .make-room .result) (c .before .before .before .before .before .before .before .before .before .before .before .pre) (c .before .before .before .before .make-room .ensures) (not-false _ (c .before .before .if2 .left))

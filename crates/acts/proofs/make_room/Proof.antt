@@ -1,5 +1,6 @@
 -- `make_room` meets its contract. Assumes nothing.
 use mathlib.Core.Path.{refl}
+use native.Mathlib.Omega.{arith}
 use Rattle.acts.specs.Running.{roomy}
 use Rattle.acts.proofs.RunLaws.{flush-makes, flush-ends}
 use borrow.Author.Needs.{needs}
@@ -19,10 +20,10 @@ placed-requires : tie.Need-placed-requires
 placed-requires c κs = search needs
 
 returns-2 : tie.Need-returns-2
-returns-2 c = flush-ends _ (c .before .before .before .before .before .before .before .args .s) (c .before .before .before .flush .result) (c .placed .result) (c .before .before .before .flush .ensures) (c .placed .ensures)
+returns-2 c = flush-ends _ (c .before .before .before .before .before .before .before .args .s) (c .before .before .before .flush .result) (c .placed .result) (omega arith) (c .before .before .before .flush .ensures) (c .placed .ensures)
 
 returns-3 : tie.Need-returns-3
-returns-3 c = flush-makes _ (c .before .before .before .before .before .before .args .s) (c .before .before .flush .result) (c .before .before .before .before .has-room .ensures .1 (c .before .before .before .if1 .left)) (c .before .before .before .before .before .before .pre .1) (c .before .before .flush .ensures) (c .if2 .left)
+returns-3 c = flush-makes _ (c .before .before .before .before .before .before .args .s) (c .before .before .flush .result) (c .before .before .before .before .has-room .ensures .1 (c .before .before .before .if1 .left)) (c .before .before .before .before .before .before .pre .1) (c .before .before .flush .ensures) (omega arith)
 
 pub make-room-spec : {M : Type 1} → statement M
 make-room-spec =

@@ -34,8 +34,8 @@ same-length-3 c = c .before .before .before .before .before .before .before .loo
 
 returns : tie.Need-returns Inv-loop μ-loop
 returns c =
-    let L = c .before .before .before .before .before .before .before .loop in let M = c .before .before .make-room in
-    use-broken _ _ _ _ (c .before .before .before .before .before .before .before .before .before .before .before .before .before .args .s) (L .index) (L .held) (L .out) (L .t) (M .result) (L .inv .fits) (c .before .before .before .before .before .before .loop-test .taken) (M .ensures) (not-true _ (c .if2 .taken))
+    let L = c .before .before .before .before .before .before .before .loop in let M = c .before .before .make-room in let P = c .before .before .before .before .before .before .before .before .placed in let e = P .ensures in
+    use-broken _ _ _ _ (c .before .before .before .before .before .before .before .before .before .before .before .before .before .args .s) (P .result) (e .held) (e .ends) (L .index) (L .held) (L .out) (L .t) (M .result) (c .before .before .before .before .before .before .before .before .before .before .before .before .before .pre .space) (e .d) (e .number) (e .goes) (L .inv) (c .before .before .before .before .before .before .loop-test .taken) (M .ensures) (not-true _ (c .if2 .taken))
 
 run-chunk-requires : tie.Need-run-chunk-requires Inv-loop μ-loop
 run-chunk-requires c κs = let L = c .before .before .before .before .before .before .before .before .before .before .loop in let M = c .before .before .before .before .before .make-room in use-needs _ (L .t) (M .result) (L .inv .fits) (L .inv .within) (M .ensures)
