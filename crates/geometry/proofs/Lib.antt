@@ -1,11 +1,15 @@
 pub mod IntLaws
 pub mod StoredLaws
+pub mod GapLaws
 pub mod PairLaws
-pub mod SliceLaws
 pub mod ConvexLaws
+pub mod SliceLaws
 pub mod HeightLaws
 pub mod SpanLaws
 pub mod BoundLaws
 pub mod ExampleLaws
 pub mod KeyLaws
 pub mod LoopLaws
+pub mod QuestionLaws
+pub mod PackedLaws
+pub mod AskLaws

@@ -1,143 +1,200 @@
-// The bound of a span for an asked point q: the least squared distance to a grid point whose pair is in the span.
-// Per question, `nearest_heights` finds for each pyramid the least height at which it is nearest to q. The distance is convex in
-// the height, so over the heights of a span that height, clamped to them, is nearest: one sum over the coordinates for each pyramid of the span.
+// The bound of a span for a question: the least distance to a grid point whose pair is in the span.
+// Per question, `ask` notes how far out each coordinate is asked for, and `prepare` finds for each pyramid the least height at which it is nearest.
+// The distance is convex in the height, so over the heights of a span that height, clamped to them, is nearest: one sum over the coordinates for
+// each pyramid of the span.
 ghost use mathlib.Core.Path.{_≡_};
 ghost use mathlib.Core.Bool.{true, false};
 ghost use Prim.Native.Nat.{min, _+_, _*_, _-_, _<_, _≤_};
-ghost use lib.IntN.{natAbs, _-ℤ_};
 ghost use lib.ListN.{length};
-ghost use Rattle.geometry.specs.Points.{square};
-ghost use Rattle.geometry.specs.Stored.{coordOf, pointOf};
-ghost use Rattle.geometry.specs.Slices.{onAxis, sideBy, sliceBy, sliceAt, LeastAt, Nearest, lowestOf, highestOf, lastPyramid, leastIn, boundTo, boundOf};
+ghost use Rattle.geometry.specs.Features.{gapOf};
+ghost use Rattle.geometry.specs.Stored.{coordOf};
+ghost use Rattle.geometry.specs.Slices.{onAxis, axisNo, sliceBy, sliceAt, LeastAt, lowestOf, highestOf, lastPyramid, leastIn, boundTo, boundOf};
+ghost use Rattle.geometry.specs.Questions.{featuresOf, reachAt, sideSum, Prepared, sizeOf, askedOf, Packed, LaidOut, Spanned, Preparable, Heights, Ready};
 use crate::Pair;
-use crate::points::apart;
-use crate::points::cost;
+use crate::points::above;
+use crate::points::gap;
 use crate::points::greater;
-use crate::points::magnitude;
 use crate::points::smaller;
+use crate::points::weigh;
+use crate::points::wide;
 
-// What a has above b.
-fn above(a: u16, b: u16) -> u16
-    ensures { λ r. ⌜ r ≡ a - b ⌝ }
-{
-    if a < b { 0 } else { a - b }
-}
+// A question's list: low ends from place 0 on, high ends, weights and reaches from these.
+const HIGHS: usize = 16;
 
-// What coordinates beside the axis cost at height h: `extra` is 1 before the axis, where magnitudes stay below h, else 0.
-fn sides(q: &[u16], extra: u16, h: u16) -> u64
-    requires { ⌜ (length (now q) ≤ 16) × (extra ≤ 1) ⌝ }
-    ensures { λ r. ⌜ (r ≡ sideBy square 0 extra h (pointOf (now (q .entry)))) × (r ≤ 4294967296 * length (now (q .entry))) ⌝ }
+const WEIGHTS: usize = 32;
+
+const REACHES: usize = 48;
+
+// What coordinates of magnitude below k cost.
+fn sides(reach: &[u16], weight: &[u16], k: u16) -> u64
+    requires { ⌜ (length (now reach) ≤ 16) × (length (now weight) ≡ length (now reach)) ⌝ }
+    ensures { λ r. ⌜ (r ≡ sideSum k (now (reach .entry)) (now (weight .entry))) × (r ≤ 281474976710656 * length (now (reach .entry))) ⌝ }
 {
     let mut sum: u64 = 0;
     let mut m = 0;
-    while m < q.len() {
-        sum += cost(above(magnitude(q[m]) + extra, h));
+    while m < reach.len() {
+        sum += weigh(weight[m], above(reach[m], k));
         m += 1;
     }
     sum
 }
 
-// The distance of a stored coordinate from height h on its axis, on the side below 0 or not.
-fn axis_gap(x: u16, below: bool, h: u16) -> u16
+// How far out a stored range is: one more than its least magnitude.
+fn reach_at(low: u16, high: u16) -> u16
+    ensures { λ r. ⌜ r ≡ reachAt low high ⌝ }
+{
+    gap(low, high, 1000) + 1
+}
+
+// A question as one list: low ends, high ends, weights, and how far out each range is; the first 48 + d numbers are lent.
+pub fn ask(low: &[u16], high: &[u16], weight: &[u16]) -> [u16; 64]
+    requires { ⌜ (length (now low) ≤ 16) × (length (now high) ≡ length (now low)) × (length (now weight) ≡ length (now low)) ⌝ }
+    ensures { λ r. ⌜ LaidOut (now (low .entry)) (now (high .entry)) (now (weight .entry)) r ⌝ }
+{
+    let mut asked = [0u16; 64];
+    let mut m = 0;
+    while m < low.len() {
+        asked[m] = low[m];
+        asked[HIGHS + m] = high[m];
+        asked[WEIGHTS + m] = weight[m];
+        asked[REACHES + m] = reach_at(low[m], high[m]);
+        m += 1;
+    }
+    asked
+}
+
+// The gap of height h on an axis, on the side below 0 or not, from a stored range.
+fn axis_gap(low: u16, high: u16, below: bool, h: u16) -> u16
     requires { ⌜ h ≤ 1000 ⌝ }
-    ensures { λ r. ⌜ r ≡ natAbs (coordOf x -ℤ onAxis below h) ⌝ }
+    ensures { λ r. ⌜ r ≡ gapOf (coordOf low) (coordOf high) (onAxis below h) ⌝ }
 {
     if below {
-        apart(x, 1000 - h)
+        gap(low, high, 1000 - h)
     } else {
-        apart(x, 1000 + h)
+        gap(low, high, 1000 + h)
     }
 }
 
-// The least squared distance to the grid points of axis j, a side and height h.
-fn slice(q: &[u16], j: usize, below: bool, h: u16) -> u64
-    requires { ⌜ (length (now q) ≤ 16) × (j < length (now q)) × (h ≤ 1000) ⌝ }
-    ensures { λ r. ⌜ r ≡ sliceBy square 0 j below h (pointOf (now (q .entry))) ⌝ }
+// The least distance to the grid points of axis j, a side and height h.
+fn slice(
+    low: &[u16],
+    high: &[u16],
+    weight: &[u16],
+    reach: &[u16],
+    j: usize,
+    below: bool,
+    h: u16,
+) -> u64
+    requires { ⌜ Prepared (now low) (now high) (now weight) (now reach) × (j < length (now low)) × (h ≤ 1000) ⌝ }
+    ensures { λ r. ⌜ r ≡ sliceBy j below h (featuresOf (now (low .entry)) (now (high .entry)) (now (weight .entry))) ⌝ }
 {
     let after = j + 1;
-    let on = cost(axis_gap(q[j], below, h));
-    on + sides(&q[..j], 1, h) + sides(&q[after..], 0, h)
+    let on = weigh(weight[j], axis_gap(low[j], high[j], below, h));
+    on + sides(&reach[..j], &weight[..j], h) + sides(&reach[after..], &weight[after..], h + 1)
+}
+
+// The axis of pyramid i of d coordinates.
+fn axis_no(d: usize, i: usize) -> usize
+    requires { ⌜ i < d + d ⌝ }
+    ensures { λ r. ⌜ (r ≡ axisNo d i) × (r < d) ⌝ }
+{
+    if i < d { i } else { i - d }
 }
 
 // The same by the pyramid's number.
-fn slice_in(q: &[u16], i: usize, h: u16) -> u64
-    requires { ⌜ (length (now q) ≤ 16) × (i < length (now q) + length (now q)) × (h ≤ 1000) ⌝ }
-    ensures { λ r. ⌜ r ≡ sliceAt square (pointOf (now (q .entry))) i h ⌝ }
+fn slice_in(asked: &[u16], i: usize, h: u16) -> u64
+    requires { ⌜ Packed (now asked) × (i < sizeOf (now asked) + sizeOf (now asked)) × (h ≤ 1000) ⌝ }
+    ensures { λ r. ⌜ r ≡ sliceAt (askedOf (now (asked .entry))) i h ⌝ }
 {
-    let d = q.len();
-    if i < d {
-        slice(q, i, true, h)
-    } else {
-        slice(q, i - d, false, h)
-    }
+    let d = asked.len() - REACHES;
+    let high = HIGHS + d;
+    let weight = WEIGHTS + d;
+    let j = axis_no(d, i);
+    slice(
+        &asked[..d],
+        &asked[HIGHS..high],
+        &asked[WEIGHTS..weight],
+        &asked[REACHES..],
+        j,
+        i < d,
+        h,
+    )
 }
 
 // What a has above b, for longer numbers.
-fn beyond(a: u32, b: u32) -> u32
+fn beyond(a: u64, b: u64) -> u64
     ensures { λ r. ⌜ r ≡ a - b ⌝ }
 {
     if a < b { 0 } else { a - b }
 }
 
-// An excess and its count as one number; nothing has none.
-fn counted(x: u16) -> u32
-    ensures { λ r. ⌜ r < 131072 ⌝ }
+// An excess, weighted, and its weight as one number; nothing has none.
+fn counted(weight: u16, x: u16) -> u64
+    ensures { λ r. ⌜ r ≤ 72057594037927936 ⌝ }
 {
-    if x == 0 { 0 } else { 65536 + x as u32 }
+    if x == 0 {
+        0
+    } else {
+        wide(weight) * (1099511627776 + wide(x))
+    }
 }
 
-// What magnitudes have above h, in all, and how many they are.
-fn excess(q: &[u16], h: u16) -> u32
-    requires { ⌜ length (now q) ≤ 16 ⌝ }
-    ensures { λ r. ⌜ r ≤ 2097152 ⌝ }
+// What reaches have above k, weighted, in all, and what they weigh.
+fn excess(weight: &[u16], reach: &[u16], k: u16) -> u64
+    requires { ⌜ (length (now reach) ≤ 16) × (length (now weight) ≡ length (now reach)) ⌝ }
+    ensures { λ r. ⌜ r ≤ 1152921504606846976 ⌝ }
 {
-    let mut sum: u32 = 0;
+    let mut sum: u64 = 0;
     let mut m = 0;
-    while m < q.len() {
-        sum += counted(above(magnitude(q[m]), h));
+    while m < reach.len() {
+        sum += counted(weight[m], above(reach[m], k));
         m += 1;
     }
     sum
 }
 
 // A height is 1,000 at most.
-fn capped(x: u32) -> u16
+fn capped(x: u64) -> u16
     ensures { λ r. ⌜ r ≤ 1000 ⌝ }
 {
     if x < 1000 { x as u16 } else { 1000 }
 }
 
-// One step of Newton's method from height h on: where the distance from the axis outweighs what the other coordinates have
-// above h. The axis is at `at`, its coordinate towards the pyramid with 1,000 added.
-fn approach(q: &[u16], at: u16, h: u16) -> u16
-    requires { ⌜ length (now q) ≤ 16 ⌝ }
+// How far to rise from height h, where the others pull up and the axis, past its far end, pulls back.
+fn rise(others: u64, weight: u16, past: u16, held: bool) -> u16
+    requires { ⌜ others ≤ 1152921504606846976 ⌝ }
     ensures { λ r. ⌜ r ≤ 1000 ⌝ }
 {
-    let others = beyond(excess(q, h), counted(above(magnitude(at), h)));
-    let n = others / 65536 + 1;
-    let far = beyond(others % 65536 + at as u32, 1000 + h as u32);
-    let rise = capped((2 * far + n - 1) / (2 * n));
-    capped(h as u32 + rise as u32)
+    let own = if held { weight } else { 0 };
+    let n = others / 1099511627776 + wide(own);
+    if n == 0 {
+        return 0;
+    }
+    let pull = beyond(others % 1099511627776, wide(weight) * wide(past));
+    capped((2 * pull + n - 1) / (2 * n))
 }
 
-// The axis of pyramid i: its coordinate towards the pyramid, with 1,000 added.
-fn axis_at(q: &[u16], i: usize) -> u16
-    requires { ⌜ (length (now q) ≤ 16) × (i < length (now q) + length (now q)) ⌝ }
-{
-    let d = q.len();
-    if i < d { above(2000, q[i]) } else { q[i - d] }
-}
-
-// A height near that at which pyramid i is nearest; as a rule it is that one. Only the time taken rests on it.
-fn guess(q: &[u16], i: usize) -> u16
-    requires { ⌜ (length (now q) ≤ 16) × (i < length (now q) + length (now q)) ⌝ }
+// One step of Newton's method from height h on. The axis ends at `end`, towards the pyramid, with 1,000 added.
+fn approach(weight: &[u16], reach: &[u16], j: usize, end: u16, h: u16) -> u16
+    requires { ⌜ (length (now reach) ≤ 16) × (length (now weight) ≡ length (now reach)) × (j < length (now reach)) × (h ≤ 1000) ⌝ }
     ensures { λ r. ⌜ r ≤ 1000 ⌝ }
 {
-    let at = axis_at(q, i);
-    let mut h = smaller(above(at, 1000), 1000);
+    let own = counted(weight[j], above(reach[j], h + 1));
+    let others = beyond(excess(weight, reach, h + 1), own);
+    let up = rise(others, weight[j], above(1000 + h, end), end <= 1000 + h);
+    let most = if 1000 + h < end { end - 1000 } else { 1000 };
+    smaller(smaller(h + up, most), 1000)
+}
+
+// A height near that at which an axis from `start` to `end` is nearest. Only the time taken rests on it.
+fn climb(weight: &[u16], reach: &[u16], j: usize, start: u16, end: u16) -> u16
+    requires { ⌜ (length (now reach) ≤ 16) × (length (now weight) ≡ length (now reach)) × (j < length (now reach)) ⌝ }
+    ensures { λ r. ⌜ r ≤ 1000 ⌝ }
+{
+    let mut h = smaller(above(start, 1000), 1000);
     let mut turn: u32 = 0;
     while turn < 6 {
-        let next = approach(q, at, h);
+        let next = approach(weight, reach, j, end, h);
         if next == h {
             return h;
         }
@@ -145,6 +202,21 @@ fn guess(q: &[u16], i: usize) -> u16
         turn += 1;
     }
     h
+}
+
+// That of pyramid i: below 0 the axis is mirrored.
+fn guess(asked: &[u16], i: usize) -> u16
+    requires { ⌜ Packed (now asked) × (i < sizeOf (now asked) + sizeOf (now asked)) ⌝ }
+    ensures { λ r. ⌜ r ≤ 1000 ⌝ }
+{
+    let d = asked.len() - REACHES;
+    let j = axis_no(d, i);
+    let low = asked[j];
+    let high = asked[HIGHS + j];
+    let start = if i < d { above(2000, high) } else { low };
+    let end = if i < d { above(2000, low) } else { high };
+    let weight = WEIGHTS + d;
+    climb(&asked[WEIGHTS..weight], &asked[REACHES..], j, start, end)
 }
 
 // Where to look next between low and high: at the guess, or in the middle after some turns.
@@ -159,41 +231,39 @@ fn probe(low: u16, high: u16, at: u16, turn: u16) -> u16
 }
 
 // The least height at which pyramid i is nearest: from the guess on, by bisection where it was not near.
-fn nearest_height(q: &[u16], i: usize) -> u16
-    requires { ⌜ (length (now q) ≤ 16) × (i < length (now q) + length (now q)) ⌝ }
-    ensures { λ r. ⌜ LeastAt (sliceAt square (pointOf (now (q .entry))) i) 0 1000 r ⌝ }
+fn nearest_height(asked: &[u16], i: usize) -> u16
+    requires { ⌜ Packed (now asked) × (i < sizeOf (now asked) + sizeOf (now asked)) ⌝ }
+    ensures { λ r. ⌜ LeastAt (sliceAt (askedOf (now (asked .entry))) i) 0 1000 r ⌝ }
 {
-    let mut low: u16 = 0;
-    let mut high: u16 = 1000;
-    let mut at = guess(q, i);
+    let mut lo: u16 = 0;
+    let mut hi: u16 = 1000;
+    let mut at = guess(asked, i);
     let mut turn: u16 = 0;
-    while low < high {
-        let mid = probe(low, high, at, turn);
+    while lo < hi {
+        let mid = probe(lo, hi, at, turn);
         turn += 1;
-        if slice_in(q, i, mid) <= slice_in(q, i, mid + 1) {
-            high = mid;
+        if slice_in(asked, i, mid) <= slice_in(asked, i, mid + 1) {
+            hi = mid;
             at = above(mid, 1);
         } else {
-            low = mid + 1;
-            at = low;
+            lo = mid + 1;
+            at = lo;
         }
     }
-    low
+    lo
 }
 
-// That height for each of the 2d pyramids.
-pub fn nearest_heights(q: &[u16]) -> [u16; 32]
-    requires { ⌜ length (now q) ≤ 16 ⌝ }
-    ensures { λ r. ⌜ Nearest square (pointOf (now (q .entry))) r ⌝ }
+// The tables of a question: in near the height at which each of the 2d pyramids is nearest.
+pub fn prepare(asked: &[u16], near: &mut [u16], whole: &mut [u64])
+    requires { ⌜ Preparable (now asked) (now near) (now whole) ⌝ }
+    ensures { λ _. ⌜ Ready (now (asked .entry)) (now (near .exit)) (now (whole .exit)) ⌝ }
 {
-    let mut heights = [0u16; 32];
-    let n = q.len() * 2;
+    let n = (asked.len() - REACHES) * 2;
     let mut i = 0;
     while i < n {
-        heights[i] = nearest_height(q, i);
+        near[i] = nearest_height(asked, i);
         i += 1;
     }
-    heights
 }
 
 // The least height of pyramid i that has grid points: 0 is the centre's, in pyramid d.
@@ -210,13 +280,13 @@ fn highest(i: usize, last: usize, h: u16) -> u16
     if i < last { 1000 } else { h }
 }
 
-// The least squared distance to pyramid i at heights lo ..= hi, or at lo where hi is below it.
-fn least_in(q: &[u16], nearest: &[u16], i: usize, lo: u16, hi: u16) -> u64
-    requires { ⌜ (length (now q) ≤ 16) × (i < length (now q) + length (now q)) × (length (now nearest) ≡ 32) × Nearest square (pointOf (now q)) (now nearest) × (lo ≤ 1000) × (hi ≤ 1000) ⌝ }
-    ensures { λ r. ⌜ r ≡ leastIn square (pointOf (now (q .entry))) i lo hi ⌝ }
+// The least distance to pyramid i at heights lo ..= hi, or at lo where hi is below it.
+fn least_in(asked: &[u16], near: &[u16], i: usize, lo: u16, hi: u16) -> u64
+    requires { ⌜ Heights (now asked) (now near) × (i < sizeOf (now asked) + sizeOf (now asked)) × (lo ≤ 1000) × (hi ≤ 1000) ⌝ }
+    ensures { λ r. ⌜ r ≡ leastIn (askedOf (now (asked .entry))) i lo hi ⌝ }
 {
-    let h = greater(lo, smaller(nearest[i], hi));
-    slice_in(q, i, h)
+    let h = greater(lo, smaller(near[i], hi));
+    slice_in(asked, i, h)
 }
 
 // The pyramid number i, or the last one of d coordinates where i is above it.
@@ -236,32 +306,32 @@ fn nearer(a: u64, b: u64) -> u64
 }
 
 // The bound of the span from height h1 of pyramid i1 to height h2 of pyramid i2.
-fn bound_between(q: &[u16], nearest: &[u16], i1: usize, h1: u16, i2: usize, h2: u16) -> u64
-    requires { ⌜ (length (now q) ≤ 16) × (i1 < length (now q) + length (now q)) × (i2 < length (now q) + length (now q)) × (length (now nearest) ≡ 32) × Nearest square (pointOf (now q)) (now nearest) × (h1 ≤ 1000) × (h2 ≤ 1000) ⌝ }
-    ensures { λ r. ⌜ r ≡ boundTo square (pointOf (now (q .entry))) i1 h1 (i2 - i1) h2 ⌝ }
+fn bound_between(asked: &[u16], near: &[u16], i1: usize, h1: u16, i2: usize, h2: u16) -> u64
+    requires { ⌜ Heights (now asked) (now near) × Spanned (sizeOf (now asked)) i1 h1 i2 h2 ⌝ }
+    ensures { λ r. ⌜ r ≡ boundTo (askedOf (now (asked .entry))) i1 h1 (i2 - i1) h2 ⌝ }
 {
-    let d = q.len();
-    let mut best = least_in(q, nearest, i1, h1, highest(i1, i2, h2));
+    let d = asked.len() - REACHES;
+    let mut best = least_in(asked, near, i1, h1, highest(i1, i2, h2));
     let mut i = i1;
     while i < i2 {
         i += 1;
         best = nearer(
             best,
-            least_in(q, nearest, i, lowest(d, i), highest(i, i2, h2)),
+            least_in(asked, near, i, lowest(d, i), highest(i, i2, h2)),
         );
     }
     best
 }
 
 // The bound of the span from one pair to another.
-pub fn bound(q: &[u16], nearest: &[u16], first: Pair, last: Pair) -> u64
-    requires { ⌜ (0 < length (now q)) × (length (now q) ≤ 16) × (length (now nearest) ≡ 32) × Nearest square (pointOf (now q)) (now nearest) ⌝ }
-    ensures { λ r. ⌜ r ≡ boundOf square (pointOf (now (q .entry))) (first .pyramid .0) (first .height .0) (last .pyramid .0) (last .height .0) ⌝ }
+pub fn bound(asked: &[u16], near: &[u16], whole: &[u64], first: Pair, last: Pair) -> u64
+    requires { ⌜ Ready (now asked) (now near) (now whole) ⌝ }
+    ensures { λ r. ⌜ r ≡ boundOf (askedOf (now (asked .entry))) (first .pyramid .0) (first .height .0) (last .pyramid .0) (last .height .0) ⌝ }
 {
-    let d = q.len();
+    let d = asked.len() - REACHES;
     let i1 = last_pyramid(d, first.pyramid.0);
     let h1 = smaller(first.height.0, 1000);
     let i2 = last_pyramid(d, last.pyramid.0);
     let h2 = smaller(last.height.0, 1000);
-    bound_between(q, nearest, i1, h1, i2, h2)
+    bound_between(asked, near, i1, h1, i2, h2)
 }

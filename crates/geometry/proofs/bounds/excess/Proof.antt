@@ -1,28 +1,31 @@
--- `bounds::excess` meets its contract: each turn adds less than 131,072.
+-- `bounds::excess` meets its contract: each turn adds at most 2 to the 56th.
 use Prim.Native.Nat.{_-_, _*_, _≤_}
-use borrow.Author.Needs.{needs}
-use native.Mathlib.Omega.{arith}
+use mathlib.Core.Path.{_≡_}
 use lib.ListN.{length}
+use borrow.Author.Needs.{needs}
 use Rattle.geometry.proofs.bounds.excess.Statement.{statement}
 use Rattle.geometry.proofs.bounds.excess.Tie as tie
 
 abbrev Inv-loop : tie.InvT-loop
-Inv-loop q h sum₀ m₀ sum m = (m ≤ length q) × (length q ≤ 16) × (sum ≤ 131072 * m)
+Inv-loop weight reach k sum₀ m₀ sum m = (m ≤ length reach) × (length reach ≤ 16) × (length weight ≡ length reach) × (sum ≤ 72057594037927936 * m)
 
 abbrev μ-loop : tie.MeasureT-loop
-μ-loop q h sum₀ m₀ sum m = length q - m
+μ-loop weight reach k sum₀ m₀ sum m = length reach - m
 
 loop-holds : tie.Need-loop-holds Inv-loop μ-loop
 loop-holds c = search needs
 
-mul-magnitude : tie.Need-mul-magnitude Inv-loop μ-loop
-mul-magnitude c = search needs
+mul-counted : tie.Need-mul-counted Inv-loop μ-loop
+mul-counted c = search needs
 
-shared-slice-read-magnitude : tie.Need-shared-slice-read-magnitude Inv-loop μ-loop
-shared-slice-read-magnitude c = search needs
+shared-slice-read-counted : tie.Need-shared-slice-read-counted Inv-loop μ-loop
+shared-slice-read-counted c = search needs
 
-magnitude-requires : tie.Need-magnitude-requires Inv-loop μ-loop
-magnitude-requires c κs = search needs
+mul-above : tie.Need-mul-above Inv-loop μ-loop
+mul-above c = search needs
+
+shared-slice-read-above : tie.Need-shared-slice-read-above Inv-loop μ-loop
+shared-slice-read-above c = search needs
 
 above-requires : tie.Need-above-requires Inv-loop μ-loop
 above-requires c κs = search needs
@@ -52,9 +55,10 @@ excess-spec =
     Inv-loop
     μ-loop
     loop-holds
-    mul-magnitude
-    shared-slice-read-magnitude
-    magnitude-requires
+    mul-counted
+    shared-slice-read-counted
+    mul-above
+    shared-slice-read-above
     above-requires
     counted-requires
     add-sum

@@ -1,11 +1,10 @@
 -- `bounds::least_in` meets its contract: the pyramid's nearest height, clamped, is nearest over lo .. hi (convexity).
 use native.Mathlib.Omega.{arith}
 use mathlib.Core.Path.{sym, ap, _∙_}
-use Rattle.geometry.specs.Points.{square}
+use Rattle.geometry.specs.Questions.{askedOf}
 use Rattle.geometry.specs.Slices.{sliceAt}
-use Rattle.geometry.specs.Stored.{pointOf}
-use Rattle.geometry.proofs.StoredLaws.{length-point}
 use Rattle.geometry.proofs.BoundLaws.{least-in-is}
+use Rattle.geometry.proofs.PackedLaws.{asked-length, asked-few}
 use borrow.Author.Needs.{needs}
 use Rattle.geometry.proofs.bounds.least_in.Statement.{statement}
 use Rattle.geometry.proofs.bounds.least_in.Tie as tie
@@ -14,7 +13,9 @@ mul-smaller : tie.Need-mul-smaller
 mul-smaller c = search needs
 
 shared-slice-read-smaller : tie.Need-shared-slice-read-smaller
-shared-slice-read-smaller c = search needs
+shared-slice-read-smaller c =
+    let p = c .before .before .before .pre in
+    omega (arith, asked-few (c .before .before .before .args .asked .now) (p .0 .packed), p .0 .places, p .1)
 
 smaller-requires : tie.Need-smaller-requires
 smaller-requires c κs = search needs
@@ -28,8 +29,11 @@ slice-in-requires c κs = search needs
 returns : tie.Need-returns
 returns c =
     let a = c .before .before .before .before .before .before .args in
-    let n = c .before .before .before .before .before .before .pre .3 (a .i) (omega (arith, length-point (a .q .now), c .before .before .before .before .before .before .pre .1)) in
-    c .slice-in .ensures ∙ (ap (sliceAt square (pointOf (a .q .now)) (a .i)) (omega (arith, c .before .greater .ensures, c .before .before .smaller .ensures)) ∙ sym (least-in-is (pointOf (a .q .now)) (a .i) (a .lo) (a .hi) _ n (c .before .before .before .before .before .before .pre .5)))
+    let p = c .before .before .before .before .before .before .pre in
+    let n = p .0 .nearest (a .i) (omega (arith, asked-length (a .asked .now) (p .0 .packed), p .1)) in
+    c .slice-in .ensures
+    ∙ (ap (sliceAt (askedOf (a .asked .now)) (a .i)) (omega (arith, c .before .greater .ensures, c .before .before .smaller .ensures))
+    ∙ sym (least-in-is (askedOf (a .asked .now)) (a .i) (a .lo) (a .hi) _ n (p .3)))
 
 pub least-in-spec : {M : Type 1} → statement M
 least-in-spec =
