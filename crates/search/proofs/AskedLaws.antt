@@ -1,24 +1,33 @@
--- A question for a point: what its features are, and that it can be asked of an index of as many features.
-use mathlib.Core.Path.{_≡_, refl, sym, ap, _∙_}
-use mathlib.Core.List.{List, [], _∷_}
-use Prim.Native.Nat.{ℕ, suc, _≤_}
+-- What is asked: every record is a candidate, a question for a point suits an index of as many features, and its tables can be made.
+use mathlib.Core.Path.{_≡_, refl, _∙_}
+use mathlib.Core.Bool.{true}
+use mathlib.Core.List.{List}
+use Prim.Native.Nat.{ℕ}
 use native.Mathlib.Omega.{arith}
 use lib.IntN.{ℤ}
-use lib.ListN.{length}
-use Rattle.geometry.specs.Points.{InRange}
-use Rattle.geometry.specs.Features.{Feature, plain, Asks}
-use Rattle.geometry.proofs.SliceLaws.{plain-ordered}
-use Rattle.search.specs.Asked.{Asked, Suits}
+use lib.ListN.{length, length-take}
+use Rattle.geometry.specs.Features.{plain}
+use Rattle.geometry.specs.Questions.{sizeOf, Preparable}
+use Rattle.geometry.specs.Stored.{pointOf}
+use Rattle.geometry.proofs.SliceLaws.{plain-ordered, plain-length, plain-asks}
+use Rattle.pagestore.specs.declared.Record.{Record}
+use Rattle.search.specs.Asked.{Asked, candidate, Suits}
+use Rattle.search.specs.Steps.{lowEnds, Seekable}
+use Rattle.search.proofs.RecordLaws.{in-range}
 
-pub plain-length : (p : List ℤ) → length (plain p) ≡ length p
-unfolding plain
-plain-length [] = refl
-plain-length (c ∷ cs) = ap suc (plain-length cs)
-
-pub plain-asks : (W : ℕ) (p : List ℤ) → 1 ≤ W → InRange p → Asks W (plain p)
-unfolding plain
-plain-asks W [] o r = tt
-plain-asks W (c ∷ cs) o r = ((r .0, r .0, o), plain-asks W cs o (r .1))
+pub each-candidate : (q : Asked) (r : Record) → true ≡ candidate q r
+unfolding candidate
+each-candidate q r = refl
 
 pub plain-suits : (d : ℕ) (p : List ℤ) (k : ℕ) → length p ≡ d → Suits d (record { features = plain p; k = k })
 plain-suits d p k e = record { same = plain-length p ∙ e; ordered = plain-ordered p }
+
+pub preparable : (asked near whole : List ℕ) → Seekable asked → length near ≡ 288 → length whole ≡ 32 → Preparable asked near whole
+preparable asked near whole s n w =
+    record {
+      some = omega (arith, s .point .some, length-take (sizeOf asked) asked);
+      packed = s .packed;
+      asks = rw (s .is) (plain-asks 1000 (pointOf (lowEnds asked)) (omega arith) (in-range (s .point .ranges)));
+      places = n;
+      wholes = w;
+    }

@@ -11,7 +11,7 @@ use Rattle.lists.specs.Sorting.{keep, count, ins, sort}
 use Rattle.lists.specs.Orders.{lex}
 use Rattle.lists.specs.Ascending.{headOr, lastOr}
 use Rattle.geometry.specs.Points.{heightOf, axisAt, axisOf, pyramidOf}
-use Rattle.geometry.specs.Features.{gapOf, sumBy, plain}
+use Rattle.geometry.specs.Features.{gapOf, distTo, plain}
 use Rattle.geometry.specs.Slices.{sideBy, sliceBy, axisNo, signNo, sliceAt, leastFrom, leastIn, boundTo, boundOf}
 use Rattle.geometry.specs.Stored.{pointOf, slotsOf}
 use Rattle.bestfirst.specs.Nearest.{candidates, nearest, kth, inSet}
@@ -54,7 +54,7 @@ holds n k rows read one e f b s h =
 
 -- every example of the list holds
 pub answers-hold : All Holds examples
-unfolding upFrom keep count ins sort lex headOr lastOr heightOf axisAt axisOf pyramidOf gapOf sumBy plain sideBy sliceBy axisNo signNo sliceAt leastFrom leastIn boundTo boundOf pointOf slotsOf candidates nearest kth inSet keyOf firstKey lastKey distanceTo candidate spanBound rowOf rowsAmong rowsFrom leafBound recordNo
+unfolding upFrom keep count ins sort lex headOr lastOr heightOf axisAt axisOf pyramidOf gapOf distTo plain sideBy sliceBy axisNo signNo sliceAt leastFrom leastIn boundTo boundOf pointOf slotsOf candidates nearest kth inSet keyOf firstKey lastKey distanceTo candidate spanBound rowOf rowsAmong rowsFrom leafBound recordNo
 answers-hold =
     also (holds 9 1 (9 ∷ []) 1 (lit≤ tt) (λ a b. refl) (λ a b. refl))
     (also (holds 9 2 (9 ∷ 8 ∷ []) 2 (lit≤ tt) (λ a b. refl) (λ a b. refl))

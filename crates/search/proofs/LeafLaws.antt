@@ -15,7 +15,7 @@ use Rattle.lists.specs.Sorting as sorting
 use Rattle.geometry.specs.Points.{distance}
 use Rattle.geometry.specs.Features.{distTo, plain}
 use Rattle.geometry.specs.Stored.{pointOf}
-use Rattle.geometry.proofs.SliceLaws.{plain-distance}
+use Rattle.geometry.proofs.SliceLaws.{plain-distance, plain-length}
 use Rattle.geometry.proofs.StoredLaws.{length-point, point-take}
 use Rattle.pagestore.specs.declared.Record.{Record}
 use Rattle.pagestore.specs.declared.Leaf.{Leaf}
@@ -34,7 +34,6 @@ use Rattle.search.specs.Asked.{Asked, distanceTo, candidate, asking, ask
 use Rattle.search.specs.Branches.{pageIn, rowOf, rowsAmong}
 use Rattle.search.specs.Columns.{recordIn, rowAt, mostCost, Sums, notPast, BehindPast}
 use Rattle.search.specs.Steps.{lowEnds, Seekable, OfferedAll, OfferedRecord}
-use Rattle.search.proofs.AskedLaws.{plain-length}
 use Rattle.search.proofs.ColumnLaws.{sums-end, none-within}
 
 -- ---- OFFERING

@@ -14,6 +14,7 @@ use Rattle.geometry.specs.Slices.{boundOf}
 use Rattle.geometry.specs.Questions.{askedOf}
 use Rattle.geometry.specs.Stored.{pointOf}
 use Rattle.geometry.proofs.StoredLaws.{length-point}
+use Rattle.geometry.proofs.SliceLaws.{plain-length, plain-asks}
 use Rattle.geometry.proofs.BoundLaws.{bound-small}
 use Rattle.pagestore.specs.declared.Entry.{Entry}
 use Rattle.pagestore.specs.declared.Inner.{Inner}
@@ -21,10 +22,9 @@ use Rattle.pagestore.specs.Store.{innerAt, entriesIn}
 use Rattle.tree.specs.Lookup.{leafCount}
 use Rattle.heap.specs.Heap.{Heap, held, Pushed}
 use Rattle.search.specs.Asked.{Asked, spanBound, asking}
-use Rattle.search.specs.Branches.{Branch, before, branchOf, branches}
+use Rattle.search.specs.Branches.{Branch, lastPlace, before, pageIn, branchOf, branches}
 use Rattle.search.specs.Keys.{keyOf, branchIn, mostBound, frontier}
-use Rattle.search.specs.Steps.{lowEnds, Seekable, Tabled, Opens, Opened}
-use Rattle.search.proofs.AskedLaws.{plain-length, plain-asks}
+use Rattle.search.specs.Steps.{lowEnds, Seekable, Tabled, SpanBound, EntryKey, Opens, Opened}
 use Rattle.search.proofs.RecordLaws.{in-range}
 use Rattle.tree.proofs.CountLaws.{items-length, items-next, items-end, inner-slots}
 use Rattle.search.proofs.LeafLaws.{page-small}
@@ -37,11 +37,16 @@ span-small asked i h i' h' a =
     rw (a .is)
     (omega (arith, bound-small 1 (plain p) i h i' h' (plain-asks 1 p (omega arith) (in-range (a .point .ranges))), plain-length p, length-point (lowEnds asked), a .point .most))
 
-pub span-is : (asked : List ℕ) (f l : Key) (a b : Pair) (r : ℕ) → Seekable asked → (a .pyramid .0 ≡ f .pyramid .0) × (a .height .0 ≡ f .height .0) → (b .pyramid .0 ≡ l .pyramid .0) × (b .height .0 ≡ l .height .0)
-    → r ≡ boundOf (askedOf asked) (a .pyramid .0) (a .height .0) (b .pyramid .0) (b .height .0) → ((k : ℕ) → r ≡ spanBound (asking asked k) f l) × (r ≤ mostBound)
+pub span-is : (asked : List ℕ) (c : ℕ) (f l : Key) (a b : Pair) (r : ℕ) → Seekable asked → (a .pyramid .0 ≡ f .pyramid .0) × (a .height .0 ≡ f .height .0) → (b .pyramid .0 ≡ l .pyramid .0) × (b .height .0 ≡ l .height .0)
+    → r ≡ boundOf (askedOf asked) (a .pyramid .0) (a .height .0) (b .pyramid .0) (b .height .0) → SpanBound asked (record { child = c; first = f; last = l }) r
 unfolding spanBound
-span-is asked f l a b r s x y e =
-    (λ k. rw (x .0, x .1, y .0, y .1) at e, rw e (span-small asked (a .pyramid .0) (a .height .0) (b .pyramid .0) (b .height .0) s))
+span-is asked c f l a b r s x y e =
+    record { is = λ k. rw (x .0, x .1, y .0, y .1) at e; small = rw e (span-small asked (a .pyramid .0) (a .height .0) (b .pyramid .0) (b .height .0) s) }
+
+-- the key of an entry's branch, from its parts
+pub entry-key-is : (index asked : List ℕ) (l at : ℕ) (e : Entry) (b p g r : ℕ) → SpanBound asked e b → g ≡ pageIn index (e .child) → p ≡ min at lastPlace
+    → r ≡ keyOf (record { bound = b; place = p; level = l; page = g }) → EntryKey index asked l at e r
+entry-key-is index asked l at e b p g r s x y h = λ k. h ∙ (λ i. keyOf (record { bound = s .is k i; place = y i; level = l; page = x i }))
 
 -- entry i of an inner page is next, its first leaf at position `at`; `here` branches are in the heap, of which n were there before
 pub record Opening (slots₀ : List ℕ) (n : ℕ) (index asked near whole : List ℕ) (level place page : ℕ) (inner : Inner) (count : ℕ) (slots : List ℕ) (here at i : ℕ) : Type 0 where
@@ -84,9 +89,12 @@ module _ (slots₀ : List ℕ) (n : ℕ) (index asked near whole : List ℕ) (le
   -- positions stay small
   pub opening-places : i < count → at + 16 ^ level ≤ 73728
   opening-places h =
-      let m : (i + 1) * 16 ^ level ≤ 16 * 16 ^ 3 = mul-le-mul (let c = o .number in omega arith) (pow-le-pow-right (omega arith) (o .low)) in
+      let c = o .number in
+      let t : i + 1 ≤ 16 = omega arith in
+      let w : 16 ^ level ≤ 16 ^ 3 = pow-le-pow-right (omega arith) (o .low) in
+      let m : (i + 1) * 16 ^ level ≤ 16 * 16 ^ 3 = mul-le-mul t w in
       let s : (i + 1) * 16 ^ level ≡ i * 16 ^ level + 16 ^ level = rw (add-one i) (suc-mul i (16 ^ level)) in
-      let p = o .places in let w = o .first in omega arith
+      let p = o .places in let f = o .first in omega arith
 
   pub opening-room : i < count → here < length slots
   opening-room h = let r = o .room in let m = o .more in omega arith

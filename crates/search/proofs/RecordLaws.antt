@@ -18,6 +18,7 @@ use Rattle.geometry.specs.Slices.{Real, boundOf}
 use Rattle.geometry.specs.Stored.{pointOf}
 use Rattle.geometry.specs.Keys.{keyNumber}
 use Rattle.geometry.proofs.StoredLaws.{coord-magnitude, length-point}
+use Rattle.geometry.proofs.SliceLaws.{plain-length}
 use Rattle.geometry.proofs.SpanLaws.{pair-real}
 use Rattle.geometry.proofs.BoundLaws.{bound-below, bound-within}
 use Rattle.pagestore.specs.declared.Record.{Record}
@@ -25,7 +26,6 @@ use Rattle.pagestore.specs.Fits.{RecordFits}
 use Rattle.trees.specs.Trees.{pointIn, keyOf, rankOf, noRecord, firstKey, lastKey}
 use Rattle.trees.specs.Sound.{RecordOk}
 use Rattle.search.specs.Asked.{Asked, distanceTo, spanBound, Suits}
-use Rattle.search.proofs.AskedLaws.{plain-length}
 
 module _ {A : Type 0} (f : A → ℕ) where
   -- in an ascending list none is below the first, and none above the last
@@ -71,8 +71,8 @@ module _ (d : ℕ) (low : 1 ≤ d) (high : d ≤ 16) where
 
   pub real : (r : Record) → Right d r → Real d (pyramidIn d r) (heightIn d r)
   real r g =
-      let e = point-length r g in
-      rw e at (pair-real (plain (pointIn d r)) (pointIn d r) (sym (plain-length (pointIn d r))) (omega (arith, plain-length (pointIn d r))) (in-range (g .ok .coords)))
+      let e : length (plain (pointIn d r)) ≡ d = plain-length (pointIn d r) ∙ point-length r g in
+      rw e at (pair-real (plain (pointIn d r)) (pointIn d r) (sym (plain-length (pointIn d r))) (omega arith) (in-range (g .ok .coords)))
 
   pub ordered : (r s : Record) → Right d r → Right d s → rankOf d r ≤ rankOf d s → PairLe (pyramidIn d r) (heightIn d r) (pyramidIn d s) (heightIn d s)
   unfolding rankOf keyOf keyNumber

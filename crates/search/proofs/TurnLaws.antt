@@ -208,16 +208,8 @@ module _ (index asked near whole : List ℕ) (k : ℕ) (slots₀ distances₀ ta
         -- an inner page can be opened
         pub visiting-opens : (m : ℕ) → m ≡ length entries → m + (n - 1) ≤ length slots' → Opens slots' (n - 1) index asked near whole (level - 1) place page
         visiting-opens m c h =
-            let e : level - 1 + 1 ≡ levelIn key = let f = sl in omega (arith, inner) in
             let f = sl in
-            record {
-              asked = v .asked;
-              ready = v .ready;
-              low = omega arith;
-              places = rw (e, sp) (taken-good .room);
-              heap = p .heap;
-                room = omega arith;
-            }
+            record { tables = v .tables; low = omega arith; first = omega (arith, sp); heap = p .heap; room = omega arith }
 
         -- an inner page has been opened
         pub visiting-open : (slots'' : List ℕ) (r m : ℕ) → m ≡ length entries → m + (n - 1) ≤ length slots' → Opened slots' (n - 1) index q (level - 1) place page r slots'' → length slots'' ≡ length slots'

@@ -69,7 +69,7 @@ rowOf q p r = record { distance = distanceTo q r; id = r .id; position = p }
 
 -- the rows of records of that leaf: those of the candidates among them
 unfoldable pub rowsAmong : Asked → ℕ → List Record → List Row
-unfolding candidate rowOf keep
+unfolding rowOf keep
 rowsAmong q p rs = map (rowOf q p) (keep (candidate q) rs)
 
 -- the rows of the leaf of a branch

@@ -1,6 +1,6 @@
 -- What the parts of the search do.
 use mathlib.Core.Path.{_≡_}
-use mathlib.Core.Bool.{false}
+use mathlib.Core.Bool.{Bool, false}
 use mathlib.Core.List.{List, [], _∷_}
 use Prim.Native.Nat.{ℕ, _+_, _≤_, _<_}
 use lib.ListN.{length, take}
@@ -10,6 +10,7 @@ use Rattle.lists.specs.Sorting as sorting
 use Rattle.geometry.specs.Features.{plain}
 use Rattle.geometry.specs.Questions.{sizeOf, askedOf, Packed, Ready}
 use Rattle.geometry.specs.Stored.{pointOf}
+use Rattle.pagestore.specs.declared.Entry.{Entry}
 use Rattle.pagestore.specs.Store.{viewOf, level, innerAt, entriesIn, fieldAt}
 use Rattle.trees.specs.Trees.{leavesOf}
 use Rattle.trees.specs.Sound.{SoundIndex}
@@ -20,10 +21,10 @@ use Rattle.candidates.specs.Rows.{rowOrder}
 use Rattle.candidates.specs.Held.{rowsIn, Held}
 use Rattle.search.specs.declared.Query.{Query}
 use Rattle.search.specs.declared.Seen.{Seen}
-use Rattle.search.specs.Asked.{Asked, distanceTo, Suits}
-use Rattle.search.specs.Branches.{before, branches, rowsAmong}
+use Rattle.search.specs.Asked.{Asked, distanceTo, candidate, spanBound, Suits, asking}
+use Rattle.search.specs.Branches.{before, branchOf, branches, rowsAmong}
 use Rattle.search.specs.Columns.{recordIn}
-use Rattle.search.specs.Keys.{frontier}
+use Rattle.search.specs.Keys.{keyOf, mostBound, frontier}
 use Rattle.search.specs.Visit.{ranking, Answer, answerOf, room, visited, readsNone, found}
 use Rattle.search.specs.Questions.{rowsOf, toRead, unreadPages, AgreeBut}
 
@@ -53,11 +54,24 @@ pub record OfferedAll (distances tags : List ℕ) (n k : ℕ) (xs : List Row) (r
   pub held : Held distances' tags' r k
   pub rows : rowsIn distances' tags' r ≡ sorting.offerAll rowOrder k xs (rowsIn distances tags n)
 
+-- r says whether the record in slot i of a leaf page is a candidate, whatever is asked
+abbrev pub Tells : List ℕ → ℕ → Bool → Type 0
+Tells page i r = (q : Asked) → r ≡ candidate q (recordIn page i)
+
 -- the record in slot i of a leaf page is offered, at that distance from whatever is asked
 pub record OfferedRecord (page : List ℕ) (i distance position : ℕ) (distances tags : List ℕ) (n k r : ℕ) (distances' tags' : List ℕ) : Type 0 where
   pub held : Held distances' tags' r k
   pub rows : (q : Asked) → distance ≡ distanceTo q (recordIn page i)
       → rowsIn distances' tags' r ≡ sorting.offerAll rowOrder k (rowsAmong q position (recordIn page i ∷ [])) (rowsIn distances tags n)
+
+-- the bound of an entry's span, however many rows are asked for
+pub record SpanBound (asked : List ℕ) (e : Entry) (r : ℕ) : Type 0 where
+  pub is : (k : ℕ) → r ≡ spanBound (asking asked k) (e .first) (e .last)
+  pub small : r ≤ mostBound
+
+-- and the key of its branch
+abbrev pub EntryKey : List ℕ → List ℕ → ℕ → ℕ → Entry → ℕ → Type 0
+EntryKey index asked l at e r = (k : ℕ) → r ≡ keyOf (branchOf index (asking asked k) l at e)
 
 -- a frontier of n branches with room for those of an inner page, whose children are of a level and begin at a position
 pub record Opens (slots : List ℕ) (n : ℕ) (index asked near whole : List ℕ) (level place page : ℕ) : Type 0 where
@@ -73,6 +87,9 @@ pub record Opened (slots : List ℕ) (n : ℕ) (index : List ℕ) (q : Asked) (l
   pub heap : Heap r slots'
   pub branches : frontier r slots' ≡ insAll before (branches index q level place (entriesIn (innerAt index page))) (frontier n slots)
 
+abbrev pub OpenedAny : List ℕ → ℕ → List ℕ → List ℕ → ℕ → ℕ → ℕ → ℕ → List ℕ → Type 0
+OpenedAny slots n index asked l place page r slots' = (k : ℕ) → Opened slots n index (asking asked k) l place page r slots'
+
 -- what a visit is lent: room for branches and for k rows
 pub record Visits (index asked near whole : List ℕ) (k : ℕ) (slots distances marks : List ℕ) : Type 0 where
   pub tables : Tabled asked near whole
@@ -83,13 +100,13 @@ pub record Visits (index asked near whole : List ℕ) (k : ℕ) (slots distances
   pub tags : k ≤ length marks
 
 -- what a search that reads something is lent: room for branches and rows
-pub record Seeks (index asked : List ℕ) (k : ℕ) (slots distances tags : List ℕ) : Type 0 where
+pub record Seeks (index asked : List ℕ) (k : ℕ) (slots distances marks : List ℕ) : Type 0 where
   pub seekable : Seekable asked
   pub one : 1 ≤ k
   pub some : readsNone index ≡ false
   pub room : length slots ≡ room index
   pub rows : k ≤ length distances
-  pub tags : k ≤ length tags
+  pub tags : k ≤ length marks
 
 -- the answer in arrays of rows, of which some are held
 abbrev pub answerIn : List ℕ → List ℕ → Seen → Answer
@@ -101,13 +118,13 @@ pub record Visited (index : List ℕ) (q : Asked) (distances tags : List ℕ) (r
   pub answer : answerIn distances tags r ≡ answerOf (visited index q)
 
 -- a question that the search takes, with room for its rows
-pub record Sought (w : Query) (distances tags : List ℕ) : Type 0 where
+pub record Sought (w : Query) (distances marks : List ℕ) : Type 0 where
   pub slots : length (w .features) ≡ 64
   pub few : w .d ≤ 16
   pub seekable : Seekable (take (48 + w .d) (w .features))
   pub one : 1 ≤ w .k
   pub rows : w .k ≤ length distances
-  pub tags : w .k ≤ length tags
+  pub tags : w .k ≤ length marks
 
 -- What the search by itself promises of the bytes lent, with no check of them.
 pub record Searched (index : List ℕ) (q : Asked) (distances tags : List ℕ) (r : Seen) : Type 0 where

@@ -1,10 +1,9 @@
 // The frontier: keys of branches in a heap.
 ghost use mathlib.Core.Path.{_≡_};
-ghost use Prim.Native.Nat.{ℕ, _≤_, _<_, min};
-ghost use Rattle.search.specs.Asked.{spanBound, asking};
-ghost use Rattle.search.specs.Branches.{lastPlace, pageIn, branchOf};
-ghost use Rattle.search.specs.Keys.{boundIn, placeIn, levelIn, numberIn, keyOf, mostBound, Fits};
-ghost use Rattle.search.specs.Steps.{Tabled, Opens, Opened};
+ghost use Prim.Native.Nat.{_≤_, _<_, min};
+ghost use Rattle.search.specs.Branches.{lastPlace, pageIn};
+ghost use Rattle.search.specs.Keys.{boundIn, placeIn, levelIn, numberIn, keyOf, Fits};
+ghost use Rattle.search.specs.Steps.{Tabled, SpanBound, EntryKey, Opens, OpenedAny};
 use crate::leaves::filled;
 use geometry::Key;
 use geometry::Pair;
@@ -76,7 +75,7 @@ fn pair_of(key: Key) -> Pair
 // The bound of an entry's span.
 fn span_bound(asked: &[u16], near: &[u16], whole: &[u64], entry: Entry) -> u64
     requires { ⌜ Tabled (now asked) (now near) (now whole) ⌝ }
-    ensures { λ r. ⌜ ((k : ℕ) → r ≡ spanBound (asking (now (asked .entry)) k) (entry .first) (entry .last)) × (r ≤ mostBound) ⌝ }
+    ensures { λ r. ⌜ SpanBound (now (asked .entry)) entry r ⌝ }
 {
     let first = pair_of(entry.first);
     let last = pair_of(entry.last);
@@ -94,7 +93,7 @@ fn entry_key(
     at: usize,
 ) -> u64
     requires { ⌜ Tabled (now asked) (now near) (now whole) × (level ≤ 4) ⌝ }
-    ensures { λ r. ⌜ (k : ℕ) → r ≡ keyOf (branchOf (now (index .entry)) (asking (now (asked .entry)) k) level at entry) ⌝ }
+    ensures { λ r. ⌜ EntryKey (now (index .entry)) (now (asked .entry)) level at entry r ⌝ }
 {
     let bound = span_bound(asked, near, whole, entry);
     let page = page_of(index, entry.child);
@@ -115,7 +114,7 @@ pub fn open_page(
     page: u32,
 ) -> usize
     requires { ⌜ Opens (now slots) n (now index) (now asked) (now near) (now whole) level place page ⌝ }
-    ensures { λ r. ⌜ (k : ℕ) → Opened (now (slots .entry)) n (now (index .entry)) (asking (now (asked .entry)) k) level place page r (now (slots .exit)) ⌝ }
+    ensures { λ r. ⌜ OpenedAny (now (slots .entry)) n (now (index .entry)) (now (asked .entry)) level place page r (now (slots .exit)) ⌝ }
 {
     let count = filled(count_at(index, page) as usize);
     let mut held = n;

@@ -7,10 +7,10 @@ ghost use Rattle.lists.specs.Sorting.{count};
 ghost use Rattle.pagestore.specs.Store.{leafAt, recordsIn};
 ghost use Rattle.pagestore.specs.Layout.{leafOf};
 ghost use Rattle.candidates.specs.Held.{Held};
-ghost use Rattle.search.specs.Asked.{Asked, candidate, asking, askingPoint};
+ghost use Rattle.search.specs.Asked.{asking, askingPoint};
 ghost use Rattle.search.specs.Branches.{rowsAmong};
-ghost use Rattle.search.specs.Columns.{recordIn, notPast, BehindPast};
-ghost use Rattle.search.specs.Steps.{AskedPoint, Seekable, OfferedAll, OfferedRecord};
+ghost use Rattle.search.specs.Columns.{notPast, BehindPast};
+ghost use Rattle.search.specs.Steps.{AskedPoint, Seekable, Tells, OfferedAll, OfferedRecord};
 use crate::columns::add_columns;
 use candidates::Row;
 use candidates::behind;
@@ -74,7 +74,7 @@ fn within(sums: &[u32], n: usize, limit: u32) -> u32
 
 // Whether the record in slot i of a leaf page is a candidate of what is asked: each one is.
 fn is_candidate(page: &[u8], i: usize) -> bool
-    ensures { λ r. ⌜ (a : Asked) → r ≡ candidate a (recordIn (now (page .entry)) i) ⌝ }
+    ensures { λ r. ⌜ Tells (now (page .entry)) i r ⌝ }
 {
     true
 }
@@ -158,7 +158,15 @@ pub fn visit_leaf(
         let at = page as usize * 1024;
         let end = at + 1024;
         let d = asked.len() - 48;
-        offer_leaf(&index[at..end], &asked[..d], position, distances, tags, n, k)
+        offer_leaf(
+            &index[at..end],
+            &asked[..d],
+            position,
+            distances,
+            tags,
+            n,
+            k,
+        )
     } else {
         n
     }

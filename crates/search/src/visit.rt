@@ -101,7 +101,17 @@ pub fn best_first(
                     leaves: leaves,
                 };
             }
-            n = open_page(slots, n, index, asked, near, whole, level - 1, place as usize, page);
+            n = open_page(
+                slots,
+                n,
+                index,
+                asked,
+                near,
+                whole,
+                level - 1,
+                place as usize,
+                page,
+            );
         }
     }
     Seen {
