@@ -4,7 +4,6 @@ use mathlib.Core.Logic.{_≢_}
 use mathlib.Core.List.{List, map}
 use Prim.Native.Nat.{ℕ, zero, suc, _≤_}
 use native.Mathlib.Omega.{arith}
-use lib.IntN.{ℤ}
 use lib.ListN.{length, take}
 use lib.Seq.{length-take-le}
 use Rattle.geometry.specs.Stored.{stored, slotsOf}
@@ -14,6 +13,7 @@ use Rattle.search.specs.declared.Found as search
 use Rattle.search.specs.Visit.{Answer as Found, found}
 use Rattle.search.specs.Steps.{Searched}
 use Rattle.lending.specs.declared.Outcome.{Outcome}
+use Rattle.index.specs.Asking.{Question, soughtIn}
 use Rattle.index.specs.Refusals.{Rule, First}
 use Rattle.index.specs.Outcomes.{foundWith, nothingFound}
 use Rattle.index.specs.PointLaws.{slots-own}
@@ -26,14 +26,14 @@ rows-held ds ts n d t l = length-take-le n (rowsOf ds ts) (length-rowsOf n ds ts
 
 -- ---- THE OUTCOME
 
-module _ (rules : List Rule) (answers : Found → Type 0) (b : List ℕ) (p : List ℤ) (k : ℕ) where
-  nothing-with : (m : ℕ) → m ≢ 0 → foundWith m b p k ≡ nothingFound
-  nothing-with zero w = absurd (w refl)
-  nothing-with (suc m) w = refl
+module _ (rules : List Rule) (answers : Found → Type 0) (b : List ℕ) (w : Question) where
+  nothing-with : (m : ℕ) → m ≢ 0 → foundWith m b w ≡ nothingFound
+  nothing-with zero z = absurd (z refl)
+  nothing-with (suc m) z = refl
 
-  pub asked-refused : (m : ℕ) (o : Outcome) → First rules m → m ≢ 0 → Refused m o → OutcomeBy rules answers b p k o
-  asked-refused m o f w h =
-      let e : foundWith (o .answer .code) b p k ≡ nothingFound = ap (λ (x : ℕ). foundWith x b p k) (h .code) ∙ nothing-with m w in
+  pub asked-refused : (m : ℕ) (o : Outcome) → First rules m → m ≢ 0 → Refused m o → OutcomeBy rules answers b w o
+  asked-refused m o f z h =
+      let e : foundWith (o .answer .code) b w ≡ nothingFound = ap (λ (x : ℕ). foundWith x b w) (h .code) ∙ nothing-with m z in
       record {
         first = subst (First rules) (sym (h .code)) f;
         listed = h .listed ∙ sym (h .count);
@@ -43,14 +43,14 @@ module _ (rules : List Rule) (answers : Found → Type 0) (b : List ℕ) (p : Li
         rows = ap (rowsIn (o .list .distances) (o .list .tags)) (h .listed) ∙ sym (ap (λ (x : Found). x .rows) e);
         distances = h .distances;
         tags = h .tags;
-        carried = λ z. absurd (w (sym (h .code) ∙ z));
+        carried = λ e. absurd (z (sym (h .code) ∙ e));
       }
 
-  pub asked-answered : (m : ℕ) (o : Outcome) → First rules m → m ≡ 0 → k ≤ 64 → answers (found b (map stored p) k) → Answered b p k o → OutcomeBy rules answers b p k o
-  asked-answered m o f z top w h =
-      let e : found b (map stored p) k ≡ foundWith (o .answer .code) b p k = sym (ap (λ (x : ℕ). foundWith x b p k) (h .code)) in
-      let rows : rowsIn (o .list .distances) (o .list .tags) (o .list .count) ≡ foundWith (o .answer .code) b p k .rows = ap (λ (x : Found). x .rows) (h .same ∙ e) in
-      let few : o .list .count ≤ k = h .few in
+  pub asked-answered : (m : ℕ) (o : Outcome) → First rules m → m ≡ 0 → w .k ≤ 64 → answers (soughtIn b w) → Answered b w o → OutcomeBy rules answers b w o
+  asked-answered m o f z top answer h =
+      let e : soughtIn b w ≡ foundWith (o .answer .code) b w = sym (ap (λ (x : ℕ). foundWith x b w) (h .code)) in
+      let rows : rowsIn (o .list .distances) (o .list .tags) (o .list .count) ≡ foundWith (o .answer .code) b w .rows = ap (λ (x : Found). x .rows) (h .same ∙ e) in
+      let few : o .list .count ≤ w .k = h .few in
       record {
         first = subst (First rules) (z ∙ sym (h .code)) f;
         listed = h .listed;
@@ -60,13 +60,14 @@ module _ (rules : List Rule) (answers : Found → Type 0) (b : List ℕ) (p : Li
         rows = rows;
         distances = h .distances;
         tags = h .tags;
-        carried = λ z. subst answers (sym (h .same)) w;
+        carried = λ z. subst answers (sym (h .same)) answer;
       }
 
 -- what the search returns, as an outcome
-pub answered-by : (b : List ℕ) (p : List ℤ) (k : ℕ) (slots : List ℕ) (r : search.Found) → slots ≡ slotsOf p → Searched b (take (length p) slots) k r
+pub answered-by : (b : List ℕ) (w : Question) (slots : List ℕ) (r : search.Found) → slots ≡ slotsOf (w .point) → Searched b (take (length (w .point)) slots) (w .k) r
     → length (r .distances) ≡ 64 → length (r .tags) ≡ 64
-    → Answered b p k (record { answer = record { code = 0; count = r .rows; leaves = r .leaves }; list = record { distances = r .distances; tags = r .tags; count = r .rows } })
-answered-by b p k slots r e h d t =
+    → Answered b w (record { answer = record { code = 0; count = r .rows; leaves = r .leaves }; list = record { distances = r .distances; tags = r .tags; count = r .rows } })
+answered-by b w slots r e h d t =
+    let p = w .point in
     let own : take (length p) slots ≡ map stored p = subst (λ (s : List ℕ). take (length p) s ≡ map stored p) (sym e) (slots-own p) in
-    record { code = refl; listed = refl; few = h .few; same = h .answer ∙ ap (λ (q : List ℕ). found b q k) own; distances = d; tags = t }
+    record { code = refl; listed = refl; few = h .few; same = h .answer ∙ ap (λ (q : List ℕ). found b q (w .k)) own; distances = d; tags = t }

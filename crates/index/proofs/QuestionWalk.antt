@@ -42,7 +42,8 @@ use Rattle.lending.specs.declared.Tally.{Tally}
 use Rattle.lending.specs.declared.Answer.{Answer}
 use Rattle.lending.specs.declared.Outcome.{Outcome}
 use Rattle.lending.specs.Delivered.{Delivered}
-use Rattle.search.specs.declared.Query.{Query}
+use Rattle.index.specs.declared.Criteria.{Criteria}
+use Rattle.index.specs.Asking.{Question, questionOf}
 use Rattle.candidates.proofs.Row as Row′
 use Rattle.candidates.proofs.Row.Laws as Row″
 use Rattle.lending.proofs.Tally as Tally′
@@ -51,13 +52,12 @@ use Rattle.lending.proofs.Answer as N
 use Rattle.lending.proofs.Answer.Laws as N′
 use Rattle.lending.proofs.Outcome as O
 use Rattle.lending.proofs.Outcome.Laws as O′
-use Rattle.search.proofs.Query as U
-use Rattle.search.proofs.Query.Laws as U′
+use Rattle.index.proofs.Criteria as U
+use Rattle.index.proofs.Criteria.Laws as U′
 use Rattle.index.proofs.asking.question_outcome as core
 use Rattle.lending.proofs.deliver as deliver
 use Rattle.lending.proofs.deliver.Symbol.{name as #lending·deliver}
 use Rattle.index.proofs.asking.question as question
-use lib.IntN.{ℤ}
 
 abbrev R : RattleType
 R = Row′.the-row
@@ -68,7 +68,7 @@ Y = Tally′.the-row
 abbrev stayed : Stays (question.ended .signature .params) (question.ended .kept)
 stayed = (stay-none-slice (0 ∷ []) tt (plain (λ _. u8)) yes, (stay-none-slice (1 ∷ []) tt (plain (λ _. i16)) yes, (stay-none (λ _. U.the-row) yes, (gave-slice (2 ∷ []) tt (plain (λ _. R)), (gave-ref (3 ∷ []) tt (plain (λ _. Y)), tt)))))
 
-abbrev kv : Query → Val
+abbrev kv : Criteria → Val
 kv k = LL.val U.the-type U′.the-laws k
 
 -- the types of the locals that hold references
@@ -121,22 +121,22 @@ module _ (name : Name) where
   }
 
 -- what the callee says of its outcome, and what is to be said of the answer, the rows and the tally
-module _ (name : Name) (Asks : List ℕ → List ℤ → ℕ → ℕ → Outcome → Type 0) (Ends : List ℕ → List ℤ → ℕ → List Row → Tally → Answer → List Row → Tally → Type 0)
-    (hand-over : (b : List ℕ) (p : List ℤ) (k : ℕ) (lent : List Row) (tally : Tally) (o : Outcome) → Asks b p k (length lent) o
-    → (r : Answer) (lent' : List Row) (tally' : Tally) → Delivered o lent tally r lent' tally' → Ends b p k lent tally r lent' tally') where
+module _ (name : Name) (Asks : List ℕ → Question → ℕ → Outcome → Type 0) (Ends : List ℕ → Question → List Row → Tally → Answer → List Row → Tally → Type 0)
+    (hand-over : (b : List ℕ) (w : Question) (lent : List Row) (tally : Tally) (o : Outcome) → Asks b w (length lent) o
+    → (r : Answer) (lent' : List Row) (tally' : Tally) → Delivered o lent tally r lent' tally' → Ends b w lent tally r lent' tally') where
   module _ {M : Type 1} (𝓤 : URA M) where
     abbrev clauses : Clauses 𝓤 question.ended
     clauses κs a = record {
       ghost = Unit {0};
       requires = λ g. emp 𝓤;
-      ensures = λ g r z. fact 𝓤 (Ends (now (a .0)) (now (a .1 .0)) (a .1 .1 .0 .k) (now (a .1 .1 .1 .0)) (now (a .1 .1 .1 .1 .0)) r (now (z .1 .1 .1 .0)) (now (z .1 .1 .1 .1 .0)));
+      ensures = λ g r z. fact 𝓤 (Ends (now (a .0)) (questionOf (now (a .1 .0)) (a .1 .1 .0)) (now (a .1 .1 .1 .0)) (now (a .1 .1 .1 .1 .0)) r (now (z .1 .1 .1 .0)) (now (z .1 .1 .1 .1 .0)));
     }
 
     abbrev core-clauses : Clauses 𝓤 core.ended
     core-clauses κs a = record {
       ghost = Unit {0};
       requires = λ g. emp 𝓤;
-      ensures = λ g o z. fact 𝓤 (Asks (now (a .0)) (now (a .1 .0)) (a .1 .1 .0 .k) (a .1 .1 .1 .0) o);
+      ensures = λ g o z. fact 𝓤 (Asks (now (a .0)) (questionOf (now (a .1 .0)) (a .1 .1 .0)) (a .1 .1 .1 .0) o);
     }
 
   module _ {M : Type 1} (𝓤 : URA M) (H : Heap 𝓤) (A : Atoms 𝓤) (at-mem : Memory → SProp 𝓤) (run : Routine → Fun 𝓤) where
@@ -148,7 +148,7 @@ module _ (name : Name) (Asks : List ℕ → List ℤ → ℕ → ℕ → Outcome
     Hand = tripleOf 𝓤 H A deliver.signature (deliver.spec 𝓤 H A at-mem run)
 
   module _ {M : Type 1} (𝓤 : URA M) (H : Heap 𝓤) (A : Atoms 𝓤) (W : Given 𝓤 H A) (at-mem : Memory → SProp 𝓤) (run : Routine → Fun 𝓤) (κ₀ κ₁ κ₂ κ₃ : Lft) (q₀ q₁ q₂ q₃ : Share)
-      (xi : RefT (List ℕ)) (xp : RefT (List (i16 .Denot))) (k : Query) (b o : ℕ) (γ : GName) (xs : List Row) (bt ot : ℕ) (γt : GName) (h : Tally) where
+      (xi : RefT (List ℕ)) (xp : RefT (List (i16 .Denot))) (k : Criteria) (b o : ℕ) (γ : GName) (xs : List Row) (bt ot : ℕ) (γt : GName) (h : Tally) where
     abbrev xr : RefT (List Row)
     xr = record { ptr = (b, o); name = γ; now = xs }
 
@@ -166,7 +166,7 @@ module _ (name : Name) (Asks : List ℕ → List ℤ → ℕ → ℕ → Outcome
     sr = sliceVal (b, o) (length xs)
 
     module _ (pi : Is (ShrSlice (named 0) κ₀ u8) xi (si ∷ [])) (pp : Is (ShrSlice (named 1) κ₁ i16) xp (sp ∷ [])) (pk : Is U.the-row k (kv k ∷ [])) (room : Room R (length xs)) where
-      abbrev a : RefT (List ℕ) × (RefT (List (i16 .Denot)) × (Query × (RefT (List Row) × (RefT Tally × Unit {0}))))
+      abbrev a : RefT (List ℕ) × (RefT (List (i16 .Denot)) × (Criteria × (RefT (List Row) × (RefT Tally × Unit {0}))))
       a = (xi, (xp, (k, (xr, (xt, tt)))))
 
       abbrev vals : List Val × (List Val × (List Val × (List Val × (List Val × Unit {0}))))
@@ -231,7 +231,7 @@ module _ (name : Name) (Asks : List ℕ → List ℤ → ℕ → ℕ → Outcome
       abbrev Had : Answer → Val → List Row → Tally → List (Item 𝓤) → List (Item 𝓤)
       Had r w zs t Γ = ‵ (N.the-row .own r (w ∷ [])) ∷ Lent ∷ ‵ (fres γt (Y .coded .code t)) ∷ ‵ (finally R γ zs) ∷ (‵ Index ⊛ ‵ Point) ∷ Shared ∷ Γ
 
-      exits : (r : Answer) (w : Val) (zs : List Row) (t : Tally) → length zs ≡ length xs → Ends (xi .now) (xp .now) (k .k) xs h r zs t → ent 𝓤 (⋆ 𝓤 H A (Had r w zs t [])) (Post w)
+      exits : (r : Answer) (w : Val) (zs : List Row) (t : Tally) → length zs ≡ length xs → Ends (xi .now) (questionOf (xp .now) k) xs h r zs t → ent 𝓤 (⋆ 𝓤 H A (Had r w zs t [])) (Post w)
       exits r w zs t len e =
           qed W (Had r w zs t []) ∵
           suffices ! _ (ends-at 𝓤 H A question.ended stayed (clauses 𝓤) W ((κs, qs, tt, a, vals), tt) w r (tt, (tt, (tt, (zs, (t, tt))))) (tt, (tt, (tt, (len, (tt, tt)))))) $ says ! e $
@@ -271,7 +271,7 @@ module _ (name : Name) (Asks : List ℕ → List ℤ → ℕ → ℕ → Outcome
           Counted = ‵ (fat fullShare (tyInt w64) l₇ 0 (vint w64 (length xs)))
 
           -- the answer is returned
-          leaves : (u : Outcome) (is : Is O.the-row u (LL.val O.the-type O′.the-laws u ∷ [])) (r : Answer) (w : Val) (zs : List Row) (t : Tally) → length zs ≡ length xs → Ends (xi .now) (xp .now) (k .k) xs h r zs t
+          leaves : (u : Outcome) (is : Is O.the-row u (LL.val O.the-type O′.the-laws u ∷ [])) (r : Answer) (w : Val) (zs : List Row) (t : Tally) → length zs ≡ length xs → Ends (xi .now) (questionOf (xp .now) k) xs h r zs t
               → ent 𝓤 (⋆ 𝓤 H A (Had r w zs t (Passed (‵ (fat fullShare N′.mir l₀ 0 w)) (‵ (fat fullShare O′.mir l₆ 0 (ov u is))) Counted []))) (Wp 𝓤 H C Λ En (t-7 name) (atReturn 𝓤 H En Post))
           leaves u is r w zs t len e =
               qed W (Had r w zs t (Passed (‵ (fat fullShare N′.mir l₀ 0 w)) (‵ (fat fullShare O′.mir l₆ 0 (ov u is))) Counted [])) ∵ exec ! C Λ En (t-7 name) (atRet En Post) $
@@ -281,7 +281,7 @@ module _ (name : Name) (Asks : List ℕ → List ℤ → ℕ → ℕ → Outcome
               by ! (exits r w zs t len e)
 
           -- rows, tally and outcome are handed over
-          hands : (u : Outcome) (is : Is O.the-row u (LL.val O.the-type O′.the-laws u ∷ [])) → Asks (xi .now) (xp .now) (k .k) (length xs) u
+          hands : (u : Outcome) (is : Is O.the-row u (LL.val O.the-type O′.the-laws u ∷ [])) → Asks (xi .now) (questionOf (xp .now) k) (length xs) u
               → ent 𝓤 (⋆ 𝓤 H A (Shared ∷ Kept ∷ Passed (‵ (froom N′.mir l₀ 0)) (‵ (fat fullShare O′.mir l₆ 0 (ov u is))) Counted [])) (Wp 𝓤 H C Λ En (t-3 name) (atReturn 𝓤 H En Post))
           hands u is asked =
               qed W (Shared ∷ Kept ∷ Passed (‵ (froom N′.mir l₀ 0)) (‵ (fat fullShare O′.mir l₆ 0 (ov u is))) Counted []) ∵ exec ! C Λ En (t-3 name) (atRet En Post) $
@@ -299,7 +299,7 @@ module _ (name : Name) (Asks : List ℕ → List ℤ → ℕ → ℕ → Outcome
               -- [the answer; Lent; the tally's value; the rows' list; the shared slices; Shared; _10; …]
               land ! (from ! (stop !)) (init ! 26 refl (LL.lawful N.the-type N′.the-laws 𝓤 H A W .typed r _ ans .0)) $
               forget ! 6 refl $ forget ! 8 refl $ forget ! 10 refl $
-              by ! (leaves u is r w (zs .0) (zs .1 .0) len (hand-over (xi .now) (xp .now) (k .k) xs h u asked r (zs .0) (zs .1 .0) e))))))))
+              by ! (leaves u is r w (zs .0) (zs .1 .0) len (hand-over (xi .now) (questionOf (xp .now) k) xs h u asked r (zs .0) (zs .1 .0) e))))))))
 
           -- the outcome is asked for
           asks : ent 𝓤 (⋆ 𝓤 H A (Passed (‵ (froom N′.mir l₀ 0)) (‵ (froom O′.mir l₆ 0)) (‵ (froom (tyInt w64) l₇ 0)) (raw Entered ∷ []))) (Wp 𝓤 H C Λ En (t-1 name) (atReturn 𝓤 H En Post))
@@ -310,8 +310,8 @@ module _ (name : Name) (Asks : List ℕ → List ℤ → ℕ → ℕ → Outcome
               calls-at ! fm (Core 𝓤 H A at-mem run) known-core to-core
               (and-then ! (load ! (from ! (stop !)) (look ! 20 refl)) (and-then ! (load ! (from ! (stop !)) (look ! 18 refl)) (and-then ! (load ! (from ! (stop !)) (look ! 16 refl)) (and-then ! (load ! (from ! (stop !)) (look ! 8 refl)) (no-more !))))) (λ w.
               use1 W (later (some (λ (u : Outcome). (Shared ⊛ ‵ (O.the-row .own u (w ∷ []))) ⊛ raw (ensured 𝓤 H A core.ended (core-clauses 𝓤) (κ₀, (κ₁, tt)) (xi, (xp, (k, (length xs, tt)))) tt u)))) (id⊢ 𝓤 _) $ await ! tt $ pick ! (λ u.
-              split ! $ move ! (1 ∷ []) $ use1 W (raw (fact 𝓤 (Asks (xi .now) (xp .now) (k .k) (length xs) u))) (exE 𝓤 _ (λ ws. snd∗ 𝓤 (sem 𝓤 H A (lasts core.ended (κ₀, (κ₁, tt)) (xi, (xp, (k, (length xs, tt)))) ws)) (fact 𝓤 (Asks (xi .now) (xp .now) (k .k) (length xs) u)))) $
-              heard ! (Asks (xi .now) (xp .now) (k .k) (length xs) u) (λ e. split ! $ move ! (1 ∷ []) $
+              split ! $ move ! (1 ∷ []) $ use1 W (raw (fact 𝓤 (Asks (xi .now) (questionOf (xp .now) k) (length xs) u))) (exE 𝓤 _ (λ ws. snd∗ 𝓤 (sem 𝓤 H A (lasts core.ended (κ₀, (κ₁, tt)) (xi, (xp, (k, (length xs, tt)))) ws)) (fact 𝓤 (Asks (xi .now) (questionOf (xp .now) k) (length xs) u)))) $
+              heard ! (Asks (xi .now) (questionOf (xp .now) k) (length xs) u) (λ e. split ! $ move ! (1 ∷ []) $
               peeks ! O.the-row (Is O.the-row) (shows 𝓤 H A O.the-row) u (w ∷ []) (λ is. drop ! $
               -- [Shared; Kept; _10; …]
               land ! (from ! (stop !)) (init ! 10 refl (LL.lawful O.the-type O′.the-laws 𝓤 H A W .typed u _ is .0)) $ rewrite ! 10 (λ (v : Val). ‵ (fat fullShare O′.mir l₆ 0 v)) (ap only (LL.tells O.the-type O′.the-laws u _ is)) refl $

@@ -1,6 +1,8 @@
 // The question: the k nearest of a point, in lent rows, with the caller's tally.
+ghost use Rattle.index.specs.Asking.{questionOf};
 ghost use Rattle.index.specs.Questions.{QuestionOutcome, Questioned};
-use crate::Asked;
+use crate::Criteria;
+use crate::Returned;
 use crate::checking::refuse_index;
 use crate::refusing::refused;
 use crate::trusted;
@@ -9,11 +11,10 @@ use lending::Answer;
 use lending::Outcome;
 use lending::Tally;
 use lending::deliver;
-use search::Query;
 
 // A question by value, with some rows lent: for callers that hold no rows and no tally of their own.
-pub fn question_outcome(index: &[u8], point: &[i16], what: Query, lent: usize) -> Outcome
-    ensures { λ o. ⌜ QuestionOutcome (now (index .entry)) (now (point .entry)) (what .k) lent o ⌝ }
+pub fn question_outcome(index: &[u8], point: &[i16], what: Criteria, lent: usize) -> Outcome
+    ensures { λ o. ⌜ QuestionOutcome (now (index .entry)) (questionOf (now (point .entry)) what) lent o ⌝ }
 {
     let code = refuse_index(index);
     if code != 0 {
@@ -26,24 +27,24 @@ pub fn question_outcome(index: &[u8], point: &[i16], what: Query, lent: usize) -
 pub fn question(
     index: &[u8],
     point: &[i16],
-    what: Query,
+    what: Criteria,
     rows: &mut [Row],
     tally: &mut Tally,
 ) -> Answer
-    ensures { λ r. ⌜ Questioned (now (index .entry)) (now (point .entry)) (what .k) (now (rows .entry)) (now (tally .entry)) r (now (rows .exit)) (now (tally .exit)) ⌝ }
+    ensures { λ r. ⌜ Questioned (now (index .entry)) (questionOf (now (point .entry)) what) (now (rows .entry)) (now (tally .entry)) r (now (rows .exit)) (now (tally .exit)) ⌝ }
 {
     let o = question_outcome(index, point, what, rows.len());
     deliver(rows, tally, o)
 }
 
 // The question for callers that hold 64 rows and a tally by value.
-pub fn ask(index: &[u8], point: &[i16], what: Query, rows: [Row; 64], tally: Tally) -> Asked
-    ensures { λ r. ⌜ Questioned (now (index .entry)) (now (point .entry)) (what .k) rows tally (r .answer) (r .rows) (r .tally) ⌝ }
+pub fn ask(index: &[u8], point: &[i16], what: Criteria, rows: [Row; 64], tally: Tally) -> Returned
+    ensures { λ r. ⌜ Questioned (now (index .entry)) (questionOf (now (point .entry)) what) rows tally (r .answer) (r .rows) (r .tally) ⌝ }
 {
     let mut kept = rows;
     let mut count = tally;
     let answer = question(index, point, what, &mut kept, &mut count);
-    Asked {
+    Returned {
         answer: answer,
         rows: kept,
         tally: count,

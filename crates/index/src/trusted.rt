@@ -2,14 +2,12 @@
 // (`trusted-same`), and leaves a sound one. On any other bytes it ends without a fault, and what it returns and leaves is stated too:
 // a level that no sound index has is refused with 2.
 ghost use mathlib.Core.Path.{_≡_};
-ghost use mathlib.Core.Bool.{true};
-ghost use Prim.Native.Nat.{_≤_};
-ghost use lib.ListN.{length};
-ghost use Rattle.geometry.specs.Stored.{inRange};
+ghost use Rattle.index.specs.Asking.{questionOf, Searchable};
 ghost use Rattle.index.specs.Refusals.{First};
 ghost use Rattle.index.specs.Outcomes.{insertedWith, deletedWith};
 ghost use Rattle.index.specs.Questions.{Answered};
 ghost use Rattle.index.specs.Trusted.{trustedInsert, trustedDelete, TrustedOutcome, TrustedQuestioned};
+use crate::Criteria;
 use crate::making::permitted;
 use crate::refusing::record_of;
 use crate::refusing::refuse_insert;
@@ -61,13 +59,13 @@ pub fn delete(index: &mut [u8], id: u32) -> u32
 }
 
 // What a question that is not refused returns: the rows and the count are the search's.
-fn answered(index: &[u8], point: &[i16], what: Query) -> Outcome
-    requires { ⌜ (1 ≤ length (now point)) × (length (now point) ≤ 16) × (inRange (now point) ≡ true) × (1 ≤ what .k) × (what .k ≤ 64) ⌝ }
-    ensures { λ o. ⌜ Answered (now (index .entry)) (now (point .entry)) (what .k) o ⌝ }
+fn answered(index: &[u8], point: &[i16], what: Criteria) -> Outcome
+    requires { ⌜ Searchable (questionOf (now point) what) ⌝ }
+    ensures { λ o. ⌜ Answered (now (index .entry)) (questionOf (now (point .entry)) what) o ⌝ }
 {
     let slots = slots_of(point);
     let n = point.len();
-    let found = search(index, &slots[..n], what);
+    let found = search(index, &slots[..n], Query { k: what.k });
     let distances = found.distances;
     let tags = found.tags;
     Outcome {
@@ -85,10 +83,10 @@ fn answered(index: &[u8], point: &[i16], what: Query) -> Outcome
 }
 
 // A question by value, with some rows lent: for callers that hold no rows and no tally of their own.
-pub fn question_outcome(index: &[u8], point: &[i16], what: Query, lent: usize) -> Outcome
-    ensures { λ o. ⌜ TrustedOutcome (now (index .entry)) (now (point .entry)) (what .k) lent o ⌝ }
+pub fn question_outcome(index: &[u8], point: &[i16], what: Criteria, lent: usize) -> Outcome
+    ensures { λ o. ⌜ TrustedOutcome (now (index .entry)) (questionOf (now (point .entry)) what) lent o ⌝ }
 {
-    let code = refuse_question(index, point, what.k, lent);
+    let code = refuse_question(index, point, what, lent);
     if code != 0 {
         return refused(code);
     }
@@ -99,11 +97,11 @@ pub fn question_outcome(index: &[u8], point: &[i16], what: Query, lent: usize) -
 pub fn question(
     index: &[u8],
     point: &[i16],
-    what: Query,
+    what: Criteria,
     rows: &mut [Row],
     tally: &mut Tally,
 ) -> Answer
-    ensures { λ r. ⌜ TrustedQuestioned (now (index .entry)) (now (point .entry)) (what .k) (now (rows .entry)) (now (tally .entry)) r (now (rows .exit)) (now (tally .exit)) ⌝ }
+    ensures { λ r. ⌜ TrustedQuestioned (now (index .entry)) (questionOf (now (point .entry)) what) (now (rows .entry)) (now (tally .entry)) r (now (rows .exit)) (now (tally .exit)) ⌝ }
 {
     let o = question_outcome(index, point, what, rows.len());
     deliver(rows, tally, o)

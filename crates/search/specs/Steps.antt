@@ -117,14 +117,18 @@ pub record Visited (index : List ℕ) (q : Asked) (distances tags : List ℕ) (r
   pub held : Held distances tags (r .rows) (q .k)
   pub answer : answerIn distances tags r ≡ answerOf (visited index q)
 
--- a question that the search takes, with room for its rows
+-- a question for k rows, with room for them
+pub record Looked (asked : List ℕ) (k : ℕ) (distances marks : List ℕ) : Type 0 where
+  pub seekable : Seekable asked
+  pub one : 1 ≤ k
+  pub rows : k ≤ length distances
+  pub tags : k ≤ length marks
+
+-- the same of a question by value
 pub record Sought (w : Query) (distances marks : List ℕ) : Type 0 where
   pub slots : length (w .features) ≡ 64
   pub few : w .d ≤ 16
-  pub seekable : Seekable (take (48 + w .d) (w .features))
-  pub one : 1 ≤ w .k
-  pub rows : w .k ≤ length distances
-  pub tags : w .k ≤ length marks
+  pub looked : Looked (take (48 + w .d) (w .features)) (w .k) distances marks
 
 -- What the search by itself promises of the bytes lent, with no check of them.
 pub record Searched (index : List ℕ) (q : Asked) (distances tags : List ℕ) (r : Seen) : Type 0 where

@@ -4,7 +4,7 @@
 // from the highest on, and page. The first one is taken until its bound exceeds the k-th distance: an inner page gives its
 // entries to the heap, a leaf page is handed to the one function that reads leaf pages.
 ghost use Rattle.search.specs.Asked.{asks, asking};
-ghost use Rattle.search.specs.Steps.{Seeks, Sought, Searched};
+ghost use Rattle.search.specs.Steps.{Seeks, Looked, Sought, Searched};
 use crate::visit::best_first;
 use crate::visit::reads_none;
 use geometry::bounds::prepare;
@@ -46,22 +46,40 @@ fn search_with(
     best_first(index, asked, &near, &whole, k, slots, distances, tags)
 }
 
-// The nearest of the index's records to what is asked, and the number of leaves read. The rows are in the arrays lent, as distances and tags.
-// An index of few records gets little room: clearing more would take most of its search's time.
-pub fn search(index: &[u8], what: Query, distances: &mut [u64], tags: &mut [u64]) -> Seen
-    requires { ⌜ Sought what (now distances) (now tags) ⌝ }
-    ensures { λ r. ⌜ Searched (now (index .entry)) (asks what) (now (distances .exit)) (now (tags .exit)) r ⌝ }
+// The search of any index. One of few records gets little room: clearing more would take most of its search's time.
+fn search_for(
+    index: &[u8],
+    asked: &[u16],
+    k: usize,
+    distances: &mut [u64],
+    tags: &mut [u64],
+) -> Seen
+    requires { ⌜ Looked (now asked) k (now distances) (now tags) ⌝ }
+    ensures { λ r. ⌜ Searched (now (index .entry)) (asking (now (asked .entry)) k) (now (distances .exit)) (now (tags .exit)) r ⌝ }
 {
     if reads_none(index) {
         return Seen { rows: 0, leaves: 0 };
     }
+    let total = total_records(index);
+    if 4096 < total {
+        let mut slots = [0u64; 8192];
+        return search_with(index, asked, k, &mut slots, distances, tags);
+    }
+    if 1024 < total {
+        let mut slots = [0u64; 512];
+        search_with(index, asked, k, &mut slots, distances, tags)
+    } else {
+        let mut slots = [0u64; 128];
+        search_with(index, asked, k, &mut slots, distances, tags)
+    }
+}
+
+// The nearest of the index's records to what is asked, as distances and tags in the arrays lent: how many there are, and the number of leaves read.
+pub fn search(index: &[u8], what: Query, distances: &mut [u64], tags: &mut [u64]) -> Seen
+    requires { ⌜ Sought what (now distances) (now tags) ⌝ }
+    ensures { λ r. ⌜ Searched (now (index .entry)) (asks what) (now (distances .exit)) (now (tags .exit)) r ⌝ }
+{
     let features = what.features;
     let end = 48 + what.d;
-    if 4096 < total_records(index) {
-        let mut slots = [0u64; 8192];
-        search_with(index, &features[..end], what.k, &mut slots, distances, tags)
-    } else {
-        let mut slots = [0u64; 512];
-        search_with(index, &features[..end], what.k, &mut slots, distances, tags)
-    }
+    search_for(index, &features[..end], what.k, distances, tags)
 }

@@ -9,6 +9,7 @@ use contract.Lifetimes.{Lfts}
 use borrow.Author.Needs.{needs}
 use Rattle.pagestore.proofs.CodeLaws.{unmapped}
 use Rattle.search.specs.declared.Found.{Found}
+use Rattle.index.specs.Asking.{questionOf}
 use Rattle.index.specs.PointLaws.{slots-asked}
 use Rattle.index.proofs.AskLaws.{answered-by}
 use Rattle.index.proofs.trusted.answered.Statement.{statement}
@@ -40,7 +41,7 @@ returns : tie.Need-returns
 returns c =
     let R = c .before .before in let O = R .before .before in let S = O .before .before in
     let long = arrays (R .search .lifetimes) (R .search .result) (R .search .ok) in
-    answered-by (now (S .args .index)) (now (S .args .point)) (S .args .what .k) (O .slots-of .result) (R .search .result) (O .slots-of .ensures) (R .search .ensures) (long .0) (long .1)
+    answered-by (now (S .args .index)) (questionOf (now (S .args .point)) (S .args .what)) (O .slots-of .result) (R .search .result) (O .slots-of .ensures) (R .search .ensures) (long .0) (long .1)
 
 pub answered-spec : {M : Type 1} → statement M
 answered-spec =
