@@ -127,4 +127,4 @@ module _ (b : List ℕ) (w : Question) (lent n : ℕ) (f : First (trustedQuestio
 
   -- and what is found on a sound index
   pub trusted-answers : AnswersIfSound b w (soughtIn b w)
-  trusted-answers s = let c = trusted-carried b w lent (subst (First (trustedQuestion b w lent)) e f) in search-answers b s w (c .features) (c .ranges) (c .some)
+  trusted-answers s = let c = trusted-carried b w lent (subst (First (trustedQuestion b w lent)) e f) in search-answers b s w (c .features) (c .some)

@@ -6,40 +6,43 @@ use Prim.Native.Nat.{ℕ, _≤_}
 use lib.ListN.{length}
 use Rattle.lists.specs.Basics.{All}
 use Rattle.lists.specs.Sorting.{count}
-use Rattle.geometry.specs.Stored.{pointOf, inRange}
-use Rattle.pagestore.specs.Store.{View, viewOf}
-use Rattle.trees.specs.Trees.{live, leavesOf}
+use Rattle.geometry.specs.Points.{distance}
+use Rattle.pagestore.specs.declared.Record.{Record}
+use Rattle.pagestore.specs.Store.{viewOf}
+use Rattle.trees.specs.Trees.{pointIn, leavesOf}
 use Rattle.trees.specs.Sound.{SoundIndex}
 use Rattle.bestfirst.specs.Nearest.{nearest}
+use Rattle.search.specs.Asked.{distanceTo}
 use Rattle.search.specs.Visit.{Answer as Found, ranking}
-use Rattle.index.specs.Asking.{Question, slotsFor, bare, bareOf, soughtIn, rowsFor, toReadFor, CalledFor}
-use Rattle.index.specs.AskingLaws.{asked-point, live-rows, called-for, sought-exact}
+use Rattle.search.specs.Questions.{liveCandidates}
+use Rattle.index.specs.Asking.{Question, sought, bare, bareOf, soughtIn, rowsFor, toReadFor, CalledFor}
+use Rattle.index.specs.AskingLaws.{plain-gap, live-rows, called-for, sought-exact}
 
 -- f answers the question w on index b
 pub record Answers (b : List ℕ) (w : Question) (f : Found) : Type 0 where
-  -- the k nearest of the rows of the live records, by distance and then by identifier, or all of them if there are fewer
+  -- the k nearest of the rows of the live candidates, by distance and then by identifier, or all of them if there are fewer
   pub rows : f .rows ≡ nearest ranking (w .k) (rowsFor (viewOf b) w)
-  -- these are one for each live record, with its squared distance from the point
-  pub each : map bare (rowsFor (viewOf b) w) ≡ map (bareOf w) (live (viewOf b))
+  -- these are one for each live record that is looked for, with its distance from what is asked
+  pub each : map bare (rowsFor (viewOf b) w) ≡ map (bareOf w) (liveCandidates (viewOf b) (sought w))
+  -- which is its squared distance from the point
+  pub distance : (r : Record) → distanceTo (sought w) r ≡ distance (w .point) (pointIn (length (w .point)) r)
   -- the number of leaves in demand 3's set
   pub leaves : f .leaves ≡ count (toReadFor (viewOf b) w) (leavesOf (viewOf b))
-  -- these are the leaves holding records whose span has a grid point in range no farther from the point than the last row, or all of them when fewer than k live
+  -- these are the leaves holding records whose span has a grid point in range no farther from the point than the last row, or all of them when fewer than k candidates live
   pub set : All (λ t. (toReadFor (viewOf b) w t ≡ true → CalledFor (viewOf b) w t) × (CalledFor (viewOf b) w t → toReadFor (viewOf b) w t ≡ true)) (leavesOf (viewOf b))
-  -- the point, as it is stored, stands for the point
-  pub point : pointOf (slotsFor w) ≡ w .point
 
 -- where nothing is known of the index: it does if the index is sound
 abbrev pub AnswersIfSound : List ℕ → Question → Found → Type 0
 AnswersIfSound b w f = SoundIndex b → Answers b w f
 
 -- what the search finds on a sound index of as many features as the point has coordinates
-pub search-answers : (b : List ℕ) → SoundIndex b → (w : Question) → length (w .point) ≡ viewOf b .d → inRange (w .point) ≡ true → 1 ≤ w .k → Answers b w (soughtIn b w)
-search-answers b s w d r one =
+pub search-answers : (b : List ℕ) → SoundIndex b → (w : Question) → length (w .point) ≡ viewOf b .d → 1 ≤ w .k → Answers b w (soughtIn b w)
+search-answers b s w d one =
     let e = sought-exact b s w d one in
     record {
       rows = ap (λ (f : Found). f .rows) e;
-      each = live-rows w r (viewOf b);
+      each = live-rows w (viewOf b);
+      distance = plain-gap w;
       leaves = ap (λ (f : Found). f .leaves) e;
       set = called-for b s w d;
-      point = asked-point w r;
     }

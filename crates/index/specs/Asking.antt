@@ -1,16 +1,17 @@
 -- What a caller asks, and what the search has to say of it.
 use mathlib.Core.Path.{_≡_}
 use mathlib.Core.Bool.{Bool, true}
-use mathlib.Core.List.{List, map}
+use mathlib.Core.List.{List}
 use Prim.Native.Nat.{ℕ, _≤_}
 use lib.IntN.{ℤ}
 use lib.ListN.{length}
-use Rattle.geometry.specs.Points.{distance}
-use Rattle.geometry.specs.Stored.{stored, inRange}
+use Rattle.geometry.specs.Features.{plain}
+use Rattle.geometry.specs.Stored.{inRange}
 use Rattle.pagestore.specs.declared.Record.{Record}
 use Rattle.pagestore.specs.Store.{View}
-use Rattle.trees.specs.Trees.{Item, pointIn}
+use Rattle.trees.specs.Trees.{Item}
 use Rattle.candidates.specs.declared.Row.{Row}
+use Rattle.search.specs.Asked.{Asked, distanceTo}
 use Rattle.search.specs.Visit.{Answer as Found, found, leavesRead}
 use Rattle.search.specs.Questions.{rowsOf, toRead, Called, readingOrder, unreadPages}
 use Rattle.index.specs.declared.Criteria.{Criteria}
@@ -24,9 +25,9 @@ pub record Question : Type 0 where
 abbrev pub questionOf : List ℤ → Criteria → Question
 questionOf p c = record { point = p; k = c .k }
 
--- the point as it is stored
-abbrev pub slotsFor : Question → List ℕ
-slotsFor w = map stored (w .point)
+-- what is asked of the search: each coordinate by itself, every gap of weight 1
+abbrev pub sought : Question → Asked
+sought w = record { features = plain (w .point); k = w .k }
 
 -- a row without its position
 abbrev pub bare : Row → ℕ × ℕ
@@ -34,7 +35,7 @@ bare x = (x .distance, x .id)
 
 -- a record's squared distance from what is asked, and its identifier
 abbrev pub bareOf : Question → Record → ℕ × ℕ
-bareOf w r = (distance (w .point) (pointIn (length (w .point)) r), r .id)
+bareOf w r = (distanceTo (sought w) r, r .id)
 
 -- what can be searched for
 abbrev pub Searchable : Question → Type 0
@@ -44,26 +45,26 @@ Searchable w = (1 ≤ length (w .point)) × (length (w .point) ≤ 16) × (inRan
 
 -- what the search finds in the bytes b
 abbrev pub soughtIn : List ℕ → Question → Found
-soughtIn b w = found b (slotsFor w) (w .k)
+soughtIn b w = found b (sought w)
 
 -- the leaves that it reads, in the order of reading
 abbrev pub readFor : List ℕ → Question → List (ℕ × ℕ)
-readFor b w = leavesRead b (slotsFor w) (w .k)
+readFor b w = leavesRead b (sought w)
 
 -- the rows of the live records
 abbrev pub rowsFor : View → Question → List Row
-rowsFor v w = rowsOf v (slotsFor w)
+rowsFor v w = rowsOf v (sought w)
 
 -- demand 3's set, and the same in its own words
 abbrev pub toReadFor : View → Question → Item 1 → Bool
-toReadFor v w = toRead v (slotsFor w) (w .k)
+toReadFor v w = toRead v (sought w)
 
 abbrev pub CalledFor : View → Question → Item 1 → Type 0
-CalledFor v w = Called v (slotsFor w) (w .k)
+CalledFor v w = Called v (sought w)
 
 -- its leaves by (bound, position), and the pages of all others
 abbrev pub orderFor : View → Question → List (ℕ × ℕ)
-orderFor v w = readingOrder v (slotsFor w) (w .k)
+orderFor v w = readingOrder v (sought w)
 
 abbrev pub unreadFor : View → Question → List ℕ
-unreadFor v w = unreadPages v (slotsFor w) (w .k)
+unreadFor v w = unreadPages v (sought w)

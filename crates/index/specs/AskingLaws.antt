@@ -3,27 +3,29 @@ use mathlib.Core.Path.{_≡_, refl, sym, ap, ap₂, _∙_}
 use mathlib.Core.Bool.{true}
 use mathlib.Core.List.{List, [], _∷_, _++_, map, append-nil}
 use Prim.Native.Nat.{ℕ, zero, suc, _≤_}
-use lib.ListN.{length, length-map}
+use lib.ListN.{length}
 use Rattle.lists.specs.Basics.{All, flat, flat-append}
 use Rattle.lists.specs.Counts.{mult}
-use Rattle.lists.specs.Sorting.{count}
+use Rattle.lists.specs.Sorting.{count, keep}
+use Rattle.lists.specs.SortingLaws.{keep-append}
 use Rattle.lists.specs.FlatLaws.{map-append}
 use Rattle.geometry.specs.Points.{distance}
-use Rattle.geometry.specs.Stored.{stored, pointOf, inRange}
-use Rattle.geometry.proofs.StoredLaws.{in-range, slots-back}
+use Rattle.geometry.specs.Features.{plain}
+use Rattle.geometry.proofs.SliceLaws.{plain-distance, plain-length}
 use Rattle.pagestore.specs.declared.Record.{Record}
 use Rattle.pagestore.specs.Store.{View, viewOf}
 use Rattle.trees.specs.Trees.{Item, records, leaves, treeOf, live, leavesOf, pointIn}
 use Rattle.trees.specs.Sound.{SoundIndex}
 use Rattle.bestfirst.specs.Nearest.{nearest}
-use Rattle.search.specs.Branches.{rowOf}
+use Rattle.search.specs.Asked.{distanceTo, candidate, Suits}
+use Rattle.search.specs.Branches.{rowOf, rowsAmong}
 use Rattle.search.specs.Visit.{ranking}
-use Rattle.search.specs.Questions.{rowsFrom, rowsOf, Exchanged, AgreeBut}
+use Rattle.search.specs.Questions.{rowsFrom, rowsOf, liveCandidates, Exchanged, AgreeBut}
+use Rattle.search.proofs.AskedLaws.{plain-suits}
 use Rattle.search.proofs.FrameLaws.{leaf-records}
 use Rattle.search.proofs.Promises.{found-exact, leaves-read, exchange, unread-header, unread-bytes}
 use Rattle.search.proofs.SetLaws.{set-points}
-use Rattle.index.specs.PointLaws.{slots-own}
-use Rattle.index.specs.Asking.{Question, slotsFor, bare, bareOf, soughtIn, readFor, rowsFor, toReadFor, CalledFor, orderFor, unreadFor}
+use Rattle.index.specs.Asking.{Question, sought, bare, bareOf, soughtIn, readFor, rowsFor, toReadFor, CalledFor, orderFor, unreadFor}
 
 -- ---- THE ROWS OF THE LIVE RECORDS
 
@@ -41,55 +43,54 @@ unfolding leaves records flat
 leaves-records zero t = append-nil (t .1) ∙ sym (leaf-records t)
 leaves-records (suc l) t = leaves-list l (leaves-records l) (t .1)
 
-module _ (w : Question) (q : List ℕ) (e : pointOf q ≡ w .point) (len : length q ≡ length (w .point)) where
-  bare-leaf : (n : ℕ) (rs : List Record) → map bare (map (rowOf q n) rs) ≡ map (bareOf w) rs
+module _ (w : Question) where
+  -- the squared Euclidean distance: a plain point's
+  pub plain-gap : (r : Record) → distanceTo (sought w) r ≡ distance (w .point) (pointIn (length (w .point)) r)
+  unfolding distanceTo
+  plain-gap r = plain-distance (w .point) (pointIn (length (plain (w .point))) r) ∙ ap (λ (n : ℕ). distance (w .point) (pointIn n r)) (plain-length (w .point))
+
+  bare-leaf : (n : ℕ) (rs : List Record) → map bare (map (rowOf (sought w) n) rs) ≡ map (bareOf w) rs
   unfolding rowOf
   bare-leaf n [] = refl
-  bare-leaf n (r ∷ rs) = λ i. ((distance (e i) (pointIn (len i) r), r .id) ∷ bare-leaf n rs i)
+  bare-leaf n (r ∷ rs) = ap (λ (xs : List (ℕ × ℕ)). bareOf w r ∷ xs) (bare-leaf n rs)
 
-  bare-rows : (n : ℕ) (ts : List (Item 1)) → map bare (rowsFrom q n ts) ≡ map (bareOf w) (flat own ts)
-  unfolding rowsFrom flat
+  bare-rows : (n : ℕ) (ts : List (Item 1)) → map bare (rowsFrom (sought w) n ts) ≡ map (bareOf w) (keep (candidate (sought w)) (flat own ts))
+  unfolding rowsFrom rowsAmong flat keep
   bare-rows n [] = refl
   bare-rows n (t ∷ ts) =
-      map-append bare (map (rowOf q n) (t .1)) (rowsFrom q (suc n) ts)
-      ∙ ap₂ (λ (x y : List (ℕ × ℕ)). x ++ y) (bare-leaf n (t .1)) (bare-rows (suc n) ts)
-      ∙ sym (map-append (bareOf w) (t .1) (flat own ts))
+      let c = candidate (sought w) in
+      map-append bare (map (rowOf (sought w) n) (keep c (t .1))) (rowsFrom (sought w) (suc n) ts)
+      ∙ ap₂ (λ (x y : List (ℕ × ℕ)). x ++ y) (bare-leaf n (keep c (t .1))) (bare-rows (suc n) ts)
+      ∙ sym (ap (map (bareOf w)) (keep-append c (t .1) (flat own ts)) ∙ map-append (bareOf w) (keep c (t .1)) (keep c (flat own ts)))
 
-  rows-live : (v : View) → map bare (rowsOf v q) ≡ map (bareOf w) (live v)
+  pub live-rows : (v : View) → map bare (rowsFor v w) ≡ map (bareOf w) (liveCandidates v (sought w))
   unfolding rowsOf leavesOf live
-  rows-live v = bare-rows 0 (leaves (v .level) (treeOf v)) ∙ ap (map (bareOf w)) (leaves-records (v .level) (treeOf v))
-
-module _ (w : Question) (r : inRange (w .point) ≡ true) where
-  -- the asked point, stored, is the asked point
-  pub asked-point : pointOf (slotsFor w) ≡ w .point
-  asked-point = ap pointOf (sym (slots-own (w .point))) ∙ slots-back (w .point) (in-range (w .point) r)
-
-  pub live-rows : (v : View) → map bare (rowsFor v w) ≡ map (bareOf w) (live v)
-  live-rows v = rows-live w (slotsFor w) asked-point (length-map (w .point) stored) v
+  live-rows v =
+      bare-rows 0 (leaves (v .level) (treeOf v)) ∙ ap (λ (rs : List Record). map (bareOf w) (keep (candidate (sought w)) rs)) (leaves-records (v .level) (treeOf v))
 
 -- ---- WHAT THE SEARCH FINDS
 
 -- on a sound index of as many features as the point has coordinates
 module _ (b : List ℕ) (s : SoundIndex b) (w : Question) (d : length (w .point) ≡ viewOf b .d) where
-  as-many : length (slotsFor w) ≡ viewOf b .d
-  as-many = length-map (w .point) stored ∙ d
+  suits : Suits (viewOf b .d) (sought w)
+  suits = plain-suits (viewOf b .d) (w .point) (w .k) d
 
   pub called-for : All (λ t. (toReadFor (viewOf b) w t ≡ true → CalledFor (viewOf b) w t) × (CalledFor (viewOf b) w t → toReadFor (viewOf b) w t ≡ true)) (leavesOf (viewOf b))
-  called-for = set-points b s (slotsFor w) as-many (w .k)
+  called-for = set-points b s (sought w) suits
 
   module _ (one : 1 ≤ w .k) where
     pub sought-exact : soughtIn b w ≡ record { rows = nearest ranking (w .k) (rowsFor (viewOf b) w); leaves = count (toReadFor (viewOf b) w) (leavesOf (viewOf b)) }
-    sought-exact = found-exact b s (slotsFor w) as-many (w .k) one
+    sought-exact = found-exact b s (sought w) suits one
 
     pub read-ordered : readFor b w ≡ orderFor (viewOf b) w
-    read-ordered = leaves-read b s (slotsFor w) as-many (w .k) one
+    read-ordered = leaves-read b s (sought w) suits one
 
     -- the header is on no unread page
     pub header-read : mult 0 (unreadFor (viewOf b) w) ≡ 0
-    header-read = unread-header b s (slotsFor w) as-many (w .k) one
+    header-read = unread-header b s (sought w) suits one
 
     pub unread-same : (c : List ℕ) → AgreeBut (unreadFor (viewOf b) w) b c → soughtIn c w ≡ soughtIn b w
-    unread-same c agree = unread-bytes b s (slotsFor w) as-many (w .k) one c agree
+    unread-same c agree = unread-bytes b s (sought w) suits one c agree
 
     pub exchange-same : (c : List ℕ) → SoundIndex c → viewOf c .d ≡ viewOf b .d → Exchanged (viewOf b .d) (toReadFor (viewOf b) w) (leavesOf (viewOf b)) (leavesOf (viewOf c)) → soughtIn c w ≡ soughtIn b w
-    exchange-same c t alike x = exchange b c s t (slotsFor w) as-many alike (w .k) one x .0
+    exchange-same c t alike x = exchange b c s t (sought w) suits alike one x .0
