@@ -3,15 +3,16 @@ ghost use mathlib.Core.Path.{_≡_};
 ghost use mathlib.Core.Bool.{true};
 ghost use Prim.Native.Nat.{_+_, _≤_};
 ghost use lib.ListN.{length};
-ghost use Rattle.index.specs.Acts.{insert, delete, question};
+ghost use Rattle.index.specs.Asking.{questionOf};
+ghost use Rattle.index.specs.Acts.{insert, delete};
 ghost use Rattle.candidates.specs.Held.{rowsIn};
 ghost use Rattle.acts_step.specs.Printed.{rowLines};
-ghost use Rattle.acts_step.specs.Steps.{rowsLent, mostPrinted, askedBy, Acted, Puts};
+ghost use Rattle.acts_step.specs.Steps.{rowsLent, mostPrinted, askedBy, Acted, Asks, Puts};
 use acts_text::ActLine;
 use acts_text::output::put_result;
 use candidates::row_of;
+use index::Criteria;
 use lending::Candidates;
-use search::Query;
 
 // The rows lent to a question.
 const ROWS: usize = 64;
@@ -68,15 +69,15 @@ fn put_rows(
 fn question_line(
     index: &[u8],
     point: &[i16],
-    k: u32,
+    what: Criteria,
     number: u64,
     out: &mut [u8],
     at: usize,
 ) -> usize
     requires { ⌜ at + mostPrinted ≤ length (now out) ⌝ }
-    ensures { λ r. ⌜ Puts (Acted (question (now (point .entry)) k rowsLent) (now (index .entry)) number (now (index .entry))) mostPrinted (now (out .entry)) (now (out .exit)) at r ⌝ }
+    ensures { λ r. ⌜ Puts (Asks (questionOf (now (point .entry)) what) (now (index .entry)) number) mostPrinted (now (out .entry)) (now (out .exit)) at r ⌝ }
 {
-    let o = index::question_outcome(index, point, Query { k: k as usize }, ROWS);
+    let o = index::question_outcome(index, point, what, ROWS);
     let answer = o.answer;
     if answer.count == 0 {
         return put_result(
@@ -116,5 +117,6 @@ pub fn do_act(index: &mut [u8], a: ActLine, number: u64, out: &mut [u8], at: usi
     if a.act == 1 {
         return insert_line(index, a.id, &coords[..d], number, out, at);
     }
-    question_line(index, &coords[..d], a.k, number, out, at)
+    let k = a.k as usize;
+    question_line(index, &coords[..d], Criteria { k: k }, number, out, at)
 }

@@ -6,8 +6,8 @@ ghost use Prim.Native.Nat.{_≤_, _<_};
 ghost use lib.ListN.{length};
 use example_parts::show::line;
 use example_parts::show::text;
+use index::Criteria;
 use lending::Outcome;
-use search::Query;
 
 // 1 if a length is not permitted.
 fn refused_length(bytes: usize) -> u64 {
@@ -24,7 +24,7 @@ fn show_permitted() {
 // A question of two coordinates with some rows lent.
 fn ask(index: &[u8], x: i16, y: i16, k: usize, lent: usize) -> Outcome {
     let point = [x, y];
-    index::question_outcome(index, &point, Query { k: k }, lent)
+    index::question_outcome(index, &point, Criteria { k: k }, lent)
 }
 
 fn ask_code(index: &[u8], x: i16, k: usize, lent: usize) -> u64 {
@@ -142,7 +142,7 @@ fn refused_deletes(index: &mut [u8]) {
 
 fn ask_single(index: &[u8]) -> u64 {
     let point = [0i16];
-    let o = index::question_outcome(index, &point, Query { k: 0 }, 0);
+    let o = index::question_outcome(index, &point, Criteria { k: 0 }, 0);
     let answer = o.answer;
     answer.code as u64
 }

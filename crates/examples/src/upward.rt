@@ -8,12 +8,12 @@ use example_parts::listing::list_leaves;
 use example_parts::places::coordinate;
 use example_parts::show::line;
 use example_parts::show::text;
+use index::Criteria;
 use lending::Candidates;
 use lending::Outcome;
 use pagestore::free_count;
 use pagestore::fresh_page;
 use pagestore::leaf_at;
-use search::Query;
 
 // Inserts identifier n at n.
 fn insert_one(index: &mut [u8], n: u16) -> u32
@@ -100,7 +100,7 @@ fn ask(index: &[u8], n: u16, k: usize) -> Outcome
     requires { ⌜ n ≤ 17 ⌝ }
 {
     let point = [coordinate(1000 + n)];
-    index::question_outcome(index, &point, Query { k: k }, 64)
+    index::question_outcome(index, &point, Criteria { k: k }, 64)
 }
 
 fn show_answer(o: Outcome, rows: u64, leaves: u64) {

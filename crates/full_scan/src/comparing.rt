@@ -10,9 +10,9 @@ use crate::scan::measure;
 use crate::scan::take;
 use candidates::Row;
 use candidates::row_of;
+use index::Criteria;
 use lending::Candidates;
 use lending::Outcome;
-use search::Query;
 
 // What a question asks for: the features, k, the number of points that are live and of leaves.
 pub struct Asked {
@@ -154,7 +154,7 @@ fn ask(index: &[u8], q: &[u16], d: usize, k: usize) -> Outcome
     requires { ⌜ (d ≤ 16) × (16 ≤ length (now q)) ⌝ }
 {
     let point = point_at(q, 0);
-    index::question_outcome(index, &point[..d], Query { k: k }, 64)
+    index::question_outcome(index, &point[..d], Criteria { k: k }, 64)
 }
 
 // Works out what a full scan says of the point q.

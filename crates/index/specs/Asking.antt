@@ -21,6 +21,10 @@ pub record Question : Type 0 where
   pub point : List ℤ
   pub k : ℕ
 
+-- with nothing else said
+abbrev pub nearestOf : List ℤ → ℕ → Question
+nearestOf p k = record { point = p; k = k }
+
 -- as code is given it: the point in a slice, and the rest
 abbrev pub questionOf : List ℤ → Criteria → Question
 questionOf p c = record { point = p; k = c .k }

@@ -19,7 +19,7 @@ use Rattle.trees.specs.Sound.{Permitted}
 use Rattle.search.specs.Examples as search
 use Rattle.search.specs.Examples.{recordNo}
 use Rattle.search.proofs.ExampleLaws as search-laws
-use Rattle.index.specs.Asking.{Question}
+use Rattle.index.specs.Asking.{Question, nearestOf}
 use Rattle.index.specs.Refusals.{First, questionRules}
 use Rattle.index.specs.RefusalLaws.{none-fails, Carried, carried-asked}
 use Rattle.index.specs.Outcomes.{foundWith}
@@ -32,7 +32,7 @@ pub data Example : Type 0 where
 
 -- the question for the k nearest of a point
 abbrev pub askedBy : search.Example → Question
-askedBy e = record { point = pos (e .point) ∷ []; k = e .k }
+askedBy e = nearestOf (pos (e .point) ∷ []) (e .k)
 
 -- it, on the index c with k rows lent: it is carried out, the identifiers of its rows, in order, and the number of leaves read
 abbrev pub Gives : List ℕ → search.Example → Type 0

@@ -23,7 +23,7 @@ same-length c = search needs
 returns : tie.Need-returns
 returns c =
     let Q = c .before .before .before .before .before .before .before .before .before .question-outcome in let P = c .before .before .put-result in
-    asked-none _ _ _ (Q .result) (Q .ensures) _ _ _ _ _ (c .before .before .before .before .before .before .if1 .taken) (P .ensures .0) (P .ensures .1)
+    asked-none _ _ (Q .result) (Q .ensures) _ _ _ _ _ (c .before .before .before .before .before .before .if1 .taken) (P .ensures .0) (P .ensures .1)
 
 cast-put-rows : tie.Need-cast-put-rows
 cast-put-rows c = search needs
@@ -36,7 +36,7 @@ slice-aggregate-put-rows-2 c = search needs
 
 put-rows-requires : tie.Need-put-rows-requires
 put-rows-requires c κs =
-    let Q = c .before .before .before .before .before .before .before .before .before .before .question-outcome in let w = rows-fit _ _ _ (Q .result) (Q .ensures) in
+    let Q = c .before .before .before .before .before .before .before .before .before .before .question-outcome in let w = rows-fit _ _ (Q .result) (Q .ensures) in
     (c .before .before .before .before .before .before .before .before .before .before .before .before .before .pre, w, omega (arith, Q .ensures .distances), omega (arith, Q .ensures .tags))
 
 same-length-2 : tie.Need-same-length-2
@@ -45,7 +45,7 @@ same-length-2 c = search needs
 returns-2 : tie.Need-returns-2
 returns-2 c =
     let Q = c .before .before .before .before .before .before .before .before .before .before .before .before .before .question-outcome in
-    asked-some _ _ _ (Q .result) (Q .ensures) _ _ _ _ _ (c .before .before .before .before .before .before .before .before .before .before .if1 .left) (c .before .before .put-rows .ensures)
+    asked-some _ _ (Q .result) (Q .ensures) _ _ _ _ _ (c .before .before .before .before .before .before .before .before .before .before .if1 .left) (c .before .before .put-rows .ensures)
 
 pub question-line-spec : {M : Type 1} → statement M
 question-line-spec =
