@@ -2,16 +2,18 @@
 use mathlib.Core.Path.{_≡_}
 use mathlib.Core.Bool.{Bool, true}
 use mathlib.Core.List.{List}
-use Prim.Native.Nat.{ℕ, _≤_}
+use Prim.Native.Nat.{ℕ, _+_, _≤_}
 use lib.IntN.{ℤ}
-use lib.ListN.{length}
+use lib.ListN.{length, take}
 use Rattle.geometry.specs.Features.{plain}
 use Rattle.geometry.specs.Stored.{inRange}
 use Rattle.pagestore.specs.declared.Record.{Record}
 use Rattle.pagestore.specs.Store.{View}
 use Rattle.trees.specs.Trees.{Item}
 use Rattle.candidates.specs.declared.Row.{Row}
-use Rattle.search.specs.Asked.{Asked, distanceTo}
+use Rattle.search.specs.declared.Query.{Query}
+use Rattle.search.specs.Asked.{Asked, distanceTo, asks}
+use Rattle.search.specs.Steps.{Seekable}
 use Rattle.search.specs.Visit.{Answer as Found, found, leavesRead}
 use Rattle.search.specs.Questions.{rowsOf, toRead, Called, readingOrder, unreadPages}
 use Rattle.index.specs.declared.Criteria.{Criteria}
@@ -44,6 +46,13 @@ bareOf w r = (distanceTo (sought w) r, r .id)
 -- what can be searched for
 abbrev pub Searchable : Question → Type 0
 Searchable w = (1 ≤ length (w .point)) × (length (w .point) ≤ 16) × (inRange (w .point) ≡ true) × (1 ≤ w .k) × (w .k ≤ 64)
+
+-- the query that the search is handed for it
+pub record QueryFor (w : Question) (r : Query) : Type 0 where
+  pub slots : length (r .features) ≡ 64
+  pub few : r .d ≤ 16
+  pub seekable : Seekable (take (48 + r .d) (r .features))
+  pub is : asks r ≡ sought w
 
 -- ---- THE SEARCH'S DEFINITIONS, OF A QUESTION
 

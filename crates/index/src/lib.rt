@@ -8,6 +8,7 @@ use lending::Tally;
 mod asking;
 mod checking;
 mod making;
+mod querying;
 mod refusing;
 pub mod trusted;
 mod upkeep;
