@@ -7,7 +7,7 @@ use native.Mathlib.Omega.{arith}
 use lib.Dec.{eqb, ltb}
 use borrow.Author.Tests.{eq-eqb, ne-eqb, ltb-false}
 use Rattle.pagestore.specs.Store.{total, level, fieldAt}
-use Rattle.search.specs.declared.Found.{Found}
+use Rattle.search.specs.declared.Seen.{Seen}
 use Rattle.search.specs.Visit.{answerOf, visited, readsNone, found}
 use Rattle.search.specs.Steps.{answerIn, Searched}
 use Rattle.search.proofs.Promises.{found-exact, unread-bytes}
@@ -37,6 +37,6 @@ pub answer-some : (b q : List ℕ) (k : ℕ) → readsNone b ≡ false → answe
 unfolding found
 answer-some b q k e = rw e
 
-pub searched : (b q : List ℕ) (k : ℕ) (r : Found) → 1 ≤ k → r .rows ≤ k → answerIn r ≡ found b q k → Searched b q k r
-searched b q k r one few e =
+pub searched : (b q : List ℕ) (k : ℕ) (ds ts : List ℕ) (r : Seen) → 1 ≤ k → r .rows ≤ k → answerIn ds ts r ≡ found b q k → Searched b q k ds ts r
+searched b q k ds ts r one few e =
     record { answer = e; few = few; sound = λ c s same agree. e ∙ unread-bytes c s q same k one b agree ∙ found-exact c s q same k one }

@@ -18,7 +18,6 @@ use Rattle.bestfirst.specs.Nearest.{nearest}
 use Rattle.candidates.specs.declared.Row.{Row}
 use Rattle.candidates.specs.Rows.{rowOrder}
 use Rattle.candidates.specs.Held.{rowsIn, Held}
-use Rattle.search.specs.declared.Found.{Found}
 use Rattle.search.specs.declared.Seen.{Seen}
 use Rattle.search.specs.Branches.{before, branches}
 use Rattle.search.specs.Keys.{Good, frontier}
@@ -68,29 +67,30 @@ pub record Visits (index q heights : List ℕ) (k : ℕ) (slots distances marks 
   pub rows : k ≤ length distances
   pub tags : k ≤ length marks
 
--- what a search that reads something is lent: room for branches
-pub record Seeks (index q : List ℕ) (k : ℕ) (slots : List ℕ) : Type 0 where
+-- what a search that reads something is lent: room for branches and for k rows
+pub record Seeks (index q : List ℕ) (k : ℕ) (slots distances marks : List ℕ) : Type 0 where
   pub asked : Asked q
   pub one : 1 ≤ k
-  pub most : k ≤ 64
   pub some : readsNone index ≡ false
   pub room : length slots ≡ room index
+  pub rows : k ≤ length distances
+  pub tags : k ≤ length marks
+
+-- the answer that two arrays hold
+abbrev pub answerIn : List ℕ → List ℕ → Seen → Answer
+answerIn distances tags r = record { rows = rowsIn distances tags (r .rows); leaves = r .leaves }
 
 -- the visit has been made: its rows are held, and its leaves counted
 pub record Visited (index q : List ℕ) (k : ℕ) (distances tags : List ℕ) (r : Seen) : Type 0 where
   pub held : Held distances tags (r .rows) k
-  pub answer : record { rows = rowsIn distances tags (r .rows); leaves = r .leaves } ≡ answerOf (visited index q k)
+  pub answer : answerIn distances tags r ≡ answerOf (visited index q k)
 
--- the answer that is returned
-abbrev pub answerIn : Found → Answer
-answerIn r = record { rows = rowsIn (r .distances) (r .tags) (r .rows); leaves = r .leaves }
-
--- What the search by itself promises of the bytes lent, with no check of them.
-pub record Searched (index q : List ℕ) (k : ℕ) (r : Found) : Type 0 where
+-- What the search by itself promises of the bytes lent, with no check of them, and of the arrays afterwards.
+pub record Searched (index q : List ℕ) (k : ℕ) (distances tags : List ℕ) (r : Seen) : Type 0 where
   -- for any bytes
-  pub answer : answerIn r ≡ found index q k
+  pub answer : answerIn distances tags r ≡ found index q k
   pub few : r .rows ≤ k
   -- Demand 3: for every sound index of which these are the bytes, but for the pages of the leaves left unread, the rows are the
   -- k nearest of its records, and the leaves read are as many as its set has.
   pub sound : (b : List ℕ) → SoundIndex b → length q ≡ viewOf b .d → AgreeBut (unreadPages (viewOf b) q k) b index
-      → answerIn r ≡ record { rows = nearest ranking k (rowsOf (viewOf b) q); leaves = count (toRead (viewOf b) q k) (leavesOf (viewOf b)) }
+      → answerIn distances tags r ≡ record { rows = nearest ranking k (rowsOf (viewOf b) q); leaves = count (toRead (viewOf b) q k) (leavesOf (viewOf b)) }

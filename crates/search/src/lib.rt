@@ -4,6 +4,7 @@
 // from the highest on, and page. The first one is taken until its bound exceeds the k-th distance: an inner page gives its
 // entries to the heap, a leaf page is handed to the one function that reads leaf pages.
 ghost use Prim.Native.Nat.{_≤_};
+ghost use lib.ListN.{length};
 ghost use Rattle.search.specs.Steps.{Asked, Seeks, Searched};
 use crate::visit::best_first;
 use crate::visit::reads_none;
@@ -20,56 +21,48 @@ pub struct Query {
     pub k: usize,
 }
 
-// What a visit leaves: the number of rows held, and the number of leaves read.
+// What a search returns beside the rows, which the lent arrays hold: their number, and the number of leaves read.
 pub struct Seen {
     pub rows: usize,
     pub leaves: u32,
 }
 
-// What a search returns: the rows, as their distances and tags, and the number of leaves read.
-pub struct Found {
-    pub rows: usize,
-    pub leaves: u32,
-    pub distances: [u64; 64],
-    pub tags: [u64; 64],
-}
-
 // The search of an index in which something is read, with room for its frontier.
-fn search_with(index: &[u8], q: &[u16], k: usize, slots: &mut [u64]) -> Found
-    requires { ⌜ Seeks (now index) (now q) k (now slots) ⌝ }
-    ensures { λ r. ⌜ Searched (now (index .entry)) (now (q .entry)) k r ⌝ }
+fn search_with(
+    index: &[u8],
+    q: &[u16],
+    k: usize,
+    slots: &mut [u64],
+    distances: &mut [u64],
+    tags: &mut [u64],
+) -> Seen
+    requires { ⌜ Seeks (now index) (now q) k (now slots) (now distances) (now tags) ⌝ }
+    ensures { λ r. ⌜ Searched (now (index .entry)) (now (q .entry)) k (now (distances .exit)) (now (tags .exit)) r ⌝ }
 {
     let heights = nearest_heights(q);
-    let mut distances = [0u64; 64];
-    let mut tags = [0u64; 64];
-    let seen = best_first(index, q, &heights, k, slots, &mut distances, &mut tags);
-    Found {
-        rows: seen.rows,
-        leaves: seen.leaves,
-        distances: distances,
-        tags: tags,
-    }
+    best_first(index, q, &heights, k, slots, distances, tags)
 }
 
-// The k nearest of the index's records to the asked point, whose coordinates are as stored, and the number of leaves read.
+// The k nearest of the index's records to the asked point, whose coordinates are as stored, as distances and tags in the arrays lent.
 // An index of few records gets little room: clearing more would take most of its search's time.
-pub fn search(index: &[u8], q: &[u16], query: Query) -> Found
-    requires { ⌜ Asked (now q) × (1 ≤ query .k) × (query .k ≤ 64) ⌝ }
-    ensures { λ r. ⌜ Searched (now (index .entry)) (now (q .entry)) (query .k) r ⌝ }
+pub fn search(
+    index: &[u8],
+    q: &[u16],
+    query: Query,
+    distances: &mut [u64],
+    tags: &mut [u64],
+) -> Seen
+    requires { ⌜ Asked (now q) × (1 ≤ query .k) × (query .k ≤ length (now distances)) × (query .k ≤ length (now tags)) ⌝ }
+    ensures { λ r. ⌜ Searched (now (index .entry)) (now (q .entry)) (query .k) (now (distances .exit)) (now (tags .exit)) r ⌝ }
 {
     if reads_none(index) {
-        return Found {
-            rows: 0,
-            leaves: 0,
-            distances: [0u64; 64],
-            tags: [0u64; 64],
-        };
+        return Seen { rows: 0, leaves: 0 };
     }
     if 4096 < total_records(index) {
         let mut slots = [0u64; 8192];
-        search_with(index, q, query.k, &mut slots)
+        search_with(index, q, query.k, &mut slots, distances, tags)
     } else {
         let mut slots = [0u64; 512];
-        search_with(index, q, query.k, &mut slots)
+        search_with(index, q, query.k, &mut slots, distances, tags)
     }
 }

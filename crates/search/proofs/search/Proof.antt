@@ -12,7 +12,8 @@ reads-none-requires : tie.Need-reads-none-requires
 reads-none-requires c κs = search needs
 
 returns : tie.Need-returns
-returns c = let S = (c .before .before .before .before) in searched (now (S .args .index)) (now (S .args .q)) _ _ (S .pre .1) (omega arith) (answer-none (now (S .args .index)) (now (S .args .q)) _ (sym (c .before .reads-none .ensures) ∙ c .if1 .taken))
+returns c = let S = (c .before .before .before .before .before .before) in
+    searched (now (S .args .index)) (now (S .args .q)) _ _ _ _ (S .pre .1) (omega arith) (answer-none (now (S .args .index)) (now (S .args .q)) _ (sym (c .before .reads-none .ensures) ∙ c .if1 .taken))
 
 total-records-requires : tie.Need-total-records-requires
 total-records-requires c κs = search needs
@@ -21,30 +22,44 @@ slice-aggregate-search-with : tie.Need-slice-aggregate-search-with
 slice-aggregate-search-with c = search needs
 
 search-with-requires : tie.Need-search-with-requires
-search-with-requires c κs = let S = (c .before .before .before .before .before .before .before) in
+search-with-requires c κs = let S = (c .before .before .before .before .before .before .before .before .before .before .before) in
     record {
       asked = S .pre .0;
       one = S .pre .1;
-      most = S .pre .2;
-      some = sym (c .before .before .before .before .reads-none .ensures) ∙ c .before .before .before .if1 .left;
-      room = room-large (now (S .args .index)) _ (c .before .before .total-records .ensures) (omega (arith, c .before .if2 .taken));
+      some = sym (c .before .before .before .before .before .before .reads-none .ensures) ∙ c .before .before .before .before .before .if1 .left;
+      room = room-large (now (S .args .index)) _ (c .before .before .before .before .total-records .ensures) (omega (arith, c .before .before .before .if2 .taken));
+      rows = S .pre .2;
+      tags = S .pre .3;
     }
 
 slice-aggregate-search-with-2 : tie.Need-slice-aggregate-search-with-2
 slice-aggregate-search-with-2 c = search needs
 
 search-with-requires-2 : tie.Need-search-with-requires-2
-search-with-requires-2 c κs = let S = (c .before .before .before .before .before .before .before) in
+search-with-requires-2 c κs = let S = (c .before .before .before .before .before .before .before .before .before .before .before) in
     record {
       asked = S .pre .0;
       one = S .pre .1;
-      most = S .pre .2;
-      some = sym (c .before .before .before .before .reads-none .ensures) ∙ c .before .before .before .if1 .left;
-      room = room-small (now (S .args .index)) _ (c .before .before .total-records .ensures) (omega (arith, c .before .if2 .left));
+      some = sym (c .before .before .before .before .before .before .reads-none .ensures) ∙ c .before .before .before .before .before .if1 .left;
+      room = room-small (now (S .args .index)) _ (c .before .before .before .before .total-records .ensures) (omega (arith, c .before .before .before .if2 .left));
+      rows = S .pre .2;
+      tags = S .pre .3;
     }
+
+same-length : tie.Need-same-length
+same-length c = search needs
+
+same-length-2 : tie.Need-same-length-2
+same-length-2 c = search needs
 
 returns-2 : tie.Need-returns-2
 returns-2 c = search needs
+
+same-length-3 : tie.Need-same-length-3
+same-length-3 c = search needs
+
+same-length-4 : tie.Need-same-length-4
+same-length-4 c = search needs
 
 returns-3 : tie.Need-returns-3
 returns-3 c = search needs
@@ -60,5 +75,9 @@ search-spec =
     search-with-requires
     slice-aggregate-search-with-2
     search-with-requires-2
+    same-length
+    same-length-2
     returns-2
+    same-length-3
+    same-length-4
     returns-3)
