@@ -27,7 +27,7 @@ answerOf o = record { rows = o .rows; leaves = length (o .read) }
 
 -- How many branches the frontier has room for: no more than there are leaves, and a leaf but the root has 8 records or more.
 unfoldable pub room : List ℕ → ℕ
-room b = pick (ltb 4096 (fieldAt total b)) 8192 512
+room b = pick (ltb 4096 (fieldAt total b)) 8192 (pick (ltb 1024 (fieldAt total b)) 512 128)
 
 -- The visit from the root on. As many steps are taken at most as twice the pages: in a sound index they and the room are enough.
 unfoldable pub visited : List ℕ → List ℕ → ℕ → Outcome Row Branch

@@ -58,11 +58,16 @@ pub fn search(
     if reads_none(index) {
         return Seen { rows: 0, leaves: 0 };
     }
-    if 4096 < total_records(index) {
+    let total = total_records(index);
+    if 4096 < total {
         let mut slots = [0u64; 8192];
+        return search_with(index, q, query.k, &mut slots, distances, tags);
+    }
+    if 1024 < total {
+        let mut slots = [0u64; 512];
         search_with(index, q, query.k, &mut slots, distances, tags)
     } else {
-        let mut slots = [0u64; 512];
+        let mut slots = [0u64; 128];
         search_with(index, q, query.k, &mut slots, distances, tags)
     }
 }

@@ -3,7 +3,7 @@ use mathlib.Core.Path.{sym, _∙_}
 use native.Mathlib.Omega.{arith}
 use denote.Ref.{now}
 use Rattle.search.proofs.AnswerLaws.{answer-none, searched}
-use Rattle.search.proofs.RoomLaws.{room-large, room-small}
+use Rattle.search.proofs.RoomLaws.{room-large, room-middle, room-small}
 use borrow.Author.Needs.{needs}
 use Rattle.search.proofs.search.Statement.{statement}
 use Rattle.search.proofs.search.Tie as tie
@@ -32,20 +32,6 @@ search-with-requires c κs = let S = (c .before .before .before .before .before 
       tags = S .pre .3;
     }
 
-slice-aggregate-search-with-2 : tie.Need-slice-aggregate-search-with-2
-slice-aggregate-search-with-2 c = search needs
-
-search-with-requires-2 : tie.Need-search-with-requires-2
-search-with-requires-2 c κs = let S = (c .before .before .before .before .before .before .before .before .before .before .before) in
-    record {
-      asked = S .pre .0;
-      one = S .pre .1;
-      some = sym (c .before .before .before .before .before .before .reads-none .ensures) ∙ c .before .before .before .before .before .if1 .left;
-      room = room-small (now (S .args .index)) _ (c .before .before .before .before .total-records .ensures) (omega (arith, c .before .before .before .if2 .left));
-      rows = S .pre .2;
-      tags = S .pre .3;
-    }
-
 same-length : tie.Need-same-length
 same-length c = search needs
 
@@ -54,6 +40,34 @@ same-length-2 c = search needs
 
 returns-2 : tie.Need-returns-2
 returns-2 c = search needs
+
+slice-aggregate-search-with-2 : tie.Need-slice-aggregate-search-with-2
+slice-aggregate-search-with-2 c = search needs
+
+search-with-requires-2 : tie.Need-search-with-requires-2
+search-with-requires-2 c κs = let S = (c .before .before .before .before .before .before .before .before .before .before .before .before) in
+    record {
+      asked = S .pre .0;
+      one = S .pre .1;
+      some = sym (c .before .before .before .before .before .before .before .reads-none .ensures) ∙ c .before .before .before .before .before .before .if1 .left;
+      room = room-middle (now (S .args .index)) _ (c .before .before .before .before .before .total-records .ensures) (omega (arith, c .before .before .before .before .if2 .left)) (omega (arith, c .before .before .before .if3 .taken));
+      rows = S .pre .2;
+      tags = S .pre .3;
+    }
+
+slice-aggregate-search-with-3 : tie.Need-slice-aggregate-search-with-3
+slice-aggregate-search-with-3 c = search needs
+
+search-with-requires-3 : tie.Need-search-with-requires-3
+search-with-requires-3 c κs = let S = (c .before .before .before .before .before .before .before .before .before .before .before .before) in
+    record {
+      asked = S .pre .0;
+      one = S .pre .1;
+      some = sym (c .before .before .before .before .before .before .before .reads-none .ensures) ∙ c .before .before .before .before .before .before .if1 .left;
+      room = room-small (now (S .args .index)) _ (c .before .before .before .before .before .total-records .ensures) (omega (arith, c .before .before .before .if3 .left));
+      rows = S .pre .2;
+      tags = S .pre .3;
+    }
 
 same-length-3 : tie.Need-same-length-3
 same-length-3 c = search needs
@@ -64,6 +78,15 @@ same-length-4 c = search needs
 returns-3 : tie.Need-returns-3
 returns-3 c = search needs
 
+same-length-5 : tie.Need-same-length-5
+same-length-5 c = search needs
+
+same-length-6 : tie.Need-same-length-6
+same-length-6 c = search needs
+
+returns-4 : tie.Need-returns-4
+returns-4 c = search needs
+
 pub search-spec : {M : Type 1} → statement M
 search-spec =
     tie.close
@@ -73,11 +96,16 @@ search-spec =
     total-records-requires
     slice-aggregate-search-with
     search-with-requires
-    slice-aggregate-search-with-2
-    search-with-requires-2
     same-length
     same-length-2
     returns-2
+    slice-aggregate-search-with-2
+    search-with-requires-2
+    slice-aggregate-search-with-3
+    search-with-requires-3
     same-length-3
     same-length-4
-    returns-3)
+    returns-3
+    same-length-5
+    same-length-6
+    returns-4)
