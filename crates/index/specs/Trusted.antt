@@ -18,7 +18,6 @@ use Rattle.trees.specs.Sound.{Permitted}
 use Rattle.tree.specs.Insertion.{pagesWanted}
 use Rattle.tree.specs.Lookup.{findIn}
 use Rattle.lending.specs.declared.Answer.{Answer}
-use Rattle.lending.specs.declared.Outcome.{Outcome}
 use Rattle.lending.specs.declared.Tally.{Tally}
 use Rattle.candidates.specs.declared.Row.{Row}
 use Rattle.index.specs.Asking.{Question}
@@ -88,9 +87,9 @@ abbrev pub numbers : List Rule → List ℕ
 numbers [] = []
 numbers (rule ∷ rules) = rule .0 ∷ numbers rules
 
--- A question without the check, by value and as it is handed over. Where it is carried out on a sound index, its rows and its count are the act's.
-abbrev pub TrustedOutcome : List ℕ → Question → ℕ → Outcome → Type 0
-TrustedOutcome b w n o = OutcomeBy (trustedQuestion b w n) (AnswersIfSound b w) b w o
+-- A question without the check, before it is handed over and afterwards. Where it is carried out on a sound index, its rows and its count are the act's.
+abbrev pub TrustedOutcome : List ℕ → Question → ℕ → List ℕ → List ℕ → Answer → Type 0
+TrustedOutcome b w n distances tags r = OutcomeBy (trustedQuestion b w n) (AnswersIfSound b w) b w distances tags r
 
 abbrev pub TrustedQuestioned : List ℕ → Question → List Row → Tally → Answer → List Row → Tally → Type 0
 TrustedQuestioned b w lent tally r lent' tally' = QuestionedBy (trustedQuestion b w (length lent)) (AnswersIfSound b w) b w lent tally r lent' tally'

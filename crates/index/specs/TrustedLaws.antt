@@ -16,15 +16,13 @@ use Rattle.tree_laws.specs.LookupPromises.{find-ident, find-none}
 use Rattle.search.proofs.SoundLaws.{tree-level}
 use Rattle.candidates.specs.declared.Row.{Row}
 use Rattle.lending.specs.declared.Answer.{Answer}
-use Rattle.lending.specs.declared.Candidates.{Candidates}
-use Rattle.lending.specs.declared.Outcome.{Outcome}
 use Rattle.lending.specs.declared.Tally.{Tally}
 use Rattle.lending.specs.Delivered.{Delivered}
 use Rattle.index.specs.Asking.{Question}
 use Rattle.index.specs.Refusals.{Rule, First, liveTimes, pagesToEven, insertRules, deleteRules, questionRules, askedRules}
 use Rattle.index.specs.RefusalLaws.{evening-takes-none, all-hold, put-in, later, Carried, asked-carried}
 use Rattle.index.specs.Answers.{AnswersIfSound}
-use Rattle.index.specs.Questions.{QuestionOutcome, Questioned}
+use Rattle.index.specs.Questions.{Places, QuestionOutcome, Questioned}
 use Rattle.index.specs.QuestionLaws.{handed-over}
 use Rattle.index.specs.Trusted.{Suits, trustedInsert, trustedDelete, trustedQuestion, numbers, TrustedOutcome, TrustedQuestioned}
 
@@ -136,23 +134,23 @@ module _ (b : List ℕ) (s : SoundIndex b) where
         ),
       )
 
-  -- and its outcome by value
-  pub asked-same : (w : Question) (m : ℕ) (o : Outcome) → TrustedOutcome b w m o → QuestionOutcome b w m o
-  asked-same w m o a =
-      record { first = question-same w m (o .answer .code) (a .first); listed = a .listed; few = a .few; count = a .count; leaves = a .leaves; rows = a .rows; distances = a .distances; tags = a .tags; carried = λ z. a .carried z s }
+  -- and its outcome
+  pub asked-same : (w : Question) (m : ℕ) (ds ts : List ℕ) (r : Answer) → TrustedOutcome b w m ds ts r → QuestionOutcome b w m ds ts r
+  asked-same w m ds ts r a = record { first = question-same w m (r .code) (a .first); few = a .few; count = a .count; leaves = a .leaves; rows = a .rows; carried = λ z. a .carried z s }
 
 -- ---- AN OUTCOME HANDED OVER
 
 pub trusted-carried : (b : List ℕ) (w : Question) (n : ℕ) → First (trustedQuestion b w n) 0 → Carried (viewOf b .d) w n
 trusted-carried b w n h = let a = all-hold (trustedQuestion b w n) refl h in asked-carried (viewOf b .d) w n (a .1 .1 .0 .2) (a .1 .1 .1 .0) (a .1 .1 .1 .1)
 
-module _ (b : List ℕ) (w : Question) (lent : List Row) (tally : Tally) (o : Outcome) where
-  room : First (trustedQuestion b w (length lent)) (o .answer .code) → o .answer .code ≡ 0 → (w .k ≤ 64) × (w .k ≤ length lent)
+module _ (b : List ℕ) (w : Question) (lent : List Row) (tally : Tally) (ds ts : List ℕ) (o : Answer) where
+  room : First (trustedQuestion b w (length lent)) (o .code) → o .code ≡ 0 → (w .k ≤ 64) × (w .k ≤ length lent)
   room f z =
       let c = trusted-carried b w (length lent) (subst (First (trustedQuestion b w (length lent))) z f) in (c .most, c .lent)
 
-  pub trusted-hands : TrustedOutcome b w (length lent) o → (r : Answer) (lent' : List Row) (tally' : Tally) → Delivered o lent tally r lent' tally' → TrustedQuestioned b w lent tally r lent' tally'
-  trusted-hands a = handed-over (trustedQuestion b w (length lent)) (AnswersIfSound b w) b w lent tally o a (room (a .first))
+  pub trusted-hands : Places ds ts → TrustedOutcome b w (length lent) ds ts o
+      → (r : Answer) (lent' : List Row) (tally' : Tally) → Delivered o ds ts lent tally r lent' tally' → TrustedQuestioned b w lent tally r lent' tally'
+  trusted-hands p a = handed-over (trustedQuestion b w (length lent)) (AnswersIfSound b w) b w lent tally ds ts o p a (room (a .first))
 
 -- on a sound index the trusted question is the question
 pub questioned-same : (b : List ℕ) → SoundIndex b → (w : Question) (lent : List Row) (tally : Tally) (r : Answer) (lent' : List Row) (tally' : Tally)

@@ -1,6 +1,6 @@
 // The question: the k nearest of a point, in lent rows, with the caller's tally.
 ghost use Rattle.index.specs.Asking.{questionOf};
-ghost use Rattle.index.specs.Questions.{QuestionOutcome, Questioned};
+ghost use Rattle.index.specs.Questions.{Places, QuestionOutcome, Questioned};
 use crate::Criteria;
 use crate::Returned;
 use crate::checking::refuse_index;
@@ -8,19 +8,26 @@ use crate::refusing::refused;
 use crate::trusted;
 use candidates::Row;
 use lending::Answer;
-use lending::Outcome;
 use lending::Tally;
 use lending::deliver;
 
-// A question by value, with some rows lent: for callers that hold no rows and no tally of their own.
-pub fn question_outcome(index: &[u8], point: &[i16], what: Criteria, lent: usize) -> Outcome
-    ensures { λ o. ⌜ QuestionOutcome (now (index .entry)) (questionOf (now (point .entry)) what) lent o ⌝ }
+// A question before it is handed over, with so many rows lent: its rows, as distances and tags, go to two arrays.
+pub fn question_outcome(
+    index: &[u8],
+    point: &[i16],
+    what: Criteria,
+    lent: usize,
+    distances: &mut [u64],
+    tags: &mut [u64],
+) -> Answer
+    requires { ⌜ Places (now distances) (now tags) ⌝ }
+    ensures { λ r. ⌜ QuestionOutcome (now (index .entry)) (questionOf (now (point .entry)) what) lent (now (distances .exit)) (now (tags .exit)) r ⌝ }
 {
     let code = refuse_index(index);
     if code != 0 {
         return refused(code);
     }
-    trusted::question_outcome(index, point, what, lent)
+    trusted::question_outcome(index, point, what, lent, distances, tags)
 }
 
 // The question for the nearest records of a point: its rows go to those lent, and the caller's tally counts it.
@@ -33,8 +40,10 @@ pub fn question(
 ) -> Answer
     ensures { λ r. ⌜ Questioned (now (index .entry)) (questionOf (now (point .entry)) what) (now (rows .entry)) (now (tally .entry)) r (now (rows .exit)) (now (tally .exit)) ⌝ }
 {
-    let o = question_outcome(index, point, what, rows.len());
-    deliver(rows, tally, o)
+    let mut distances = [0u64; 64];
+    let mut tags = [0u64; 64];
+    let answer = question_outcome(index, point, what, rows.len(), &mut distances, &mut tags);
+    deliver(rows, tally, answer, &distances, &tags)
 }
 
 // The question for callers that hold 64 rows and a tally by value.

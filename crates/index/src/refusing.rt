@@ -14,8 +14,6 @@ use crate::Criteria;
 use crate::making::permitted;
 use geometry::points::slots_of;
 use lending::Answer;
-use lending::Candidates;
-use lending::Outcome;
 use pagestore::Record;
 use pagestore::features_of;
 use pagestore::free_count;
@@ -80,20 +78,13 @@ pub fn refuse_question(index: &[u8], point: &[i16], what: Criteria, lent: usize)
 }
 
 // What a question that is refused returns: its number, 0 rows, 0 leaves.
-pub fn refused(code: u32) -> Outcome
-    ensures { λ o. ⌜ Refused code o ⌝ }
+pub fn refused(code: u32) -> Answer
+    ensures { λ r. ⌜ Refused code r ⌝ }
 {
-    Outcome {
-        answer: Answer {
-            code: code,
-            count: 0,
-            leaves: 0,
-        },
-        list: Candidates {
-            distances: [0; 64],
-            tags: [0; 64],
-            count: 0,
-        },
+    Answer {
+        code: code,
+        count: 0,
+        leaves: 0,
     }
 }
 

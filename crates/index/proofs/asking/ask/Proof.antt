@@ -109,7 +109,7 @@ tallyT′ = tyRef erased mut (pointee (Y .written))
 
 -- the machine values of rows, of a tally and of an answer
 abbrev av : List Row → Val
-av zs = arrayOf P.the-type P′.the-laws P′.the-plain zs
+av zs = arrayOf R (LL.vals P.the-type P′.the-laws) zs
 
 abbrev yv : Tally → Val
 yv t = LL.val Q.the-type Q′.the-laws t
@@ -294,7 +294,7 @@ module _ {M : Type 1} (𝓤 : URA M) (H : Heap 𝓤) (A : Atoms 𝓤) (W : Given
             rewrite ! 6 (λ (m : ℕ). ‵ (fat fullShare rowsT′ l₁₀ 0 (sliceVal (l₆, 0) m))) (sym many) refl $
             assigns ! (addr ! (from ! (stop !))) (from ! (stop !)) (init ! 4 refl (tt, tt)) $
             -- the loans
-            lft-new ! tt (λ ν. lft-new ! tt (λ μ. move ! (16 ∷ []) $ use1 W (‵ (cells (mem R) xs l₆ 0)) (lies-array P.the-type P′.the-laws P′.the-plain 𝓤 H A W l₆ 64 xs px) $
+            lft-new ! tt (λ ν. lft-new ! tt (λ μ. move ! (16 ∷ []) $ use1 W (‵ (cells (mem R) xs l₆ 0)) (lies-array R (LL.vals P.the-type P′.the-laws) tt (LL.tells P.the-type P′.the-laws) 𝓤 H A W (LL.makes P.the-type P′.the-plain 𝓤 H A) l₆ 64 xs px) $
             use1 W (later (some (λ (γ : GName). ‵ (LentRows l₆ l₇ ν μ γ γ) ⊛ ‵ (flent (ν ∷ []) (Held R (length xs) l₆ 0 γ))))) (lends-slice 𝓤 H A W R (named 2) (ν ∷ []) xs l₆ 0 roomy) $ await ! tt $ pick ! (λ γ. split ! $
             move ! (16 ∷ []) $ use1 W (‵ (mem Y .lies h l₇ 0)) (lies Q.the-type Q′.the-laws Q′.the-plain 𝓤 H A W l₇ h ph) $
             use1 W (later (some (λ (δ : GName). ‵ (LentTally l₆ l₇ ν μ γ δ) ⊛ ‵ (flent (μ ∷ []) (Body (mem Y) l₇ 0 δ))))) (lends-ref 𝓤 H A W Y (named 3) (μ ∷ []) h l₇ 0) $ await ! tt $ pick ! (λ δ. split ! $
@@ -314,7 +314,7 @@ module _ {M : Type 1} (𝓤 : URA M) (H : Heap 𝓤) (A : Atoms 𝓤) (W : Given
             -- [the tally lies; true; tν; t₁; t₀; the answer; true; the rows'; the shared slices; the rows' lender's part; _13; …]
             move ! (2 ∷ []) $ lft-end ! tt $ move ! (0 ∷ 9 ∷ 7 ∷ []) $ use3 W (later (‵ (Arr (mem R) (length xs) .lies (ws .1 .1 .1 .0) l₆ 0))) (slice-back 𝓤 H A W R (ν ∷ []) γ (ws .1 .1 .1 .0) (length xs) l₆ 0) $ await ! tt $
             rewrite ! 0 (λ (m : ℕ). ‵ (Arr (mem R) m .lies (ws .1 .1 .1 .0) l₆ 0)) many refl $
-            use1 W (given (Is B (ws .1 .1 .1 .0) (av (ws .1 .1 .1 .0) ∷ [])) (‵ (fat fullShare arrayT l₆ 0 (av (ws .1 .1 .1 .0))))) (back-array P.the-type P′.the-laws P′.the-plain 𝓤 H A W l₆ 64 (ws .1 .1 .1 .0)) $ learn ! (λ pz. move ! (1 ∷ []) $
+            use1 W (given (Is B (ws .1 .1 .1 .0) (av (ws .1 .1 .1 .0) ∷ [])) (‵ (fat fullShare arrayT l₆ 0 (av (ws .1 .1 .1 .0))))) (back-array R (LL.vals P.the-type P′.the-laws) tt (LL.tells P.the-type P′.the-laws) 𝓤 H A W (LL.makes P.the-type P′.the-plain 𝓤 H A) l₆ 64 (ws .1 .1 .1 .0)) $ learn ! (λ pz. move ! (1 ∷ []) $
             use1 W (given (Is Y (ws .1 .1 .1 .1 .0) (yv (ws .1 .1 .1 .1 .0) ∷ [])) (‵ (fat fullShare Q′.mir l₇ 0 (yv (ws .1 .1 .1 .1 .0))))) (back Q.the-type Q′.the-laws Q′.the-plain 𝓤 H A W l₇ (ws .1 .1 .1 .1 .0)) $ learn ! (λ pt.
             -- [_7; _6; true; t₁; t₀; the answer; true; the shared slices; _13; …]
             move ! (5 ∷ []) $ peeks ! N.the-row (Is N.the-row) (shows 𝓤 H A N.the-row) n (w ∷ []) (λ is. drop ! $
