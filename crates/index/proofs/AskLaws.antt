@@ -1,22 +1,22 @@
 -- The outcome of a question, refused or carried out.
 use mathlib.Core.Path.{_≡_, refl, sym, ap, _∙_, subst}
 use mathlib.Core.Logic.{_≢_}
-use mathlib.Core.List.{List, map}
+use mathlib.Core.List.{List}
 use Prim.Native.Nat.{ℕ, zero, suc, _≤_}
 use native.Mathlib.Omega.{arith}
-use lib.ListN.{length, take}
+use lib.ListN.{length}
 use lib.Seq.{length-take-le}
-use Rattle.geometry.specs.Stored.{stored, slotsOf}
 use Rattle.candidates.specs.Held.{rowsIn, rowsOf}
 use Rattle.candidates.proofs.HeldLaws.{length-rowsOf}
+use Rattle.search.specs.declared.Query.{Query}
 use Rattle.search.specs.declared.Seen.{Seen}
+use Rattle.search.specs.Asked.{Asked, asks}
 use Rattle.search.specs.Visit.{Answer as Found, found}
-use Rattle.search.specs.Steps.{Searched}
+use Rattle.search.specs.Steps.{Sought, Searched}
 use Rattle.lending.specs.declared.Answer.{Answer}
-use Rattle.index.specs.Asking.{Question, soughtIn}
+use Rattle.index.specs.Asking.{Question, Searchable, QueryFor, soughtIn}
 use Rattle.index.specs.Refusals.{Rule, First}
 use Rattle.index.specs.Outcomes.{foundWith, nothingFound}
-use Rattle.index.specs.PointLaws.{slots-own}
 use Rattle.index.specs.Questions.{Places, OutcomeBy, Refused, Answered}
 
 module _ (rules : List Rule) (answers : Found → Type 0) (b : List ℕ) (w : Question) (ds ts : List ℕ) where
@@ -53,10 +53,18 @@ module _ (rules : List Rule) (answers : Found → Type 0) (b : List ℕ) (w : Qu
         carried = λ z. subst answers (sym (h .same)) answer;
       }
 
+-- the query for a question, with places for its rows, can be searched for
+pub query-sought : (w : Question) (r : Query) (ds ts : List ℕ) → QueryFor w r → Searchable w → Places ds ts → Sought r ds ts
+query-sought w r ds ts q can p =
+    let k : r .k ≡ w .k = ap (λ (a : Asked). a .k) (q .is) in
+    record {
+      slots = q .slots;
+      few = q .few;
+      looked = record { seekable = q .seekable; one = omega (arith, can .3); rows = omega (arith, can .4, p .0); tags = omega (arith, can .4, p .1) };
+    }
+
 -- what the search returns, as an answer
-pub answered-by : (b : List ℕ) (w : Question) (slots ds ts : List ℕ) (r : Seen) → slots ≡ slotsOf (w .point) → Searched b (take (length (w .point)) slots) (w .k) ds ts r
+pub answered-by : (b : List ℕ) (w : Question) (q : Query) (ds ts : List ℕ) (r : Seen) → QueryFor w q → Searched b (asks q) ds ts r
     → Answered b w ds ts (record { code = 0; count = r .rows; leaves = r .leaves })
-answered-by b w slots ds ts r e h =
-    let p = w .point in
-    let own : take (length p) slots ≡ map stored p = subst (λ (s : List ℕ). take (length p) s ≡ map stored p) (sym e) (slots-own p) in
-    record { code = refl; few = h .few; same = h .answer ∙ ap (λ (q : List ℕ). found b q (w .k)) own }
+answered-by b w q ds ts r e h =
+    record { code = refl; few = omega (arith, h .few, ap (λ (a : Asked). a .k) (e .is)); same = h .answer ∙ ap (found b) (e .is) }

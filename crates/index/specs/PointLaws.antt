@@ -10,7 +10,7 @@ use lib.Seq.{take-at}
 use Rattle.lists.specs.Basics.{All, none, also}
 use Rattle.geometry.specs.Points.{InRange}
 use Rattle.geometry.specs.Features.{plain}
-use Rattle.geometry.specs.Questions.{featuresOf, askedOf, Packed, LaidOut}
+use Rattle.geometry.specs.Questions.{askedOf, Packed, LaidOut}
 use Rattle.geometry.specs.Stored.{stored, pointOf, slotsOf, inRange}
 use Rattle.geometry.proofs.StoredLaws.{in-range, stored-le, slots-back}
 use Rattle.geometry.proofs.QuestionLaws.{ones-plain}
@@ -30,7 +30,7 @@ slots-own p = take-at (map stored p) (replicate (16 - length p) 0) (length p) (l
 point-back : (p : List ℤ) → inRange p ≡ true → pointOf (map stored p) ≡ p
 point-back p r = ap pointOf (sym (slots-own p)) ∙ slots-back p (in-range p r)
 
-take-same : (n m x : ℕ) → n ≤ m → take n (replicate m x) ≡ replicate n x
+pub take-same : (n m x : ℕ) → n ≤ m → take n (replicate m x) ≡ replicate n x
 take-same zero m x h = refl
 take-same (suc n) zero x h = absurd (omega arith)
 take-same (suc n) (suc m) x h = ap (λ (xs : List ℕ). x ∷ xs) (take-same n m x (omega arith))
@@ -46,15 +46,12 @@ module _ (w : Question) (slots features : List ℕ) (e : slots ≡ slotsOf (w .p
   own-length : length (take n slots) ≡ n
   own-length = ap length own ∙ length-map (w .point) stored
 
-  ones : take n (replicate 16 1) ≡ replicate (length (take n slots)) 1
-  ones = take-same n 16 1 (can .1) ∙ ap (λ (m : ℕ). replicate m 1) (sym own-length)
-
-  pub query-for : LaidOut (take n slots) (take n slots) (take n (replicate 16 1)) features → QueryFor w (record { features = features; d = n; k = w .k })
+  pub query-for : LaidOut (take n slots) (take n slots) (replicate (length (take n slots)) 1) features → QueryFor w (record { features = features; d = n; k = w .k })
   query-for h =
       let asked = take (48 + n) features in
       let cut : take (48 + length (take n slots)) features ≡ asked = ap (λ (m : ℕ). take (48 + m) features) own-length in
       let same : askedOf asked ≡ plain (w .point) =
-      ap askedOf (sym cut) ∙ h .same ∙ ap (featuresOf (take n slots) (take n slots)) ones ∙ ones-plain (take n slots) ∙ ap (λ (s : List ℕ). plain (pointOf s)) own
+      ap askedOf (sym cut) ∙ h .same ∙ ones-plain (take n slots) ∙ ap (λ (s : List ℕ). plain (pointOf s)) own
       ∙ ap plain (point-back (w .point) (can .2)) in
       record {
         slots = h .places;

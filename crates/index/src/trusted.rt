@@ -9,17 +9,16 @@ ghost use Rattle.index.specs.Questions.{Places, Answered};
 ghost use Rattle.index.specs.Trusted.{trustedInsert, trustedDelete, TrustedOutcome, TrustedQuestioned};
 use crate::Criteria;
 use crate::making::permitted;
+use crate::querying::query_of;
 use crate::refusing::record_of;
 use crate::refusing::refuse_insert;
 use crate::refusing::refuse_question;
 use crate::refusing::refused;
 use candidates::Row;
-use geometry::points::slots_of;
 use lending::Answer;
 use lending::Tally;
 use lending::deliver;
 use pagestore::root_level;
-use search::Query;
 use search::search;
 use tree::find;
 
@@ -67,9 +66,7 @@ fn answered(
     requires { ⌜ Searchable (questionOf (now point) what) × Places (now distances) (now tags) ⌝ }
     ensures { λ r. ⌜ Answered (now (index .entry)) (questionOf (now (point .entry)) what) (now (distances .exit)) (now (tags .exit)) r ⌝ }
 {
-    let slots = slots_of(point);
-    let n = point.len();
-    let seen = search(index, &slots[..n], Query { k: what.k }, distances, tags);
+    let seen = search(index, query_of(point, what), distances, tags);
     Answer {
         code: 0,
         count: seen.rows,
