@@ -14,7 +14,7 @@ use Rattle.search.specs.Asked.{Asked, asks}
 use Rattle.search.specs.Visit.{Answer as Found, found}
 use Rattle.search.specs.Steps.{Sought, Searched}
 use Rattle.lending.specs.declared.Answer.{Answer}
-use Rattle.index.specs.Asking.{Question, Searchable, QueryFor, soughtIn}
+use Rattle.index.specs.Asking.{Question, Searchable, QueryFor, sought}
 use Rattle.index.specs.Refusals.{Rule, First}
 use Rattle.index.specs.Outcomes.{foundWith, nothingFound}
 use Rattle.index.specs.Questions.{Places, OutcomeBy, Refused, Answered}
@@ -39,9 +39,9 @@ module _ (rules : List Rule) (answers : Found → Type 0) (b : List ℕ) (w : Qu
   rows-held : (n : ℕ) → Places ds ts → n ≤ 64 → length (rowsIn ds ts n) ≡ n
   rows-held n p l = length-take-le n (rowsOf ds ts) (length-rowsOf n ds ts (omega (arith, p .0)) (omega (arith, p .1)))
 
-  pub asked-answered : (m : ℕ) (r : Answer) → First rules m → m ≡ 0 → Places ds ts → w .k ≤ 64 → answers (soughtIn b w) → Answered b w ds ts r → OutcomeBy rules answers b w ds ts r
+  pub asked-answered : (m : ℕ) (r : Answer) → First rules m → m ≡ 0 → Places ds ts → w .k ≤ 64 → answers (found b (sought w)) → Answered b w ds ts r → OutcomeBy rules answers b w ds ts r
   asked-answered m r f z p top answer h =
-      let e : soughtIn b w ≡ foundWith (r .code) b w = sym (ap (λ (x : ℕ). foundWith x b w) (h .code)) in
+      let e : found b (sought w) ≡ foundWith (r .code) b w = sym (ap (λ (x : ℕ). foundWith x b w) (h .code)) in
       let rows : rowsIn ds ts (r .count) ≡ foundWith (r .code) b w .rows = ap (λ (x : Found). x .rows) (h .same ∙ e) in
       let few : r .count ≤ w .k = h .few in
       record {

@@ -11,7 +11,8 @@ use Rattle.lists.specs.Tests.{three}
 use Rattle.geometry.specs.Stored.{inRange}
 use Rattle.pagestore.specs.Store.{View, viewOf, fieldAt, features, total}
 use Rattle.trees.specs.Sound.{SoundIndex}
-use Rattle.index.specs.Asking.{Question, Searchable, soughtIn}
+use Rattle.search.specs.Visit.{found}
+use Rattle.index.specs.Asking.{Question, Searchable, sought}
 use Rattle.index.specs.Refusals.{Rule, First, checkRules, insertRules, deleteRules, questionRules, askedRules}
 use Rattle.index.specs.RefusalLaws.{Hold, numbered, all-hold, refused-before, refused-after, later, Carried}
 use Rattle.index.specs.Outcomes.{Decides}
@@ -126,5 +127,5 @@ module _ (b : List ℕ) (w : Question) (lent n : ℕ) (f : First (trustedQuestio
       (h .1 .1 .0 .0, h .1 .1 .0 .1, c .ranges, c .some, c .most)
 
   -- and what is found on a sound index
-  pub trusted-answers : AnswersIfSound b w (soughtIn b w)
+  pub trusted-answers : AnswersIfSound b w (found b (sought w))
   trusted-answers s = let c = trusted-carried b w lent (subst (First (trustedQuestion b w lent)) e f) in search-answers b s w (c .features) (c .some)

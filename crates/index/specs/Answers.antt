@@ -13,30 +13,30 @@ use Rattle.trees.specs.Trees.{pointIn, leavesOf}
 use Rattle.trees.specs.Sound.{SoundIndex}
 use Rattle.bestfirst.specs.Nearest.{nearest}
 use Rattle.search.specs.Asked.{distanceTo}
-use Rattle.search.specs.Visit.{Answer as Found, ranking}
-use Rattle.search.specs.Questions.{liveCandidates}
-use Rattle.index.specs.Asking.{Question, sought, bare, bareOf, soughtIn, rowsFor, toReadFor, CalledFor}
+use Rattle.search.specs.Visit.{Answer as Found, ranking, found}
+use Rattle.search.specs.Questions.{liveCandidates, Called, rowsOf, toRead}
+use Rattle.index.specs.Asking.{Question, sought, bare, bareOf}
 use Rattle.index.specs.AskingLaws.{plain-gap, live-rows, called-for, sought-exact}
 
 -- f answers the question w on index b
 pub record Answers (b : List ℕ) (w : Question) (f : Found) : Type 0 where
   -- the k nearest of the rows of the live candidates, by distance and then by identifier, or all of them if there are fewer
-  pub rows : f .rows ≡ nearest ranking (w .k) (rowsFor (viewOf b) w)
+  pub rows : f .rows ≡ nearest ranking (w .k) (rowsOf (viewOf b) (sought w))
   -- these are one for each live record that is looked for, with its distance from what is asked
-  pub each : map bare (rowsFor (viewOf b) w) ≡ map (bareOf w) (liveCandidates (viewOf b) (sought w))
+  pub each : map bare (rowsOf (viewOf b) (sought w)) ≡ map (bareOf w) (liveCandidates (viewOf b) (sought w))
   -- which is its squared distance from the point
   pub distance : (r : Record) → distanceTo (sought w) r ≡ distance (w .point) (pointIn (length (w .point)) r)
   -- the number of leaves in demand 3's set
-  pub leaves : f .leaves ≡ count (toReadFor (viewOf b) w) (leavesOf (viewOf b))
+  pub leaves : f .leaves ≡ count (toRead (viewOf b) (sought w)) (leavesOf (viewOf b))
   -- these are the leaves holding records whose span has a grid point in range no farther from the point than the last row, or all of them when fewer than k candidates live
-  pub set : All (λ t. (toReadFor (viewOf b) w t ≡ true → CalledFor (viewOf b) w t) × (CalledFor (viewOf b) w t → toReadFor (viewOf b) w t ≡ true)) (leavesOf (viewOf b))
+  pub set : All (λ t. (toRead (viewOf b) (sought w) t ≡ true → Called (viewOf b) (sought w) t) × (Called (viewOf b) (sought w) t → toRead (viewOf b) (sought w) t ≡ true)) (leavesOf (viewOf b))
 
 -- where nothing is known of the index: it does if the index is sound
 abbrev pub AnswersIfSound : List ℕ → Question → Found → Type 0
 AnswersIfSound b w f = SoundIndex b → Answers b w f
 
 -- what the search finds on a sound index of as many features as the point has coordinates
-pub search-answers : (b : List ℕ) → SoundIndex b → (w : Question) → length (w .point) ≡ viewOf b .d → 1 ≤ w .k → Answers b w (soughtIn b w)
+pub search-answers : (b : List ℕ) → SoundIndex b → (w : Question) → length (w .point) ≡ viewOf b .d → 1 ≤ w .k → Answers b w (found b (sought w))
 search-answers b s w d one =
     let e = sought-exact b s w d one in
     record {

@@ -1,6 +1,6 @@
--- What a caller asks, and what the search has to say of it.
+-- What a caller asks, and what is asked of the search for it.
 use mathlib.Core.Path.{_≡_}
-use mathlib.Core.Bool.{Bool, true}
+use mathlib.Core.Bool.{true}
 use mathlib.Core.List.{List}
 use Prim.Native.Nat.{ℕ, _+_, _≤_}
 use lib.IntN.{ℤ}
@@ -8,14 +8,10 @@ use lib.ListN.{length, take}
 use Rattle.geometry.specs.Features.{plain}
 use Rattle.geometry.specs.Stored.{inRange}
 use Rattle.pagestore.specs.declared.Record.{Record}
-use Rattle.pagestore.specs.Store.{View}
-use Rattle.trees.specs.Trees.{Item}
 use Rattle.candidates.specs.declared.Row.{Row}
 use Rattle.search.specs.declared.Query.{Query}
 use Rattle.search.specs.Asked.{Asked, distanceTo, asks}
 use Rattle.search.specs.Steps.{Seekable}
-use Rattle.search.specs.Visit.{Answer as Found, found, leavesRead}
-use Rattle.search.specs.Questions.{rowsOf, toRead, Called, readingOrder, unreadPages}
 use Rattle.index.specs.declared.Criteria.{Criteria}
 
 -- the k nearest of a point
@@ -53,31 +49,3 @@ pub record QueryFor (w : Question) (r : Query) : Type 0 where
   pub few : r .d ≤ 16
   pub seekable : Seekable (take (48 + r .d) (r .features))
   pub is : asks r ≡ sought w
-
--- ---- THE SEARCH'S DEFINITIONS, OF A QUESTION
-
--- what the search finds in the bytes b
-abbrev pub soughtIn : List ℕ → Question → Found
-soughtIn b w = found b (sought w)
-
--- the leaves that it reads, in the order of reading
-abbrev pub readFor : List ℕ → Question → List (ℕ × ℕ)
-readFor b w = leavesRead b (sought w)
-
--- the rows of the live records
-abbrev pub rowsFor : View → Question → List Row
-rowsFor v w = rowsOf v (sought w)
-
--- demand 3's set, and the same in its own words
-abbrev pub toReadFor : View → Question → Item 1 → Bool
-toReadFor v w = toRead v (sought w)
-
-abbrev pub CalledFor : View → Question → Item 1 → Type 0
-CalledFor v w = Called v (sought w)
-
--- its leaves by (bound, position), and the pages of all others
-abbrev pub orderFor : View → Question → List (ℕ × ℕ)
-orderFor v w = readingOrder v (sought w)
-
-abbrev pub unreadFor : View → Question → List ℕ
-unreadFor v w = unreadPages v (sought w)

@@ -19,13 +19,13 @@ use Rattle.trees.specs.Sound.{SoundIndex}
 use Rattle.bestfirst.specs.Nearest.{nearest}
 use Rattle.search.specs.Asked.{distanceTo, candidate, Suits}
 use Rattle.search.specs.Branches.{rowOf, rowsAmong}
-use Rattle.search.specs.Visit.{ranking}
-use Rattle.search.specs.Questions.{rowsFrom, rowsOf, liveCandidates, Exchanged, AgreeBut}
+use Rattle.search.specs.Visit.{ranking, found, leavesRead}
+use Rattle.search.specs.Questions.{rowsFrom, rowsOf, liveCandidates, Exchanged, AgreeBut, Called, readingOrder, toRead, unreadPages}
 use Rattle.search.proofs.AskedLaws.{plain-suits}
 use Rattle.search.proofs.FrameLaws.{leaf-records}
 use Rattle.search.proofs.Promises.{found-exact, leaves-read, exchange, unread-header, unread-bytes}
 use Rattle.search.proofs.SetLaws.{set-points}
-use Rattle.index.specs.Asking.{Question, sought, bare, bareOf, soughtIn, readFor, rowsFor, toReadFor, CalledFor, orderFor, unreadFor}
+use Rattle.index.specs.Asking.{Question, sought, bare, bareOf}
 
 -- ---- THE ROWS OF THE LIVE RECORDS
 
@@ -63,7 +63,7 @@ module _ (w : Question) where
       ∙ ap₂ (λ (x y : List (ℕ × ℕ)). x ++ y) (bare-leaf n (keep c (t .1))) (bare-rows (suc n) ts)
       ∙ sym (ap (map (bareOf w)) (keep-append c (t .1) (flat own ts)) ∙ map-append (bareOf w) (keep c (t .1)) (keep c (flat own ts)))
 
-  pub live-rows : (v : View) → map bare (rowsFor v w) ≡ map (bareOf w) (liveCandidates v (sought w))
+  pub live-rows : (v : View) → map bare (rowsOf v (sought w)) ≡ map (bareOf w) (liveCandidates v (sought w))
   unfolding rowsOf leavesOf live
   live-rows v =
       bare-rows 0 (leaves (v .level) (treeOf v)) ∙ ap (λ (rs : List Record). map (bareOf w) (keep (candidate (sought w)) rs)) (leaves-records (v .level) (treeOf v))
@@ -75,22 +75,22 @@ module _ (b : List ℕ) (s : SoundIndex b) (w : Question) (d : length (w .point)
   suits : Suits (viewOf b .d) (sought w)
   suits = plain-suits (viewOf b .d) (w .point) (w .k) d
 
-  pub called-for : All (λ t. (toReadFor (viewOf b) w t ≡ true → CalledFor (viewOf b) w t) × (CalledFor (viewOf b) w t → toReadFor (viewOf b) w t ≡ true)) (leavesOf (viewOf b))
+  pub called-for : All (λ t. (toRead (viewOf b) (sought w) t ≡ true → Called (viewOf b) (sought w) t) × (Called (viewOf b) (sought w) t → toRead (viewOf b) (sought w) t ≡ true)) (leavesOf (viewOf b))
   called-for = set-points b s (sought w) suits
 
   module _ (one : 1 ≤ w .k) where
-    pub sought-exact : soughtIn b w ≡ record { rows = nearest ranking (w .k) (rowsFor (viewOf b) w); leaves = count (toReadFor (viewOf b) w) (leavesOf (viewOf b)) }
+    pub sought-exact : found b (sought w) ≡ record { rows = nearest ranking (w .k) (rowsOf (viewOf b) (sought w)); leaves = count (toRead (viewOf b) (sought w)) (leavesOf (viewOf b)) }
     sought-exact = found-exact b s (sought w) suits one
 
-    pub read-ordered : readFor b w ≡ orderFor (viewOf b) w
+    pub read-ordered : leavesRead b (sought w) ≡ readingOrder (viewOf b) (sought w)
     read-ordered = leaves-read b s (sought w) suits one
 
     -- the header is on no unread page
-    pub header-read : mult 0 (unreadFor (viewOf b) w) ≡ 0
+    pub header-read : mult 0 (unreadPages (viewOf b) (sought w)) ≡ 0
     header-read = unread-header b s (sought w) suits one
 
-    pub unread-same : (c : List ℕ) → AgreeBut (unreadFor (viewOf b) w) b c → soughtIn c w ≡ soughtIn b w
+    pub unread-same : (c : List ℕ) → AgreeBut (unreadPages (viewOf b) (sought w)) b c → found c (sought w) ≡ found b (sought w)
     unread-same c agree = unread-bytes b s (sought w) suits one c agree
 
-    pub exchange-same : (c : List ℕ) → SoundIndex c → viewOf c .d ≡ viewOf b .d → Exchanged (viewOf b .d) (toReadFor (viewOf b) w) (leavesOf (viewOf b)) (leavesOf (viewOf c)) → soughtIn c w ≡ soughtIn b w
+    pub exchange-same : (c : List ℕ) → SoundIndex c → viewOf c .d ≡ viewOf b .d → Exchanged (viewOf b .d) (toRead (viewOf b) (sought w)) (leavesOf (viewOf b)) (leavesOf (viewOf c)) → found c (sought w) ≡ found b (sought w)
     exchange-same c t alike x = exchange b c s t (sought w) suits alike one x .0

@@ -7,8 +7,8 @@ use Rattle.pagestore.specs.Store.{newIndex}
 use Rattle.tree.specs.Insertion.{insertInto}
 use Rattle.tree.specs.Deletion.{deleteFrom}
 use Rattle.tree.specs.Lookup.{findIn}
-use Rattle.search.specs.Visit.{Answer as Found}
-use Rattle.index.specs.Asking.{Question, soughtIn}
+use Rattle.search.specs.Visit.{Answer as Found, found}
+use Rattle.index.specs.Asking.{Question, sought}
 use Rattle.index.specs.Refusals.{recordOf}
 
 -- a test of P
@@ -37,4 +37,4 @@ abbrev pub nothingFound : Found
 nothingFound = record { rows = []; leaves = 0 }
 
 abbrev pub foundWith : ℕ → List ℕ → Question → Found
-foundWith n b w = unlessRefused n (soughtIn b w) nothingFound
+foundWith n b w = unlessRefused n (found b (sought w)) nothingFound

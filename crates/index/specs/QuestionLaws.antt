@@ -11,14 +11,14 @@ use borrow.Author.Tests.{ne-eqb}
 use Rattle.lists.specs.Basics.{pick}
 use Rattle.candidates.specs.declared.Row.{Row}
 use Rattle.candidates.specs.Held.{rowsIn}
-use Rattle.search.specs.Visit.{Answer as Found}
+use Rattle.search.specs.Visit.{Answer as Found, found}
 use Rattle.lending.specs.declared.Answer.{Answer}
 use Rattle.lending.specs.declared.Tally.{Tally}
 use Rattle.lending.specs.Tallies.{counted}
 use Rattle.lending.specs.Filling.{filled}
 use Rattle.lending.specs.FillingLaws.{filled-is}
 use Rattle.lending.specs.Delivered.{Delivered, rowsAfter, tallyAfter}
-use Rattle.index.specs.Asking.{Question, soughtIn}
+use Rattle.index.specs.Asking.{Question, sought}
 use Rattle.index.specs.Refusals.{Rule, First, questionRules}
 use Rattle.index.specs.RefusalLaws.{Carried, question-carried}
 use Rattle.index.specs.Outcomes.{unlessRefused, foundWith, nothingFound}
@@ -44,7 +44,7 @@ module _ (rules : List Rule) (answers : Found → Type 0) (b : List ℕ) (w : Qu
         let few : o .count ≤ w .k = a .few in
         let lent-then : lent' ≡ written (foundWith (o .code) b w .rows) lent =
         h .filling
-        ∙ rows-by lent ds ts (o .count) (soughtIn b w) (o .code) (a .rows) (a .count) (λ z. let top : w .k ≤ 64 = room z .0 in
+        ∙ rows-by lent ds ts (o .count) (found b (sought w)) (o .code) (a .rows) (a .count) (λ z. let top : w .k ≤ 64 = room z .0 in
         let most : w .k ≤ length lent = room z .1 in filled-is ds ts (o .count) lent (omega (arith, p .0)) (omega (arith, p .1)) (omega arith)) in
         let rows-then : rowsIn ds ts (o .count) ≡ take (o .count) lent' =
         a .rows

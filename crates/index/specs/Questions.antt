@@ -5,11 +5,11 @@ use Prim.Native.Nat.{ℕ, _≤_}
 use lib.ListN.{length, take, drop}
 use Rattle.candidates.specs.declared.Row.{Row}
 use Rattle.candidates.specs.Held.{rowsIn}
-use Rattle.search.specs.Visit.{Answer as Found}
+use Rattle.search.specs.Visit.{Answer as Found, found}
 use Rattle.lending.specs.declared.Answer.{Answer}
 use Rattle.lending.specs.declared.Tally.{Tally}
 use Rattle.lending.specs.Tallies.{counted}
-use Rattle.index.specs.Asking.{Question, soughtIn}
+use Rattle.index.specs.Asking.{Question, sought}
 use Rattle.index.specs.Refusals.{Rule, First, questionRules}
 use Rattle.index.specs.Outcomes.{unlessRefused, foundWith}
 use Rattle.index.specs.Answers.{Answers}
@@ -59,4 +59,4 @@ pub record Refused (n : ℕ) (r : Answer) : Type 0 where
 pub record Answered (b : List ℕ) (w : Question) (distances tags : List ℕ) (r : Answer) : Type 0 where
   pub code : r .code ≡ 0
   pub few : r .count ≤ w .k
-  pub same : record { rows = rowsIn distances tags (r .count); leaves = r .leaves } ≡ soughtIn b w
+  pub same : record { rows = rowsIn distances tags (r .count); leaves = r .leaves } ≡ found b (sought w)

@@ -9,8 +9,9 @@ use Rattle.geometry.specs.Stored.{inRange}
 use Rattle.pagestore.specs.Store.{View, viewOf}
 use Rattle.trees.specs.Trees.{leavesOf}
 use Rattle.trees.specs.Sound.{SoundIndex}
-use Rattle.search.specs.Questions.{Exchanged}
-use Rattle.index.specs.Asking.{Question, readFor, orderFor, toReadFor}
+use Rattle.search.specs.Questions.{Exchanged, readingOrder, toRead}
+use Rattle.search.specs.Visit.{leavesRead}
+use Rattle.index.specs.Asking.{Question, sought}
 use Rattle.index.specs.AskingLaws.{read-ordered, exchange-same}
 use Rattle.index.specs.Refusals.{First, questionRules, askedRules}
 use Rattle.index.specs.RefusalLaws.{Carried, question-sound, question-carried}
@@ -24,7 +25,7 @@ module _ (b : List ℕ) (w : Question) (n : ℕ) (h : First (questionRules b w n
   question-answers = let a = question-carried b w n h in search-answers b (question-sound b w n h) w (a .features) (a .some)
 
   -- which leaves it reads, and in which order: those of demand 3's set, by (bound, position)
-  pub question-reads : readFor b w ≡ orderFor (viewOf b) w
+  pub question-reads : leavesRead b (sought w) ≡ readingOrder (viewOf b) (sought w)
   question-reads = let a = question-carried b w n h in read-ordered b (question-sound b w n h) w (a .features) (a .some)
 
 -- ---- EXCHANGE
@@ -41,7 +42,7 @@ module _ (b c : List ℕ) (sb : SoundIndex b) (sc : SoundIndex c) (alike : viewO
 
   -- The leaves of b's set have the same records in c, any other leaf the same record number, first key and last key: rows and
   -- count are the same, and the rows are the k nearest of the records that c holds.
-  pub exchange-answers : First (questionRules b w n) 0 → Exchanged (viewOf b .d) (toReadFor (viewOf b) w) (leavesOf (viewOf b)) (leavesOf (viewOf c))
+  pub exchange-answers : First (questionRules b w n) 0 → Exchanged (viewOf b .d) (toRead (viewOf b) (sought w)) (leavesOf (viewOf b)) (leavesOf (viewOf c))
       → (foundWith 0 c w ≡ foundWith 0 b w) × Answers c w (foundWith 0 b w)
   exchange-answers h x =
       let a = question-carried b w n h in

@@ -10,10 +10,10 @@ use Rattle.pagestore.specs.Store.{View, viewOf, Field, fieldAt, features, level
 use Rattle.trees.specs.Trees.{live}
 use Rattle.trees.specs.Sound.{Permitted, SoundIndex}
 use Rattle.search.specs.Visit.{Answer as Found}
-use Rattle.search.specs.Questions.{AgreeBut}
+use Rattle.search.specs.Questions.{AgreeBut, unreadPages}
 use Rattle.search.proofs.SoundLaws.{tree-level}
 use Rattle.search.proofs.Promises.{agree-field}
-use Rattle.index.specs.Asking.{Question, unreadFor}
+use Rattle.index.specs.Asking.{Question, sought}
 use Rattle.index.specs.AskingLaws.{header-read, unread-same}
 use Rattle.index.specs.Refusals.{First, insertRules, deleteRules, questionRules, checkRules}
 use Rattle.index.specs.RefusalLaws.{first-one, none-fails, Carried, carried-asked, question-sound, question-carried}
@@ -83,7 +83,7 @@ trusted-stands b d lent low high h = series b d lent low high (trusted-series (n
 
 -- Demand 3's last sentence for the trusted question: whatever bytes the pages of the unread leaves hold, it is carried out on them with the
 -- rows and the count of the question on the sound index.
-module _ (b : List ℕ) (w : Question) (n : ℕ) (h : First (questionRules b w n) 0) (c : List ℕ) (agree : AgreeBut (unreadFor (viewOf b) w) b c) where
+module _ (b : List ℕ) (w : Question) (n : ℕ) (h : First (questionRules b w n) 0) (c : List ℕ) (agree : AgreeBut (unreadPages (viewOf b) (sought w)) b c) where
   carried : Carried (viewOf b .d) w n
   carried = question-carried b w n h
 
@@ -91,7 +91,7 @@ module _ (b : List ℕ) (w : Question) (n : ℕ) (h : First (questionRules b w n
   sound = question-sound b w n h
 
   field-same : (f : Field) → fieldAt f c ≡ fieldAt f b
-  field-same = agree-field (unreadFor (viewOf b) w) b c agree (header-read b sound w (carried .features) (carried .some))
+  field-same = agree-field (unreadPages (viewOf b) (sought w)) b c agree (header-read b sound w (carried .features) (carried .some))
 
   features-same : viewOf c .d ≡ viewOf b .d
   unfolding viewOf
