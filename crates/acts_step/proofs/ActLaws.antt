@@ -10,7 +10,7 @@ use borrow.Author.Tests.{eq-eqb, ne-eqb}
 use Rattle.candidates.specs.declared.Row.{Row}
 use Rattle.candidates.specs.Held.{rowsOf, rowsIn}
 use Rattle.search.specs.Visit.{Answer as Found}
-use Rattle.lending.specs.declared.Outcome.{Outcome}
+use Rattle.lending.specs.declared.Answer.{Answer}
 use Rattle.index.specs.Refusals.{First, insertRules, deleteRules}
 use Rattle.index.specs.Outcomes.{insertedWith, deletedWith, foundWith, nothingFound}
 use Rattle.index.specs.Asking.{Question}
@@ -61,49 +61,48 @@ length-rows [] ts = omega arith
 length-rows (d ∷ ds) [] = omega arith
 length-rows (d ∷ ds) (t ∷ ts) = omega (arith, length-rows ds ts)
 
-module _ (b : List ℕ) (w : Question) (o : Outcome) (a : QuestionOutcome b w 64 o) where
+module _ (b : List ℕ) (w : Question) (ds ts : List ℕ) (o : Answer) (a : QuestionOutcome b w 64 ds ts o) where
   abbrev answer : Found
-  answer = foundWith (o .answer .code) b w
+  answer = foundWith (o .code) b w
 
   -- no more rows than there are places for them
-  pub rows-fit : o .list .count ≤ 64
+  pub rows-fit : o .count ≤ length ds
   rows-fit =
-      let e : o .list .count ≡ length (rowsIn (o .list .distances) (o .list .tags) (o .list .count)) = a .listed ∙ a .count ∙ ap length (sym (a .rows)) in
-      let l = length-take (o .list .count) (rowsOf (o .list .distances) (o .list .tags)) in
-      let m = length-rows (o .list .distances) (o .list .tags) in
-      let d = a .distances in omega arith
+      let e : o .count ≡ length (rowsIn ds ts (o .count)) = a .count ∙ ap length (sym (a .rows)) in
+      let l = length-take (o .count) (rowsOf ds ts) in
+      let m = length-rows ds ts in omega arith
 
   module _ (n : ℕ) (out out' : List ℕ) (at r : ℕ) where
-    pub asked-none : o .answer .count ≡ 0 → Written out out' at r (resultLine n (o .answer .code) 0 0 (o .answer .leaves)) → r ≤ at + 105
+    pub asked-none : o .count ≡ 0 → Written out out' at r (resultLine n (o .code) 0 0 (o .leaves)) → r ≤ at + 105
         → Puts (Asks w b n) mostPrinted out out' at r
     asked-none z t room = record {
-      text = resultLine n (o .answer .code) 0 0 (o .answer .leaves);
+      text = resultLine n (o .code) 0 0 (o .leaves);
       says = record {
-        code = o .answer .code;
+        code = o .code;
         answer = answer;
         done = (a .first, refl, refl);
-        prints = ap (λ (x : ℕ). resultLine n (o .answer .code) 0 0 x) (a .leaves) ∙ lines-none n (o .answer .code) (answer .leaves) (answer .rows) (sym (a .count) ∙ z);
+        prints = ap (λ (x : ℕ). resultLine n (o .code) 0 0 x) (a .leaves) ∙ lines-none n (o .code) (answer .leaves) (answer .rows) (sym (a .count) ∙ z);
       };
       written = t;
       room = omega arith;
     }
 
-    pub asked-some : o .answer .count ≢ 0 → Puts (λ t. t ≡ rowLines n 0 (o .answer .leaves) (rowsIn (o .list .distances) (o .list .tags) (o .list .count))) mostPrinted out out' at r
+    pub asked-some : o .count ≢ 0 → Puts (λ t. t ≡ rowLines n 0 (o .leaves) (rowsIn ds ts (o .count))) mostPrinted out out' at r
         → Puts (Asks w b n) mostPrinted out out' at r
     asked-some z t =
         let some : length (answer .rows) ≢ 0 = λ e. z (a .count ∙ e) in
-        let zero : o .answer .code ≡ 0 = rows-zero b w (o .answer .code) some in
+        let zero : o .code ≡ 0 = rows-zero b w (o .code) some in
         record {
           text = t .text;
           says = record {
-            code = o .answer .code;
+            code = o .code;
             answer = answer;
             done = (a .first, refl, refl);
             prints = t .says
-                ∙ ap (λ (x : ℕ). rowLines n x (o .answer .leaves) (rowsIn (o .list .distances) (o .list .tags) (o .list .count))) (sym zero)
-                ∙ ap (λ (x : ℕ). rowLines n (o .answer .code) x (rowsIn (o .list .distances) (o .list .tags) (o .list .count))) (a .leaves)
-                ∙ ap (rowLines n (o .answer .code) (answer .leaves)) (a .rows)
-                ∙ lines-some n (o .answer .code) (answer .leaves) (answer .rows) some;
+                ∙ ap (λ (x : ℕ). rowLines n x (o .leaves) (rowsIn ds ts (o .count))) (sym zero)
+                ∙ ap (λ (x : ℕ). rowLines n (o .code) x (rowsIn ds ts (o .count))) (a .leaves)
+                ∙ ap (rowLines n (o .code) (answer .leaves)) (a .rows)
+                ∙ lines-some n (o .code) (answer .leaves) (answer .rows) some;
           };
           written = t .written;
           room = t .room;

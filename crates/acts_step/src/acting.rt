@@ -12,7 +12,6 @@ use acts_text::ActLine;
 use acts_text::output::put_result;
 use candidates::row_of;
 use index::Criteria;
-use lending::Candidates;
 
 // The rows lent to a question.
 const ROWS: usize = 64;
@@ -77,8 +76,9 @@ fn question_line(
     requires { ⌜ at + mostPrinted ≤ length (now out) ⌝ }
     ensures { λ r. ⌜ Puts (Asks (questionOf (now (point .entry)) what) (now (index .entry)) number) mostPrinted (now (out .entry)) (now (out .exit)) at r ⌝ }
 {
-    let o = index::question_outcome(index, point, what, ROWS);
-    let answer = o.answer;
+    let mut distances = [0u64; 64];
+    let mut tags = [0u64; 64];
+    let answer = index::question_outcome(index, point, what, ROWS, &mut distances, &mut tags);
     if answer.count == 0 {
         return put_result(
             out,
@@ -90,9 +90,6 @@ fn question_line(
             answer.leaves as u64,
         );
     }
-    let list = o.list;
-    let distances = list.distances;
-    let tags = list.tags;
     put_rows(
         out,
         at,
@@ -100,7 +97,7 @@ fn question_line(
         answer.leaves as u64,
         &distances,
         &tags,
-        list.count,
+        answer.count,
     )
 }
 
