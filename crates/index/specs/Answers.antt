@@ -25,7 +25,7 @@ pub record Answers (b : List ℕ) (w : Question) (f : Found) : Type 0 where
   -- these are one for each live record that is looked for, with its distance from what is asked
   pub each : map bare (rowsOf (viewOf b) (sought w)) ≡ map (bareOf w) (liveCandidates (viewOf b) (sought w))
   -- which is its squared distance from the point
-  pub distance : (r : Record) → distanceTo (sought w) r ≡ distance (w .point) (pointIn (length (w .point)) r)
+  pub squared : (r : Record) → distanceTo (sought w) r ≡ distance (w .point) (pointIn (length (w .point)) r)
   -- the number of leaves in demand 3's set
   pub leaves : f .leaves ≡ count (toRead (viewOf b) (sought w)) (leavesOf (viewOf b))
   -- these are the leaves holding records whose span has a grid point in range no farther from the point than the last row, or all of them when fewer than k candidates live
@@ -42,7 +42,7 @@ search-answers b s w d one =
     record {
       rows = ap (λ (f : Found). f .rows) e;
       each = live-rows w (viewOf b);
-      distance = plain-gap w;
+      squared = plain-gap w;
       leaves = ap (λ (f : Found). f .leaves) e;
       set = called-for b s w d;
     }
