@@ -11,7 +11,8 @@ use Rattle.geometry.specs.Features.{plain}
 use Rattle.geometry.specs.Questions.{sizeOf, askedOf, Packed, Ready}
 use Rattle.geometry.specs.Stored.{pointOf}
 use Rattle.pagestore.specs.declared.Entry.{Entry}
-use Rattle.pagestore.specs.Store.{viewOf, level, innerAt, entriesIn, fieldAt}
+use Rattle.pagestore.specs.Layout.{leafOf}
+use Rattle.pagestore.specs.Store.{viewOf, level, leafAt, recordsIn, innerAt, entriesIn, fieldAt}
 use Rattle.trees.specs.Trees.{leavesOf}
 use Rattle.trees.specs.Sound.{SoundIndex}
 use Rattle.heap.specs.Heap.{Heap, held}
@@ -21,7 +22,7 @@ use Rattle.candidates.specs.Rows.{rowOrder}
 use Rattle.candidates.specs.Held.{rowsIn, Held}
 use Rattle.search.specs.declared.Query.{Query}
 use Rattle.search.specs.declared.Seen.{Seen}
-use Rattle.search.specs.Asked.{Asked, distanceTo, candidate, spanBound, Suits, asking}
+use Rattle.search.specs.Asked.{Asked, distanceTo, candidate, spanBound, Suits, asking, askingPoint}
 use Rattle.search.specs.Branches.{before, branchOf, branches, rowsAmong}
 use Rattle.search.specs.Columns.{recordIn}
 use Rattle.search.specs.Keys.{keyOf, mostBound, frontier}
@@ -53,6 +54,16 @@ pub record Tabled (asked near whole : List ℕ) : Type 0 where
 pub record OfferedAll (distances tags : List ℕ) (n k : ℕ) (xs : List Row) (r : ℕ) (distances' tags' : List ℕ) : Type 0 where
   pub held : Held distances' tags' r k
   pub rows : rowsIn distances' tags' r ≡ sorting.offerAll rowOrder k xs (rowsIn distances tags n)
+
+-- those of the candidates in a leaf page, for a point
+abbrev pub OfferedPart : List ℕ → List ℕ → ℕ → List ℕ → List ℕ → ℕ → ℕ → ℕ → List ℕ → List ℕ → Type 0
+OfferedPart page q position distances tags n k r distances' tags' =
+    OfferedAll distances tags n k (rowsAmong (askingPoint q k) position (recordsIn (leafOf page))) r distances' tags'
+
+-- and in the leaf at a page of the index
+abbrev pub OfferedLeaf : List ℕ → ℕ → List ℕ → ℕ → List ℕ → List ℕ → ℕ → ℕ → ℕ → List ℕ → List ℕ → Type 0
+OfferedLeaf index page asked position distances tags n k r distances' tags' =
+    OfferedAll distances tags n k (rowsAmong (asking asked k) position (recordsIn (leafAt index page))) r distances' tags'
 
 -- r says whether the record in slot i of a leaf page is a candidate, whatever is asked
 abbrev pub Tells : List ℕ → ℕ → Bool → Type 0

@@ -4,13 +4,9 @@ ghost use Prim.Native.Nat.{_≤_, _<_, min};
 ghost use lib.ListN.{length, take};
 ghost use Rattle.lists.specs.Basics.{tick};
 ghost use Rattle.lists.specs.Sorting.{count};
-ghost use Rattle.pagestore.specs.Store.{leafAt, recordsIn};
-ghost use Rattle.pagestore.specs.Layout.{leafOf};
 ghost use Rattle.candidates.specs.Held.{Held};
-ghost use Rattle.search.specs.Asked.{asking, askingPoint};
-ghost use Rattle.search.specs.Branches.{rowsAmong};
 ghost use Rattle.search.specs.Columns.{notPast, BehindPast};
-ghost use Rattle.search.specs.Steps.{AskedPoint, Seekable, Tells, OfferedAll, OfferedRecord};
+ghost use Rattle.search.specs.Steps.{AskedPoint, Seekable, Tells, OfferedRecord, OfferedPart, OfferedLeaf};
 use crate::columns::add_columns;
 use candidates::Row;
 use candidates::behind;
@@ -121,7 +117,7 @@ fn offer_leaf(
     k: usize,
 ) -> usize
     requires { ⌜ (length (now page) ≡ 1024) × AskedPoint (now q) × Held (now distances) (now tags) n k ⌝ }
-    ensures { λ r. ⌜ OfferedAll (now (distances .entry)) (now (tags .entry)) n k (rowsAmong (askingPoint (now (q .entry)) k) position (recordsIn (leafOf (now (page .entry))))) r (now (distances .exit)) (now (tags .exit)) ⌝ }
+    ensures { λ r. ⌜ OfferedPart (now (page .entry)) (now (q .entry)) position (now (distances .entry)) (now (tags .entry)) n k r (now (distances .exit)) (now (tags .exit)) ⌝ }
 {
     let count = filled(read_count(page));
     let full = lanes(count);
@@ -152,7 +148,7 @@ pub fn visit_leaf(
     k: usize,
 ) -> usize
     requires { ⌜ Seekable (now asked) × Held (now distances) (now tags) n k ⌝ }
-    ensures { λ r. ⌜ OfferedAll (now (distances .entry)) (now (tags .entry)) n k (rowsAmong (asking (now (asked .entry)) k) position (recordsIn (leafAt (now (index .entry)) page))) r (now (distances .exit)) (now (tags .exit)) ⌝ }
+    ensures { λ r. ⌜ OfferedLeaf (now (index .entry)) page (now (asked .entry)) position (now (distances .entry)) (now (tags .entry)) n k r (now (distances .exit)) (now (tags .exit)) ⌝ }
 {
     if in_range(index, page) {
         let at = page as usize * 1024;
