@@ -5,14 +5,13 @@ use mathlib.Core.List.{List}
 use Prim.Native.Nat.{ℕ, zero, suc, _≤_}
 use native.Mathlib.Omega.{arith}
 use lib.ListN.{length}
-use lib.Seq.{length-take-le}
-use Rattle.candidates.specs.Held.{rowsIn, rowsOf}
-use Rattle.candidates.proofs.HeldLaws.{length-rowsOf}
+use Rattle.candidates.specs.Held.{rowsIn}
+use Rattle.lending.specs.FillingLaws.{rows-held}
 use Rattle.search.specs.declared.Query.{Query}
 use Rattle.search.specs.declared.Seen.{Seen}
 use Rattle.search.specs.Asked.{Asked, asks}
 use Rattle.search.specs.Visit.{Answer as Found, found}
-use Rattle.search.specs.Steps.{Sought, Searched}
+use Rattle.search.specs.Steps.{Searches, Searched}
 use Rattle.lending.specs.declared.Answer.{Answer}
 use Rattle.index.specs.Asking.{Question, Searchable, QueryFor, sought}
 use Rattle.index.specs.Refusals.{Rule, First}
@@ -36,9 +35,6 @@ module _ (rules : List Rule) (answers : Found → Type 0) (b : List ℕ) (w : Qu
         carried = λ e. absurd (z (sym (h .code) ∙ e));
       }
 
-  rows-held : (n : ℕ) → Places ds ts → n ≤ 64 → length (rowsIn ds ts n) ≡ n
-  rows-held n p l = length-take-le n (rowsOf ds ts) (length-rowsOf n ds ts (omega (arith, p .0)) (omega (arith, p .1)))
-
   pub asked-answered : (m : ℕ) (r : Answer) → First rules m → m ≡ 0 → Places ds ts → w .k ≤ 64 → answers (found b (sought w)) → Answered b w ds ts r → OutcomeBy rules answers b w ds ts r
   asked-answered m r f z p top answer h =
       let e : found b (sought w) ≡ foundWith (r .code) b w = sym (ap (λ (x : ℕ). foundWith x b w) (h .code)) in
@@ -47,20 +43,20 @@ module _ (rules : List Rule) (answers : Found → Type 0) (b : List ℕ) (w : Qu
       record {
         first = subst (First rules) (z ∙ sym (h .code)) f;
         few = few;
-        count = sym (rows-held (r .count) p (omega arith)) ∙ ap length rows;
+        count = sym (rows-held ds ts (r .count) (omega (arith, p .0)) (omega (arith, p .1))) ∙ ap length rows;
         leaves = ap (λ (x : Found). x .leaves) (h .same ∙ e);
         rows = rows;
         carried = λ z. subst answers (sym (h .same)) answer;
       }
 
 -- the query for a question, with places for its rows, can be searched for
-pub query-sought : (w : Question) (r : Query) (ds ts : List ℕ) → QueryFor w r → Searchable w → Places ds ts → Sought r ds ts
+pub query-sought : (w : Question) (r : Query) (ds ts : List ℕ) → QueryFor w r → Searchable w → Places ds ts → Searches r ds ts
 query-sought w r ds ts q can p =
     let k : r .k ≡ w .k = ap (λ (a : Asked). a .k) (q .is) in
     record {
       slots = q .slots;
       few = q .few;
-      looked = record { seekable = q .seekable; one = omega (arith, can .3); rows = omega (arith, can .4, p .0); tags = omega (arith, can .4, p .1) };
+      looked = record { seekable = q .seekable; one = omega (arith, can .some); rows = omega (arith, can .few, p .0); tags = omega (arith, can .few, p .1) };
     }
 
 -- what the search returns, as an answer

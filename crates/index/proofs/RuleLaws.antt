@@ -124,7 +124,7 @@ module _ (b : List ℕ) (w : Question) (lent n : ℕ) (f : First (trustedQuestio
   may-search =
       let h = none-refuses (trustedQuestion b w lent) n refl f e in
       let c = trusted-carried b w lent (subst (First (trustedQuestion b w lent)) e f) in
-      (h .1 .1 .0 .0, h .1 .1 .0 .1, c .ranges, c .some, c .most)
+      record { features = h .1 .1 .0 .0; most = h .1 .1 .0 .1; ranges = c .ranges; some = c .some; few = c .most }
 
   -- and what is found on a sound index
   pub trusted-answers : AnswersIfSound b w (found b (sought w))

@@ -5,12 +5,11 @@ use mathlib.Core.List.{List}
 use Prim.Native.Nat.{ℕ, _+_, _≤_}
 use lib.IntN.{ℤ}
 use lib.ListN.{length, take}
-use Rattle.geometry.specs.Features.{plain}
 use Rattle.geometry.specs.Stored.{inRange}
 use Rattle.pagestore.specs.declared.Record.{Record}
 use Rattle.candidates.specs.declared.Row.{Row}
 use Rattle.search.specs.declared.Query.{Query}
-use Rattle.search.specs.Asked.{Asked, distanceTo, asks}
+use Rattle.search.specs.Asked.{Asked, plainly, distanceTo, asks}
 use Rattle.search.specs.Steps.{Seekable}
 use Rattle.index.specs.declared.Criteria.{Criteria}
 
@@ -29,7 +28,7 @@ questionOf p c = record { point = p; k = c .k }
 
 -- what is asked of the search: each coordinate by itself, every gap of weight 1
 abbrev pub sought : Question → Asked
-sought w = record { features = plain (w .point); k = w .k }
+sought w = plainly (w .point) (w .k)
 
 -- a row without its position
 abbrev pub bare : Row → ℕ × ℕ
@@ -40,8 +39,12 @@ abbrev pub bareOf : Question → Record → ℕ × ℕ
 bareOf w r = (distanceTo (sought w) r, r .id)
 
 -- what can be searched for
-abbrev pub Searchable : Question → Type 0
-Searchable w = (1 ≤ length (w .point)) × (length (w .point) ≤ 16) × (inRange (w .point) ≡ true) × (1 ≤ w .k) × (w .k ≤ 64)
+pub record Searchable (w : Question) : Type 0 where
+  pub features : 1 ≤ length (w .point)
+  pub most : length (w .point) ≤ 16
+  pub ranges : inRange (w .point) ≡ true
+  pub some : 1 ≤ w .k
+  pub few : w .k ≤ 64
 
 -- the query that the search is handed for it
 pub record QueryFor (w : Question) (r : Query) : Type 0 where

@@ -17,33 +17,23 @@ use Rattle.pagestore.specs.Store.{View, viewOf}
 use Rattle.trees.specs.Trees.{Item, records, leaves, treeOf, live, leavesOf, pointIn}
 use Rattle.trees.specs.Sound.{SoundIndex}
 use Rattle.bestfirst.specs.Nearest.{nearest}
-use Rattle.search.specs.Asked.{distanceTo, candidate, Suits}
+use Rattle.search.specs.Asked.{distanceTo, candidate, Askable}
 use Rattle.search.specs.Branches.{rowOf, rowsAmong}
 use Rattle.search.specs.Visit.{ranking, found, leavesRead}
 use Rattle.search.specs.Questions.{rowsFrom, rowsOf, liveCandidates, Exchanged, AgreeBut, Called, readingOrder, toRead, unreadPages}
-use Rattle.search.proofs.AskedLaws.{plain-suits}
-use Rattle.search.proofs.FrameLaws.{leaf-records}
+use Rattle.search.proofs.AskedLaws.{candidates-all, plain-suits}
+use Rattle.search.proofs.SoundLaws.{leafItems, records-leaves}
 use Rattle.search.proofs.Promises.{found-exact, leaves-read, exchange, unread-header, unread-bytes}
 use Rattle.search.proofs.SetLaws.{set-points}
 use Rattle.index.specs.Asking.{Question, sought, bare, bareOf}
 
 -- ---- THE ROWS OF THE LIVE RECORDS
 
-abbrev own : Item 1 → List Record
-own t = t .1
-
-leaves-list : (l : ℕ) → ((t : Item (suc l)) → flat own (leaves l t) ≡ records (suc l) t) → (ts : List (Item (suc l))) → flat own (flat (leaves l) ts) ≡ flat (records (suc l)) ts
-unfolding flat
-leaves-list l h [] = refl
-leaves-list l h (t ∷ ts) = flat-append own (leaves l t) (flat (leaves l) ts) ∙ ap₂ (λ (x y : List Record). x ++ y) (h t) (leaves-list l h ts)
-
--- the records of the leaves are those of the tree
-leaves-records : (l : ℕ) (t : Item (suc l)) → flat own (leaves l t) ≡ records (suc l) t
-unfolding leaves records flat
-leaves-records zero t = append-nil (t .1) ∙ sym (leaf-records t)
-leaves-records (suc l) t = leaves-list l (leaves-records l) (t .1)
-
 module _ (w : Question) where
+  -- no live record is left out
+  pub all-live : (v : View) → liveCandidates v (sought w) ≡ live v
+  all-live v = candidates-all (sought w) (live v)
+
   -- the squared Euclidean distance: a plain point's
   pub plain-gap : (r : Record) → distanceTo (sought w) r ≡ distance (w .point) (pointIn (length (w .point)) r)
   unfolding distanceTo
@@ -54,25 +44,25 @@ module _ (w : Question) where
   bare-leaf n [] = refl
   bare-leaf n (r ∷ rs) = ap (λ (xs : List (ℕ × ℕ)). bareOf w r ∷ xs) (bare-leaf n rs)
 
-  bare-rows : (n : ℕ) (ts : List (Item 1)) → map bare (rowsFrom (sought w) n ts) ≡ map (bareOf w) (keep (candidate (sought w)) (flat own ts))
+  bare-rows : (n : ℕ) (ts : List (Item 1)) → map bare (rowsFrom (sought w) n ts) ≡ map (bareOf w) (keep (candidate (sought w)) (flat leafItems ts))
   unfolding rowsFrom rowsAmong flat keep
   bare-rows n [] = refl
   bare-rows n (t ∷ ts) =
       let c = candidate (sought w) in
       map-append bare (map (rowOf (sought w) n) (keep c (t .1))) (rowsFrom (sought w) (suc n) ts)
       ∙ ap₂ (λ (x y : List (ℕ × ℕ)). x ++ y) (bare-leaf n (keep c (t .1))) (bare-rows (suc n) ts)
-      ∙ sym (ap (map (bareOf w)) (keep-append c (t .1) (flat own ts)) ∙ map-append (bareOf w) (keep c (t .1)) (keep c (flat own ts)))
+      ∙ sym (ap (map (bareOf w)) (keep-append c (t .1) (flat leafItems ts)) ∙ map-append (bareOf w) (keep c (t .1)) (keep c (flat leafItems ts)))
 
   pub live-rows : (v : View) → map bare (rowsOf v (sought w)) ≡ map (bareOf w) (liveCandidates v (sought w))
   unfolding rowsOf leavesOf live
   live-rows v =
-      bare-rows 0 (leaves (v .level) (treeOf v)) ∙ ap (λ (rs : List Record). map (bareOf w) (keep (candidate (sought w)) rs)) (leaves-records (v .level) (treeOf v))
+      bare-rows 0 (leaves (v .level) (treeOf v)) ∙ ap (λ (rs : List Record). map (bareOf w) (keep (candidate (sought w)) rs)) (sym (records-leaves (v .level) (treeOf v)))
 
 -- ---- WHAT THE SEARCH FINDS
 
 -- on a sound index of as many features as the point has coordinates
 module _ (b : List ℕ) (s : SoundIndex b) (w : Question) (d : length (w .point) ≡ viewOf b .d) where
-  suits : Suits (viewOf b .d) (sought w)
+  suits : Askable (viewOf b .d) (sought w)
   suits = plain-suits (viewOf b .d) (w .point) (w .k) d
 
   pub called-for : All (λ t. (toRead (viewOf b) (sought w) t ≡ true → Called (viewOf b) (sought w) t) × (Called (viewOf b) (sought w) t → toRead (viewOf b) (sought w) t ≡ true)) (leavesOf (viewOf b))

@@ -52,10 +52,10 @@ module _ (w : Question) (slots features : List ℕ) (e : slots ≡ slotsOf (w .p
       let cut : take (48 + length (take n slots)) features ≡ asked = ap (λ (m : ℕ). take (48 + m) features) own-length in
       let same : askedOf asked ≡ plain (w .point) =
       ap askedOf (sym cut) ∙ h .same ∙ ones-plain (take n slots) ∙ ap (λ (s : List ℕ). plain (pointOf s)) own
-      ∙ ap plain (point-back (w .point) (can .2)) in
+      ∙ ap plain (point-back (w .point) (can .ranges)) in
       record {
         slots = h .places;
-        few = can .1;
-        seekable = seekable-point asked (w .point) (subst Packed cut (h .packed)) same (in-range (w .point) (can .2)) (can .0);
+        few = can .most;
+        seekable = seekable-point asked (w .point) (subst Packed cut (h .packed)) same (in-range (w .point) (can .ranges)) (can .features);
         is = λ i. record { features = same i; k = w .k };
       }

@@ -13,7 +13,7 @@ use Rattle.candidates.proofs.HeldLaws.{length-rowsOf, rowsOf-at}
 use Rattle.lending.specs.Filling.{rowAt, rowsLent, upTo, filled}
 
 module _ (ds ts : List ℕ) where
-  rows-held : (n : ℕ) → n ≤ length ds → n ≤ length ts → length (rowsIn ds ts n) ≡ n
+  pub rows-held : (n : ℕ) → n ≤ length ds → n ≤ length ts → length (rowsIn ds ts n) ≡ n
   rows-held n h g = length-take-le n (rowsOf ds ts) (length-rowsOf n ds ts h g)
 
   rows-next : (i : ℕ) → i < length ds → i < length ts → rowsIn ds ts i ++ (rowAt ds ts i ∷ []) ≡ rowsIn ds ts (suc i)

@@ -7,6 +7,9 @@ use native.Mathlib.Omega.{arith}
 use lib.IntN.{ℤ}
 use lib.ListN.{length, length-take}
 use Rattle.lists.specs.Basics.{All, none, also}
+use Rattle.lists.specs.FlatLaws.{all-every}
+use Rattle.lists.specs.Sorting.{keep}
+use Rattle.lists.specs.SortingLaws.{keep-all}
 use Rattle.geometry.specs.Points.{InRange}
 use Rattle.geometry.specs.Features.{Feature, plain}
 use Rattle.geometry.specs.Questions.{featuresOf, sizeOf, partFrom, askedOf, Packed, Preparable}
@@ -14,7 +17,7 @@ use Rattle.geometry.specs.Stored.{coordOf, pointOf}
 use Rattle.geometry.proofs.StoredLaws.{coord-magnitude, length-point}
 use Rattle.geometry.proofs.SliceLaws.{plain-ordered, plain-length, plain-asks}
 use Rattle.pagestore.specs.declared.Record.{Record}
-use Rattle.search.specs.Asked.{Asked, candidate, Suits}
+use Rattle.search.specs.Asked.{Asked, plainly, candidate, Askable}
 use Rattle.search.specs.Steps.{lowEnds, Seekable}
 use Rattle.search.proofs.RecordLaws.{in-range}
 
@@ -22,7 +25,10 @@ pub each-candidate : (q : Asked) (r : Record) → true ≡ candidate q r
 unfolding candidate
 each-candidate q r = refl
 
-pub plain-suits : (d : ℕ) (p : List ℤ) (k : ℕ) → length p ≡ d → Suits d (record { features = plain p; k = k })
+pub candidates-all : (q : Asked) (rs : List Record) → keep (candidate q) rs ≡ rs
+candidates-all q rs = keep-all (candidate q) rs (all-every (λ r. sym (each-candidate q r)) rs)
+
+pub plain-suits : (d : ℕ) (p : List ℤ) (k : ℕ) → length p ≡ d → Askable d (plainly p k)
 plain-suits d p k e = record { same = plain-length p ∙ e; ordered = plain-ordered p }
 
 -- ---- A QUESTION FOR A POINT, AS ONE LIST

@@ -17,7 +17,7 @@ use Rattle.bestfirst.specs.FrontierLaws.{seek-end, seek-read, seek-root}
 use Rattle.bestfirst.specs.VisitLaws.{visit-read}
 use Rattle.candidates.specs.declared.Row.{Row}
 use Rattle.trees.specs.Trees.{Item, leaves}
-use Rattle.search.specs.Asked.{Asked, Suits}
+use Rattle.search.specs.Asked.{Asked, Askable}
 use Rattle.search.specs.Branches.{Branch, lastPlace, tied, before, isLeaf, opened, kids, rowsAt}
 use Rattle.search.specs.Visit.{ranking, answerOf, placed}
 use Rattle.search.specs.Questions.{leafBound, leafBranch}
@@ -82,7 +82,7 @@ shown-answer o u e =
     let n : length (o .read) ≡ length (u .read) = sym (length-map (o .read) placed) ∙ ap (λ (x : List Row × List (ℕ × ℕ)). length (x .1)) e ∙ length-map (u .read) placed in
     λ i. record { rows = e i .0; leaves = n i }
 
-module _ (c : List ℕ) (q : Asked) (d : ℕ) (low : 1 ≤ d) (high : d ≤ 16) (suits : Suits d q) where
+module _ (c : List ℕ) (q : Asked) (d : ℕ) (low : 1 ≤ d) (high : d ≤ 16) (suits : Askable d q) where
   abbrev Down : ℕ → Branch → Type 0
   Down l x = Descends isLeaf (kids c q) before l x
 

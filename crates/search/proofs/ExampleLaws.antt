@@ -17,7 +17,7 @@ use Rattle.geometry.specs.Stored.{pointOf, slotsOf}
 use Rattle.bestfirst.specs.Nearest.{candidates, nearest, kth, inSet}
 use Rattle.pagestore.specs.Store.{viewOf}
 use Rattle.trees.specs.Trees.{Item, keyOf, firstKey, lastKey, leavesOf}
-use Rattle.search.specs.Asked.{Asked, distanceTo, candidate, spanBound}
+use Rattle.search.specs.Asked.{Asked, plainly, distanceTo, candidate, spanBound}
 use Rattle.search.specs.Branches.{rowOf, rowsAmong}
 use Rattle.search.specs.Visit.{ranking, Answer, found}
 use Rattle.search.specs.Questions.{rowsFrom, rowsOf, leafBound, toRead}
@@ -30,7 +30,7 @@ abbrev pair : ℕ → ℕ → List (Item 1)
 pair a b = (a, map recordNo (upFrom 1 9)) ∷ (b, map recordNo (upFrom 10 8)) ∷ []
 
 abbrev asked : ℕ → ℕ → Asked
-asked n k = record { features = plain (pos n ∷ []); k = k }
+asked n k = plainly (pos n ∷ []) k
 
 -- the identifiers that demand 2 calls for, and the number of leaves that demand 3 does
 abbrev rowsFor : ℕ → ℕ → ℕ → ℕ → List ℕ

@@ -27,7 +27,7 @@ use Rattle.pagestore.specs.Store.PageLaws.{SamePage, bytes-page, bytes-field}
 use Rattle.pagestore.specs.Store.RangeLaws.{pages-same, range-same}
 use Rattle.trees.specs.Trees.{Item, leaves, pages, treeOf, leavesOf, identOf, live}
 use Rattle.trees.specs.Sound.{SoundIndex}
-use Rattle.search.specs.Asked.{Asked, distanceTo, candidate, Suits}
+use Rattle.search.specs.Asked.{Asked, distanceTo, candidate, Askable}
 use Rattle.search.specs.Branches.{Branch, lastPlace, tied, before, isLeaf, pageIn, kids, rootBranch, rowOf, rowsAmong, rowsAt}
 use Rattle.search.specs.Visit.{ranking, Answer, answerOf, room, visited, readsNone, found, placed, leavesRead}
 use Rattle.search.specs.Questions.{rowsFrom, rowsOf, leafBound, leafBranch, toRead, setFrom, readingOrder, unreadPages, Kept, Exchanged, end, next, AgreeBut}
@@ -86,7 +86,7 @@ nearest-none (suc k) = refl
 none-floor : (d : ℕ) (q : Asked) (u : Item 1) → u .1 ≡ [] → LeafFloor d q u
 none-floor d q u e = rw e none
 
-module _ (b : List ℕ) (s : SoundIndex b) (q : Asked) (suits : Suits (viewOf b .d) q) (one : 1 ≤ q .k) where
+module _ (b : List ℕ) (s : SoundIndex b) (q : Asked) (suits : Askable (viewOf b .d) q) (one : 1 ≤ q .k) where
   abbrev v : View
   v = viewOf b
 
@@ -290,7 +290,7 @@ frame-same b c d r zero t a f = r (t .0) ∙ f
 frame-same b c d r (suc l) t (also h a) f =
     (r (t .0) ∙ f .0, ap entriesIn (h .inner) ∙ f .1, all-map (λ u g. frame-same b c d r l u (g .0) (g .1)) (all-both (parts-right (innerPages l) (t .1) a) (f .2)))
 
-module _ (b : List ℕ) (s : SoundIndex b) (q : Asked) (suits : Suits (viewOf b .d) q) (one : 1 ≤ q .k) where
+module _ (b : List ℕ) (s : SoundIndex b) (q : Asked) (suits : Askable (viewOf b .d) q) (one : 1 ≤ q .k) where
   abbrev unread : List ℕ
   unread = unreadPages (viewOf b) q
 
@@ -381,7 +381,7 @@ floor-no d q none p = none
 floor-no d q (also h a) zero = h
 floor-no d q (also h a) (suc p) = floor-no d q a p
 
-module _ (b c : List ℕ) (sb : SoundIndex b) (sc : SoundIndex c) (q : Asked) (suits : Suits (viewOf b .d) q) (alike : viewOf c .d ≡ viewOf b .d) (one : 1 ≤ q .k)
+module _ (b c : List ℕ) (sb : SoundIndex b) (sc : SoundIndex c) (q : Asked) (suits : Askable (viewOf b .d) q) (alike : viewOf c .d ≡ viewOf b .d) (one : 1 ≤ q .k)
     (x : Exchanged (viewOf b .d) (toRead (viewOf b) q) (leavesOf (viewOf b)) (leavesOf (viewOf c))) where
   abbrev d : ℕ
   d = viewOf b .d
@@ -406,7 +406,7 @@ module _ (b c : List ℕ) (sb : SoundIndex b) (sc : SoundIndex c) (q : Asked) (s
       weak-order (by-weak boundNo (lower (λ p. p)) (lower-weak (λ p. p)))
       (λ m n e f. let w = by-same boundNo (lower (λ p. p)) m n e f in lower-same (λ p. p) m n (w .1) (w .2))
 
-  suits-c : Suits (viewOf c .d) q
+  suits-c : Askable (viewOf c .d) q
   suits-c = rw alike suits
 
   -- the bounds are the same

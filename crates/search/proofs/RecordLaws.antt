@@ -25,7 +25,7 @@ use Rattle.pagestore.specs.declared.Record.{Record}
 use Rattle.pagestore.specs.Fits.{RecordFits}
 use Rattle.trees.specs.Trees.{pointIn, keyOf, rankOf, noRecord, firstKey, lastKey}
 use Rattle.trees.specs.Sound.{RecordOk}
-use Rattle.search.specs.Asked.{Asked, distanceTo, spanBound, Suits}
+use Rattle.search.specs.Asked.{Asked, distanceTo, spanBound, Askable}
 
 module _ {A : Type 0} (f : A → ℕ) where
   -- in an ascending list none is below the first, and none above the last
@@ -86,7 +86,7 @@ module _ (d : ℕ) (low : 1 ≤ d) (high : d ≤ 16) where
       (λ x. inr (x, omega arith))
       (λ x. absurd (omega arith))
 
-  module _ (q : Asked) (suits : Suits d q) where
+  module _ (q : Asked) (suits : Askable d q) where
     real-for : (r : Record) → Right d r → Real (length (q .features)) (pyramidIn d r) (heightIn d r)
     real-for r g = rw (suits .same) (real r g)
 

@@ -27,7 +27,7 @@ use Rattle.pagestore.specs.declared.Record.{Record}
 use Rattle.pagestore.specs.Store.{View, viewOf}
 use Rattle.trees.specs.Trees.{Item, noRecord, firstKey, lastKey, rankOf, keyOf, treeOf, live, leavesOf}
 use Rattle.trees.specs.Sound.{SoundIndex}
-use Rattle.search.specs.Asked.{Asked, candidate, spanBound, Suits}
+use Rattle.search.specs.Asked.{Asked, candidate, spanBound, Askable}
 use Rattle.search.specs.Branches.{rowOf, rowsAmong}
 use Rattle.search.specs.Visit.{ranking}
 use Rattle.search.specs.Questions.{rowsFrom, rowsOf, leafBound, liveCandidates, toRead, Near, lastDistance, Called}
@@ -56,7 +56,7 @@ nearest-length v q =
 
 -- ---- THE SET
 
-module _ (b : List ℕ) (s : SoundIndex b) (q : Asked) (suits : Suits (viewOf b .d) q) where
+module _ (b : List ℕ) (s : SoundIndex b) (q : Asked) (suits : Askable (viewOf b .d) q) where
   abbrev v : View
   v = viewOf b
 

@@ -1,10 +1,11 @@
--- What is asked, as one value, and what it means: how far a record is, whether it is looked for at all, and the bound of a span. Row order is the
--- candidates' (`Rows`). Every statement about a question goes over this value.
+-- What is asked, as one value, and what it means: how far a record is, whether it is looked for at all, and the bound of a span; the order of rows is
+-- `rowOrder`, of the crate candidates. Every statement about a question goes over this value.
 use mathlib.Core.Path.{_≡_}
 use mathlib.Core.Bool.{Bool, true}
 use mathlib.Core.List.{List}
 use Prim.Native.Nat.{ℕ, _+_}
 use lib.ListN.{length, take}
+use lib.IntN.{ℤ}
 use Rattle.geometry.specs.declared.Key.{Key}
 use Rattle.geometry.specs.Features.{Feature, distTo, plain, Ordered}
 use Rattle.geometry.specs.Slices.{boundOf}
@@ -23,6 +24,10 @@ pub record Asked : Type 0 where
 unfoldable pub distanceTo : Asked → Record → ℕ
 distanceTo q r = distTo (q .features) (pointIn (length (q .features)) r)
 
+-- a point without weights, and how many rows
+abbrev pub plainly : List ℤ → ℕ → Asked
+plainly p k = record { features = plain p; k = k }
+
 -- whether a record is looked for: each one is
 unfoldable pub candidate : Asked → Record → Bool
 candidate q r = true
@@ -32,7 +37,7 @@ unfoldable pub spanBound : Asked → Key → Key → ℕ
 spanBound q f l = boundOf (q .features) (f .pyramid .0) (f .height .0) (l .pyramid .0) (l .height .0)
 
 -- q can be asked of an index of d features
-pub record Suits (d : ℕ) (q : Asked) : Type 0 where
+pub record Askable (d : ℕ) (q : Asked) : Type 0 where
   pub same : length (q .features) ≡ d
   pub ordered : Ordered (q .features)
 
@@ -47,4 +52,4 @@ asks w = asking (take (48 + w .d) (w .features)) (w .k)
 
 -- a point whose coordinates are as stored, every gap of weight 1
 abbrev pub askingPoint : List ℕ → ℕ → Asked
-askingPoint p k = record { features = plain (pointOf p); k = k }
+askingPoint p k = plainly (pointOf p) k

@@ -35,7 +35,7 @@ isLeaf x = eqb (x .level) 0
 unfoldable pub pageIn : List ℕ → ℕ → ℕ
 pageIn b p = pick (inRange b p) p 0
 
--- the last position that a leaf can have: a sound index has fewer leaves than 8,192. A position above it, of other bytes, is read as the last one.
+-- the greatest position that a key holds: a sound index has at most 8,191 leaves. On other bytes a position above it is read as this one.
 abbrev pub lastPlace : ℕ
 lastPlace = 8191
 

@@ -4,13 +4,12 @@ use mathlib.Core.List.{List, [], _∷_, map}
 use Prim.Native.Nat.{ℕ}
 use lib.IntN.{pos}
 use Rattle.lists.specs.Basics.{upFrom}
-use Rattle.geometry.specs.Features.{plain}
 use Rattle.geometry.specs.Stored.{slotsOf}
 use Rattle.pagestore.specs.declared.Record.{Record}
 use Rattle.pagestore.specs.Store.{View, viewOf}
 use Rattle.trees.specs.Trees.{leavesOf}
 use Rattle.trees.specs.Sound.{SoundIndex}
-use Rattle.search.specs.Asked.{Asked}
+use Rattle.search.specs.Asked.{Asked, plainly}
 use Rattle.search.specs.Visit.{found}
 
 -- identifier n at n
@@ -32,7 +31,7 @@ pub record Example : Type 0 where
   pub read : ℕ
 
 abbrev pub asked : Example → Asked
-asked e = record { features = plain (pos (e .point) ∷ []); k = e .k }
+asked e = plainly (pos (e .point) ∷ []) (e .k)
 
 -- what an example says of every sound index with these leaves
 abbrev pub Holds : Example → Type 0

@@ -9,7 +9,7 @@ use Rattle.search.specs.Branches.{Branch}
 abbrev pub keyOf : Branch → ℕ
 keyOf x = ((x .bound * 8192 + x .place) * 5 + (4 - x .level)) * 16384 + x .page
 
--- the greatest bound that there is: 16 features of weight 1,000
+-- no bound of 16 features of weights up to 1,000 is above this (`bound-small`)
 abbrev pub mostBound : ℕ
 mostBound = 19030015000
 

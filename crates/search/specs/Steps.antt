@@ -22,7 +22,7 @@ use Rattle.candidates.specs.Rows.{rowOrder}
 use Rattle.candidates.specs.Held.{rowsIn, Held}
 use Rattle.search.specs.declared.Query.{Query}
 use Rattle.search.specs.declared.Seen.{Seen}
-use Rattle.search.specs.Asked.{Asked, distanceTo, candidate, spanBound, Suits, asking, askingPoint}
+use Rattle.search.specs.Asked.{Asked, distanceTo, candidate, spanBound, Askable, asking, askingPoint}
 use Rattle.search.specs.Branches.{before, branchOf, branches, rowsAmong}
 use Rattle.search.specs.Columns.{recordIn}
 use Rattle.search.specs.Keys.{keyOf, mostBound, frontier}
@@ -129,17 +129,17 @@ pub record Visited (index : List ℕ) (q : Asked) (distances tags : List ℕ) (r
   pub answer : answerIn distances tags r ≡ answerOf (visited index q)
 
 -- a question for k rows, with room for them
-pub record Looked (asked : List ℕ) (k : ℕ) (distances marks : List ℕ) : Type 0 where
+pub record Looks (asked : List ℕ) (k : ℕ) (distances marks : List ℕ) : Type 0 where
   pub seekable : Seekable asked
   pub one : 1 ≤ k
   pub rows : k ≤ length distances
   pub tags : k ≤ length marks
 
 -- the same of a question by value
-pub record Sought (w : Query) (distances marks : List ℕ) : Type 0 where
+pub record Searches (w : Query) (distances marks : List ℕ) : Type 0 where
   pub slots : length (w .features) ≡ 64
   pub few : w .d ≤ 16
-  pub looked : Looked (take (48 + w .d) (w .features)) (w .k) distances marks
+  pub looked : Looks (take (48 + w .d) (w .features)) (w .k) distances marks
 
 -- What the search by itself promises of the bytes lent, with no check of them.
 pub record Searched (index : List ℕ) (q : Asked) (distances tags : List ℕ) (r : Seen) : Type 0 where
@@ -148,5 +148,5 @@ pub record Searched (index : List ℕ) (q : Asked) (distances tags : List ℕ) (
   pub few : r .rows ≤ q .k
   -- Demand 3: for every sound index of which these are the bytes, but for the pages of the leaves left unread, the rows are the
   -- k nearest of its candidates, and the leaves read are as many as its set has.
-  pub sound : (b : List ℕ) → SoundIndex b → Suits (viewOf b .d) q → AgreeBut (unreadPages (viewOf b) q) b index
+  pub sound : (b : List ℕ) → SoundIndex b → Askable (viewOf b .d) q → AgreeBut (unreadPages (viewOf b) q) b index
       → answerIn distances tags r ≡ record { rows = nearest ranking (q .k) (rowsOf (viewOf b) q); leaves = count (toRead (viewOf b) q) (leavesOf (viewOf b)) }

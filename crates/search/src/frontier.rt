@@ -56,7 +56,7 @@ pub fn page_of(index: &[u8], page: u32) -> u32
     if in_range(index, page) { page } else { 0 }
 }
 
-// A position, or the last one that there is.
+// A position, or the greatest that a key holds.
 fn place_of(at: usize) -> usize
     ensures { λ r. ⌜ (r ≡ min at lastPlace) × (r < 8192) ⌝ }
 {

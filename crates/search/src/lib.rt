@@ -4,7 +4,7 @@
 // from the highest on, and page. The first one is taken until its bound exceeds the k-th distance: an inner page gives its
 // entries to the heap, a leaf page is handed to the one function that reads leaf pages.
 ghost use Rattle.search.specs.Asked.{asks, asking};
-ghost use Rattle.search.specs.Steps.{Seeks, Looked, Sought, Searched};
+ghost use Rattle.search.specs.Steps.{Seeks, Looks, Searches, Searched};
 use crate::visit::best_first;
 use crate::visit::reads_none;
 use geometry::bounds::prepare;
@@ -54,7 +54,7 @@ fn search_for(
     distances: &mut [u64],
     tags: &mut [u64],
 ) -> Seen
-    requires { ⌜ Looked (now asked) k (now distances) (now tags) ⌝ }
+    requires { ⌜ Looks (now asked) k (now distances) (now tags) ⌝ }
     ensures { λ r. ⌜ Searched (now (index .entry)) (asking (now (asked .entry)) k) (now (distances .exit)) (now (tags .exit)) r ⌝ }
 {
     if reads_none(index) {
@@ -76,7 +76,7 @@ fn search_for(
 
 // The nearest of the index's records to what is asked, as distances and tags in the arrays lent: how many there are, and the number of leaves read.
 pub fn search(index: &[u8], what: Query, distances: &mut [u64], tags: &mut [u64]) -> Seen
-    requires { ⌜ Sought what (now distances) (now tags) ⌝ }
+    requires { ⌜ Searches what (now distances) (now tags) ⌝ }
     ensures { λ r. ⌜ Searched (now (index .entry)) (asks what) (now (distances .exit)) (now (tags .exit)) r ⌝ }
 {
     let features = what.features;

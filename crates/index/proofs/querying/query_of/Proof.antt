@@ -20,10 +20,10 @@ array-share-prefix-slots c = search needs
 slice-aggregate-plain-features : tie.Need-slice-aggregate-plain-features
 slice-aggregate-plain-features c = let S = (c .before .before) in let O = (c .before) in
     let slots : length (O .slots-of .result) ≡ 16 = search (unmapped, needs) in
-    sym (length-take-le (length (now (S .args .point))) (O .slots-of .result) (omega (arith, S .pre .1)))
+    sym (length-take-le (length (now (S .args .point))) (O .slots-of .result) (omega (arith, S .pre .most)))
 
 plain-features-requires : tie.Need-plain-features-requires
-plain-features-requires c κs = let S = (c .before .before) in let O = (c .before) in omega (arith, S .pre .1, length-take (length (now (S .args .point))) (O .slots-of .result))
+plain-features-requires c κs = let S = (c .before .before) in let O = (c .before) in omega (arith, S .pre .most, length-take (length (now (S .args .point))) (O .slots-of .result))
 
 returns : tie.Need-returns
 returns c = let S = (c .before .before .before) in let O = (c .before .before) in

@@ -36,7 +36,7 @@ returns-2 : tie.Need-returns-2
 returns-2 c =
     let S = (c .before .before .before .before .before .before .before .before .before .before .before .before) in let a = S .args in let b = now (a .index) in let w = questionOf (now (a .point)) (a .what) in let first = c .before .before .before .before .before .before .before .before .refuse-question .ensures in
     let A = c .before .before .before .before .answered in let left = c .before .before .before .before .before .before .before .if1 .left in
-    asked-answered (trustedQuestion b w (a .lent)) (AnswersIfSound b w) b w _ _ _ _ first left (search needs, search needs) (may-search b w (a .lent) _ first left .4) (trusted-answers b w (a .lent) _ first left) (A .ensures)
+    asked-answered (trustedQuestion b w (a .lent)) (AnswersIfSound b w) b w _ _ _ _ first left (search needs, search needs) (may-search b w (a .lent) _ first left .few) (trusted-answers b w (a .lent) _ first left) (A .ensures)
 
 pub question-outcome-spec : {M : Type 1} → statement M
 question-outcome-spec =
