@@ -2,6 +2,7 @@
 ghost use mathlib.Core.Path.{_≡_};
 ghost use Prim.Native.Nat.{_≤_, _<_, _*_};
 ghost use lib.ListN.{length};
+ghost use Rattle.index.specs.Questions.{Places};
 use crate::leaves::fill_table;
 use crate::leaves::holds;
 use crate::leaves::set_count;
@@ -55,7 +56,7 @@ fn compare_rows(
     tags: &[u64],
     n: usize,
 ) -> u64
-    requires { ⌜ (n ≤ 64) × (length (now near) ≡ 64) × (length (now tags) ≡ 64) × (0 < length (now distances)) ⌝ }
+    requires { ⌜ (n ≤ 64) × Places (now near) (now tags) × (0 < length (now distances)) ⌝ }
     ensures { λ r. ⌜ (r ≤ 64) × (length (now (distances .exit)) ≡ length (now (distances .entry))) ⌝ }
 {
     let mut differences: u64 = 0;
@@ -117,7 +118,7 @@ fn compare(
     near: &[u64],
     tags: &[u64],
 ) -> Seen
-    requires { ⌜ (1 ≤ asked .d) × (asked .d ≤ 16) × (asked .leaves ≤ length (now pages)) × (length (now table) ≡ 32032) × (0 < length (now distances)) × (length (now near) ≡ 64) × (length (now tags) ≡ 64) ⌝ }
+    requires { ⌜ (1 ≤ asked .d) × (asked .d ≤ 16) × (asked .leaves ≤ length (now pages)) × (length (now table) ≡ 32032) × (0 < length (now distances)) × Places (now near) (now tags) ⌝ }
 {
     let n = answer.count;
     if answer.code != 0 {
@@ -142,7 +143,7 @@ fn compare(
 
 // The question for the k nearest of the point with these places.
 fn ask(index: &[u8], q: &[u16], d: usize, k: usize, near: &mut [u64], tags: &mut [u64]) -> Answer
-    requires { ⌜ (d ≤ 16) × (16 ≤ length (now q)) × (length (now near) ≡ 64) × (length (now tags) ≡ 64) ⌝ }
+    requires { ⌜ (d ≤ 16) × (16 ≤ length (now q)) × Places (now near) (now tags) ⌝ }
 {
     let point = point_at(q, 0);
     index::question_outcome(index, &point[..d], Criteria { k: k }, 64, near, tags)
