@@ -46,7 +46,7 @@ fn reach_at(low: u16, high: u16) -> u16
     gap(low, high, 1000) + 1
 }
 
-// A question as one list: low ends, high ends, weights, and how far out each range is; the first 48 + d numbers are lent.
+// A question as one list: low ends, high ends, weights, and how far out each range is; it is lent up to the last of these.
 pub fn ask(low: &[u16], high: &[u16], weight: &[u16]) -> [u16; 64]
     requires { ⌜ (length (now low) ≤ 16) × (length (now high) ≡ length (now low)) × (length (now weight) ≡ length (now low)) ⌝ }
     ensures { λ r. ⌜ LaidOut (now (low .entry)) (now (high .entry)) (now (weight .entry)) r ⌝ }
