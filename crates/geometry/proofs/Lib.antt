@@ -13,3 +13,6 @@ pub mod LoopLaws
 pub mod QuestionLaws
 pub mod PackedLaws
 pub mod AskLaws
+pub mod RowLaws
+pub mod TableLaws
+pub mod WholeLaws

@@ -14,7 +14,7 @@ use Rattle.geometry.specs.Questions.{featuresOf, Prepared, sizeOf, partF
 plain-back : (s d : ℕ) → s + d - s ≡ d
 plain-back s d = omega arith
 
-first-length : (a : List ℕ) → Packed a → length (partFrom 0 a) ≡ sizeOf a
+pub first-length : (a : List ℕ) → Packed a → length (partFrom 0 a) ≡ sizeOf a
 first-length a p = length-take (sizeOf a) a ∙ omega (arith, p .whole)
 
 pub asked-length : (a : List ℕ) → Packed a → length (askedOf a) ≡ sizeOf a

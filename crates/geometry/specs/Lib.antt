@@ -4,4 +4,5 @@ pub mod Stored
 pub mod Keys
 pub mod Slices
 pub mod Questions
+pub mod Tables
 pub mod Examples

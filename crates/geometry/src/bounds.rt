@@ -8,8 +8,9 @@ ghost use Prim.Native.Nat.{min, _+_, _*_, _-_, _<_, _≤_};
 ghost use lib.ListN.{length};
 ghost use Rattle.geometry.specs.Features.{gapOf};
 ghost use Rattle.geometry.specs.Stored.{coordOf};
-ghost use Rattle.geometry.specs.Slices.{onAxis, axisNo, sliceBy, sliceAt, LeastAt, lowestOf, highestOf, lastPyramid, leastIn, boundTo, boundOf};
-ghost use Rattle.geometry.specs.Questions.{featuresOf, reachAt, sideSum, Prepared, sizeOf, askedOf, Packed, LaidOut, Spanned, Preparable, Heights, Ready};
+ghost use Rattle.geometry.specs.Slices.{onAxis, axisNo, sliceBy, sliceAt, LeastAt, Nearest, lastPyramid, leastIn, boundTo, boundOf};
+ghost use Rattle.geometry.specs.Questions.{featuresOf, reachAt, sideSum, Prepared, sizeOf, askedOf, Packed, LaidOut, Spanned, nearPlaces, wholePlaces, Preparable, Heights, Ready};
+ghost use Rattle.geometry.specs.Tables.{leastBetween};
 use crate::Pair;
 use crate::points::above;
 use crate::points::gap;
@@ -17,6 +18,10 @@ use crate::points::greater;
 use crate::points::smaller;
 use crate::points::weigh;
 use crate::points::wide;
+use crate::slices::lowest;
+use crate::slices::slice_in;
+use crate::tables::fill_rows;
+use crate::tables::fill_whole;
 
 // A question's list: low ends from place 0 on, high ends, weights and reaches from these.
 const HIGHS: usize = 16;
@@ -102,7 +107,7 @@ fn axis_no(d: usize, i: usize) -> usize
 }
 
 // The same by the pyramid's number.
-fn slice_in(asked: &[u16], i: usize, h: u16) -> u64
+fn slice_scalar(asked: &[u16], i: usize, h: u16) -> u64
     requires { ⌜ Packed (now asked) × (i < sizeOf (now asked) + sizeOf (now asked)) × (h ≤ 1000) ⌝ }
     ensures { λ r. ⌜ r ≡ sliceAt (askedOf (now (asked .entry))) i h ⌝ }
 {
@@ -242,7 +247,7 @@ fn nearest_height(asked: &[u16], i: usize) -> u16
     while lo < hi {
         let mid = probe(lo, hi, at, turn);
         turn += 1;
-        if slice_in(asked, i, mid) <= slice_in(asked, i, mid + 1) {
+        if slice_scalar(asked, i, mid) <= slice_scalar(asked, i, mid + 1) {
             hi = mid;
             at = above(mid, 1);
         } else {
@@ -253,10 +258,10 @@ fn nearest_height(asked: &[u16], i: usize) -> u16
     lo
 }
 
-// The tables of a question: in near the height at which each of the 2d pyramids is nearest.
-pub fn prepare(asked: &[u16], near: &mut [u16], whole: &mut [u64])
-    requires { ⌜ Preparable (now asked) (now near) (now whole) ⌝ }
-    ensures { λ _. ⌜ Ready (now (asked .entry)) (now (near .exit)) (now (whole .exit)) ⌝ }
+// The height at which each of the 2d pyramids is nearest.
+fn fill_heights(asked: &[u16], near: &mut [u16])
+    requires { ⌜ Packed (now asked) × (length (now near) ≡ nearPlaces) ⌝ }
+    ensures { λ _. ⌜ Nearest (askedOf (now (asked .entry))) (now (near .exit)) × (length (now (near .exit)) ≡ nearPlaces) ⌝ }
 {
     let n = (asked.len() - REACHES) * 2;
     let mut i = 0;
@@ -266,27 +271,39 @@ pub fn prepare(asked: &[u16], near: &mut [u16], whole: &mut [u64])
     }
 }
 
-// The least height of pyramid i that has grid points: 0 is the centre's, in pyramid d.
-fn lowest(d: usize, i: usize) -> u16
-    ensures { λ r. ⌜ r ≡ lowestOf d i ⌝ }
+// The heights and the rows of a question.
+fn fill_near(asked: &[u16], near: &mut [u16])
+    requires { ⌜ Packed (now asked) × (length (now near) ≡ nearPlaces) ⌝ }
+    ensures { λ _. ⌜ Heights (now (asked .entry)) (now (near .exit)) ⌝ }
 {
-    if i == d { 0 } else { 1 }
+    fill_heights(asked, near);
+    fill_rows(asked, near);
 }
 
-// The last height of pyramid i in a span that ends at height h of pyramid `last`.
-fn highest(i: usize, last: usize, h: u16) -> u16
-    ensures { λ r. ⌜ r ≡ highestOf i last h ⌝ }
+// The tables of a question: in near the height at which each of the 2d pyramids is nearest and the row of each axis, in whole the least distance to
+// each pyramid.
+pub fn prepare(asked: &[u16], near: &mut [u16], whole: &mut [u64])
+    requires { ⌜ Preparable (now asked) (now near) (now whole) ⌝ }
+    ensures { λ _. ⌜ Ready (now (asked .entry)) (now (near .exit)) (now (whole .exit)) ⌝ }
 {
-    if i < last { 1000 } else { h }
+    fill_near(asked, near);
+    fill_whole(asked, near, whole);
 }
 
-// The least distance to pyramid i at heights lo ..= hi, or at lo where hi is below it.
-fn least_in(asked: &[u16], near: &[u16], i: usize, lo: u16, hi: u16) -> u64
-    requires { ⌜ Heights (now asked) (now near) × (i < sizeOf (now asked) + sizeOf (now asked)) × (lo ≤ 1000) × (hi ≤ 1000) ⌝ }
+// The least distance to pyramid i at heights lo ..= hi, or at lo where hi is below it. Where its nearest height is one of them, it is that to the whole pyramid.
+fn least_in(asked: &[u16], near: &[u16], whole: &[u64], i: usize, lo: u16, hi: u16) -> u64
+    requires { ⌜ Ready (now asked) (now near) (now whole) × (i < sizeOf (now asked) + sizeOf (now asked)) × (lo ≤ 1000) × (hi ≤ 1000) ⌝ }
     ensures { λ r. ⌜ r ≡ leastIn (askedOf (now (asked .entry))) i lo hi ⌝ }
 {
-    let h = greater(lo, smaller(near[i], hi));
-    slice_in(asked, i, h)
+    let d = asked.len() - REACHES;
+    let nearest = near[i];
+    let h = greater(lo, smaller(nearest, hi));
+    if h == nearest {
+        if lowest(d, i) <= h {
+            return whole[i];
+        }
+    }
+    slice_in(asked, near, i, h)
 }
 
 // The pyramid number i, or the last one of d coordinates where i is above it.
@@ -305,22 +322,40 @@ fn nearer(a: u64, b: u64) -> u64
     if b < a { b } else { a }
 }
 
+// The least of a distance and those to the whole pyramids after pyramid i1 and before pyramid i2.
+fn between(whole: &[u64], best: u64, i1: usize, i2: usize) -> u64
+    requires { ⌜ (i1 < i2) × (i2 < length (now whole)) × (length (now whole) ≡ wholePlaces) ⌝ }
+    ensures { λ r. ⌜ r ≡ leastBetween (now (whole .entry)) best i1 (i2 - i1 - 1) ⌝ }
+{
+    let mut least = best;
+    let mut i = i1 + 1;
+    while i < i2 {
+        least = nearer(least, whole[i]);
+        i += 1;
+    }
+    least
+}
+
 // The bound of the span from height h1 of pyramid i1 to height h2 of pyramid i2.
-fn bound_between(asked: &[u16], near: &[u16], i1: usize, h1: u16, i2: usize, h2: u16) -> u64
-    requires { ⌜ Heights (now asked) (now near) × Spanned (sizeOf (now asked)) i1 h1 i2 h2 ⌝ }
+fn bound_between(
+    asked: &[u16],
+    near: &[u16],
+    whole: &[u64],
+    i1: usize,
+    h1: u16,
+    i2: usize,
+    h2: u16,
+) -> u64
+    requires { ⌜ Ready (now asked) (now near) (now whole) × Spanned (sizeOf (now asked)) i1 h1 i2 h2 ⌝ }
     ensures { λ r. ⌜ r ≡ boundTo (askedOf (now (asked .entry))) i1 h1 (i2 - i1) h2 ⌝ }
 {
-    let d = asked.len() - REACHES;
-    let mut best = least_in(asked, near, i1, h1, highest(i1, i2, h2));
-    let mut i = i1;
-    while i < i2 {
-        i += 1;
-        best = nearer(
-            best,
-            least_in(asked, near, i, lowest(d, i), highest(i, i2, h2)),
-        );
+    if i2 <= i1 {
+        return least_in(asked, near, whole, i1, h1, h2);
     }
-    best
+    let first = least_in(asked, near, whole, i1, h1, 1000);
+    let best = between(whole, first, i1, i2);
+    let low = lowest(asked.len() - REACHES, i2);
+    nearer(best, least_in(asked, near, whole, i2, low, h2))
 }
 
 // The bound of the span from one pair to another.
@@ -333,5 +368,5 @@ pub fn bound(asked: &[u16], near: &[u16], whole: &[u64], first: Pair, last: Pair
     let h1 = smaller(first.height.0, 1000);
     let i2 = last_pyramid(d, last.pyramid.0);
     let h2 = smaller(last.height.0, 1000);
-    bound_between(asked, near, i1, h1, i2, h2)
+    bound_between(asked, near, whole, i1, h1, i2, h2)
 }

@@ -2,6 +2,8 @@
 pub mod bounds;
 pub mod keys;
 pub mod points;
+mod slices;
+mod tables;
 
 // A pyramid number counts regions and a height counts steps from the centre; neither stands for the other.
 pub struct Pyramid(pub u8);
