@@ -16,3 +16,6 @@ pub mod AskLaws
 pub mod RowLaws
 pub mod TableLaws
 pub mod WholeLaws
+pub mod SlopeLaws
+pub mod LaneLaws
+pub mod FillLaws

@@ -5,7 +5,7 @@ use mathlib.Core.List.{List, [], _∷_}
 use mathlib.Core.Logic.{_≢_}
 use Prim.Native.Nat.{ℕ, zero, suc, _+_, _*_, _-_, _≤_, _<_}
 use native.Mathlib.Omega.{arith}
-use native.Mathlib.Nat.{suc-mul, mul-suc, mul-add}
+use native.Mathlib.Nat.{suc-mul, mul-suc}
 use native.Mathlib.Decide.{ℕ-discrete, decLe, decLt}
 use borrow.Author.Tests.{eq-eqb, ne-eqb, lt-ltb, le-ltb, le-leb, lt-leb, leb-true, leb-false}
 use lib.Dec.{leb, ltb, eqb}
@@ -38,6 +38,12 @@ sum-first : (n : ℕ) (f : ℕ → ℕ) → sumTo (suc n) f ≡ f 0 + sumTo n (�
 unfolding sumTo
 sum-first zero f = omega arith
 sum-first (suc n) f = omega (arith, sum-first n f)
+
+-- a sum in two parts
+pub sum-parts : (k n : ℕ) (f : ℕ → ℕ) → sumTo (n + k) f ≡ sumTo n f + sumTo k (λ (m : ℕ). f (n + m))
+unfolding sumTo
+sum-parts zero n f = let e : n + 0 ≡ n = omega arith in rw e (omega arith)
+sum-parts (suc k) n f = let e : n + suc k ≡ suc (n + k) = omega arith in rw e (omega (arith, sum-parts k n f))
 
 -- places past n that add nothing
 pub sum-past : (k n : ℕ) (f : ℕ → ℕ) → ((m : ℕ) → n ≤ m → m < n + k → f m ≡ 0) → sumTo (n + k) f ≡ sumTo n f
@@ -110,7 +116,7 @@ square-next : (k : ℕ) → suc k * suc k ≡ k * k + (2 * k + 1)
 square-next k = omega (arith, suc-mul k (suc k), mul-suc k k)
 
 -- from height h to h + 1 the square of what x has above it falls by the odd number 2x - 1 - 2h
-square-falls : (x h : ℕ) → (x - h) * (x - h) ≡ (x - suc h) * (x - suc h) + ((2 * x - 1) - 2 * h)
+pub square-falls : (x h : ℕ) → (x - h) * (x - h) ≡ (x - suc h) * (x - suc h) + ((2 * x - 1) - 2 * h)
 square-falls x h = by (decLe (suc h) x)
   where
     by : Dec (suc h ≤ x) → (x - h) * (x - h) ≡ (x - suc h) * (x - suc h) + ((2 * x - 1) - 2 * h)
@@ -123,7 +129,7 @@ square-falls x h = by (decLe (suc h) x)
         rw (a, b) (omega arith)
 
 -- and that of what h has above y rises by 2h + 1 - 2y
-square-rises : (y h : ℕ) → (suc h - y) * (suc h - y) ≡ (h - y) * (h - y) + ((2 * h + 1) - 2 * y)
+pub square-rises : (y h : ℕ) → (suc h - y) * (suc h - y) ≡ (h - y) * (h - y) + ((2 * h + 1) - 2 * y)
 square-rises y h = by (decLe y h)
   where
     by : Dec (y ≤ h) → (suc h - y) * (suc h - y) ≡ (h - y) * (h - y) + ((2 * h + 1) - 2 * y)

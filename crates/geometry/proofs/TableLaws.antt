@@ -75,7 +75,7 @@ module _ (a : List ℕ) (p : Packed a) where
       rw (n, ← e) (rw (n, feature-in j z k, t) at s)
 
 -- a row is 0 past the last coordinate
-row-past : (a : List ℕ) (j m : ℕ) → sizeOf a ≤ m → rowAt a j m ≡ 0
+pub row-past : (a : List ℕ) (j m : ℕ) → sizeOf a ≤ m → rowAt a j m ≡ 0
 unfolding rowAt
 row-past a j m l = by (eqb m j) (List·getD-eq-default a 0 {n = 48 + m} (omega arith))
   where
@@ -83,7 +83,7 @@ row-past a j m l = by (eqb m j) (List·getD-eq-default a 0 {n = 48 + m} (omega a
     by true e = refl
     by false e = omega (arith, e)
 
-row-on : (a : List ℕ) (j : ℕ) → rowAt a j j ≡ 0
+pub row-on : (a : List ℕ) (j : ℕ) → rowAt a j j ≡ 0
 unfolding rowAt
 row-on a j = rw (eq-eqb j j refl)
 

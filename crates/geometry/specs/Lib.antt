@@ -5,4 +5,5 @@ pub mod Keys
 pub mod Slices
 pub mod Questions
 pub mod Tables
+pub mod Lanes
 pub mod Examples

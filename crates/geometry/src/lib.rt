@@ -1,5 +1,6 @@
 // The geometry of the index: keys, the pyramid and height of a point, squared distance, the bound of a span.
 pub mod bounds;
+mod heights;
 pub mod keys;
 pub mod points;
 mod slices;
