@@ -1,27 +1,26 @@
 -- The tables of the lanes, filled row by row.
-use mathlib.Core.Path.{_≡_, refl, sym, ap, ap₂, _∙_}
+use mathlib.Core.Path.{_≡_, refl, sym, ap, _∙_}
 use mathlib.Core.Bool.{Bool, true, false}
 use mathlib.Core.List.{List}
 use mathlib.Core.Logic.{_≢_}
-use Prim.Native.Nat.{ℕ, zero, suc, max, _+_, _*_, _-_, _/_, _≤_, _<_}
+use Prim.Native.Nat.{ℕ, _+_, _*_, _-_, _/_, _≤_, _<_}
 use native.Mathlib.Omega.{arith}
 use native.Mathlib.Nat.{mul-le-mul}
-use native.Mathlib.Decide.{ℕ-discrete, decLt, decLe}
-use borrow.Author.Tests.{eq-eqb, ne-eqb, lt-ltb, le-ltb, ltb-true, ltb-false, le-leb, lt-leb, leb-true, leb-false}
-use lib.Dec.{leb, ltb, eqb}
+use native.Mathlib.Decide.{ℕ-discrete, decLt}
+use borrow.Author.Tests.{eq-eqb, ne-eqb, lt-ltb, le-ltb, ltb-false, le-leb, lt-leb, leb-true}
+use lib.Dec.{leb, ltb}
 use lib.ListN.{length, getD, set, length-set}
 use lib.Seq.{getD-set-same, getD-set-other}
 use Rattle.lists.specs.Basics.{pick, tick}
 use Rattle.geometry.proofs.HeightLaws.{Bisect, bisect-start, bisect-end}
 use Rattle.geometry.proofs.ConvexLaws.{at-convex}
-use Rattle.geometry.proofs.PackedLaws.{asked-length, asked-few, axis-low, axis-high}
+use Rattle.geometry.proofs.PackedLaws.{asked-few, axis-low, axis-high}
 use Rattle.geometry.proofs.RowLaws.{sum-ext, sum-parts}
-use Rattle.geometry.proofs.TableLaws.{axis-in, reach-in}
-use Rattle.geometry.proofs.SlopeLaws.{low-le, high-le}
+use Rattle.geometry.proofs.TableLaws.{reach-in}
+use Rattle.geometry.proofs.SlopeLaws.{low-le}
 use Rattle.geometry.proofs.LaneLaws.{lane-halved, halved-room}
-use Rattle.geometry.specs.Features.{Feature}
 use Rattle.geometry.specs.Slices.{axisNo, sliceAt, Nearest}
-use Rattle.geometry.specs.Questions.{sizeOf, askedOf, reachAt, sumTo, rowAt, Filled}
+use Rattle.geometry.specs.Questions.{sizeOf, askedOf, sumTo, rowAt, Filled}
 use Rattle.geometry.specs.Lanes.{ownFrom, fromAt, oddOf, Bounded, Axes, Falls, Weights, Sides, sideIn, same, pullAt, halvedAt, summed, Movable, Lanes, lanesOf, copied, Blank}
 
 -- how many lanes, and coordinates summed
@@ -201,7 +200,8 @@ module _ (falls weights : List ℕ) (t : ℕ) where
   later : (at k q : ℕ) → k ≡ 32 * q → (m : ℕ) → pullAt falls weights (at + k) t m ≡ pullAt falls weights at t (q + m)
   later at k q e m = ap (λ (n : ℕ). getD weights n 0 * (getD falls n 0 - t)) (let i : at + k + 32 * m ≡ at + 32 * (q + m) = omega arith in i)
 
-  parts : (at k q n x y : ℕ) → k ≡ 32 * q → x ≡ sumTo q (pullAt falls weights at t) → y ≡ sumTo n (pullAt falls weights (at + k) t) → x + y ≡ sumTo (q + n) (pullAt falls weights at t)
+  parts : (at k q n x y : ℕ) → k ≡ 32 * q → x ≡ sumTo q (pullAt falls weights at t) → y ≡ sumTo n (pullAt falls weights (at + k) t)
+      → x + y ≡ sumTo (q + n) (pullAt falls weights at t)
   parts at k q n x y e f g =
       let s = sum-ext n (pullAt falls weights (at + k) t) (λ (m : ℕ). pullAt falls weights at t (q + m)) (λ m l. later at k q e m) in
       omega (arith, f, g, s, sum-parts n q (pullAt falls weights at t))
@@ -231,7 +231,8 @@ halving-start a n heights b =
       found = λ i l. let e : 0 + 1000 ≡ 1000 = omega arith in rw (b .zeros i, e) (bisect-start (sliceAt (askedOf a) i) (at-convex (askedOf a) i) 0 1000 (omega arith));
     }
 
-pub halving-turn : (a falls weights owns ends xs ys : List ℕ) (n size : ℕ) → Lanes a falls weights owns ends n → 0 < size → Halving a n size xs → Filled (halvedAt falls weights owns ends (summed n) (size - size / 2)) 0 n xs ys
+pub halving-turn : (a falls weights owns ends xs ys : List ℕ) (n size : ℕ) → Lanes a falls weights owns ends n → 0 < size → Halving a n size xs
+    → Filled (halvedAt falls weights owns ends (summed n) (size - size / 2)) 0 n xs ys
     → Halving a n (size / 2) ys
 halving-turn a falls weights owns ends xs ys n size v z h f =
     record {
@@ -243,7 +244,8 @@ halving-turn a falls weights owns ends xs ys n size v z h f =
 pub halving-end : (a : List ℕ) (n size : ℕ) (heights : List ℕ) → length (askedOf a) ≡ sizeOf a → size ≡ 0 → Halving a n size heights → Nearest (askedOf a) heights
 halving-end a n size heights e z h = λ i l. bisect-end (sliceAt (askedOf a) i) (at-convex (askedOf a) i) 0 1000 (getD heights i 0) (getD heights i 0 + size) (h .found i (omega arith)) (omega arith)
 
-pub movable : (a falls weights owns ends heights : List ℕ) (n size : ℕ) → Lanes a falls weights owns ends n → 0 < size → size ≤ 1000 → Halving a n size heights → Movable falls weights owns ends n (size - size / 2) heights
+pub movable : (a falls weights owns ends heights : List ℕ) (n size : ℕ) → Lanes a falls weights owns ends n → 0 < size → size ≤ 1000 → Halving a n size heights
+    → Movable falls weights owns ends n (size - size / 2) heights
 movable a falls weights owns ends heights n size v z k h =
     record {
       few = v .few;
@@ -268,7 +270,8 @@ pub moves : (s r q x y : ℕ) → r ≡ q → r < s → y ≡ pick (leb s q) x y
 moves s r q x y e l = rw (lt-leb s q (omega arith))
 
 -- one lane of a row
-pub lane-place : (axes : List ℕ) (m reach i place before after v : ℕ) → place ≡ m → before ≡ oddOf reach → after ≡ oddOf (reach - 1) → v ≡ pick (ltb place (getD axes i 0)) before after
+pub lane-place : (axes : List ℕ) (m reach i place before after v : ℕ) → place ≡ m → before ≡ oddOf reach → after ≡ oddOf (reach - 1)
+    → v ≡ pick (ltb place (getD axes i 0)) before after
     → (y : ℕ) → v ≡ sideIn axes m reach (32 * m + i) y
 lane-place axes m reach i place before after v p b f e y =
     let z : 32 * m + i - 32 * m ≡ i = omega arith in

@@ -1,26 +1,23 @@
 -- The lanes of the bisection: their tables, filled row by row, and that a turn keeps each lane's nearest height in its interval.
-use mathlib.Core.Path.{_≡_, refl, sym, ap, ap₂, _∙_}
+use mathlib.Core.Path.{_≡_, refl, ap, ap₂, _∙_}
 use mathlib.Core.Bool.{Bool, true, false}
 use mathlib.Core.List.{List}
-use mathlib.Core.Logic.{_≢_}
-use Prim.Native.Nat.{ℕ, zero, suc, _+_, _*_, _-_, _/_, _≤_, _<_}
+use Prim.Native.Nat.{ℕ, suc, _+_, _*_, _-_, _/_, _≤_, _<_}
 use native.Mathlib.Omega.{arith}
 use native.Mathlib.Numerals.{add-one}
-use native.Mathlib.Decide.{ℕ-discrete, decLt, decLe}
-use borrow.Author.Tests.{eq-eqb, ne-eqb, lt-ltb, le-ltb, ltb-true, ltb-false, leb-true, leb-false}
-use lib.Dec.{leb, ltb, eqb}
-use lib.ListN.{length, getD, set, length-set}
-use lib.Seq.{getD-set-same, getD-set-other}
-use Rattle.lists.specs.Basics.{pick, tick}
+use native.Mathlib.Decide.{ℕ-discrete}
+use borrow.Author.Tests.{ltb-true, ltb-false, leb-true, leb-false}
+use lib.Dec.{leb, ltb}
+use lib.ListN.{getD}
+use Rattle.lists.specs.Basics.{pick}
 use Rattle.geometry.proofs.ConvexLaws.{Convex, rises, at-convex}
 use Rattle.geometry.proofs.HeightLaws.{Bisect, bisect-low, bisect-high}
-use Rattle.geometry.proofs.PackedLaws.{asked-few, axis-low, axis-high}
+use Rattle.geometry.proofs.PackedLaws.{axis-low, axis-high}
 use Rattle.geometry.proofs.RowLaws.{sum-ext, sum-past}
-use Rattle.geometry.proofs.TableLaws.{axis-in, reach-in}
-use Rattle.geometry.proofs.SlopeLaws.{low-le, high-le, slope}
+use Rattle.geometry.proofs.SlopeLaws.{slope}
 use Rattle.geometry.specs.Slices.{axisNo, sliceAt}
-use Rattle.geometry.specs.Questions.{sizeOf, askedOf, sumTo, rowAt, Filled}
-use Rattle.geometry.specs.Lanes.{ownFrom, fromAt, oddOf, endAt, Bounded, Axes, Falls, Weights, Sides, endBelow, endAbove, weightOf, sideIn, same, pullAt, settledAt, halvedAt, summed, Lanes}
+use Rattle.geometry.specs.Questions.{sizeOf, askedOf, sumTo}
+use Rattle.geometry.specs.Lanes.{fromAt, oddOf, endAt, Sides, endBelow, endAbove, weightOf, pullAt, halvedAt, summed, Lanes}
 
 -- one turn of a lane: the interval b .. b + s, looked at before its middle
 module _ (f : ℕ → ℕ) (conv : Convex f) where

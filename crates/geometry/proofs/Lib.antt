@@ -19,3 +19,4 @@ pub mod WholeLaws
 pub mod SlopeLaws
 pub mod LaneLaws
 pub mod FillLaws
+pub mod OneLaws

@@ -1,17 +1,17 @@
 -- Sums by place, and a slice as one such sum over the row of its axis.
 use mathlib.Core.Path.{_≡_, refl, sym, ap, ap₂, _∙_}
-use mathlib.Core.Bool.{Bool, true, false}
+use mathlib.Core.Bool.{Bool}
 use mathlib.Core.List.{List, [], _∷_}
 use mathlib.Core.Logic.{_≢_}
 use Prim.Native.Nat.{ℕ, zero, suc, _+_, _*_, _-_, _≤_, _<_}
 use native.Mathlib.Omega.{arith}
 use native.Mathlib.Nat.{suc-mul, mul-suc}
 use native.Mathlib.Decide.{ℕ-discrete, decLe, decLt}
-use borrow.Author.Tests.{eq-eqb, ne-eqb, lt-ltb, le-ltb, le-leb, lt-leb, leb-true, leb-false}
-use lib.Dec.{leb, ltb, eqb}
-use lib.ListN.{length, getD, List·getD-eq-default}
+use borrow.Author.Tests.{eq-eqb, ne-eqb, lt-ltb, le-ltb}
+use lib.Dec.{ltb, eqb}
+use lib.ListN.{length, getD}
 use Rattle.lists.specs.Basics.{pick, tick}
-use Rattle.geometry.specs.Features.{Feature, gapTo, gapOf, costOf}
+use Rattle.geometry.specs.Features.{Feature, gapTo, costOf}
 use Rattle.geometry.specs.Slices.{onAxis, reachOf, sideBy, sliceBy}
 use Rattle.geometry.specs.Questions.{sumTo}
 

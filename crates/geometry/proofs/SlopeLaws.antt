@@ -1,27 +1,27 @@
 -- What a distance falls and rises by from height h to h + 1 in a pyramid, as two weighted sums.
-use mathlib.Core.Path.{_≡_, refl, sym, ap, ap₂, _∙_}
+use mathlib.Core.Path.{_≡_, refl, ap, _∙_}
 use mathlib.Core.Bool.{Bool, true, false}
 use mathlib.Core.List.{List, [], _∷_}
 use mathlib.Core.Logic.{_⊎_, inl, inr, _≢_}
 use Prim.Native.Nat.{ℕ, zero, suc, max, _+_, _*_, _-_, _≤_, _<_}
 use native.Mathlib.Omega.{arith}
 use native.Mathlib.Decide.{decLe}
-use borrow.Author.Tests.{eq-eqb, ne-eqb, lt-ltb, le-ltb, ltb-true, ltb-false}
-use lib.Dec.{ltb, eqb}
+use borrow.Author.Tests.{eq-eqb, ne-eqb}
+use lib.Dec.{ltb}
 use lib.IntN.{ℤ, natAbs}
 use lib.ListN.{length, getD}
 use lib.Signed.{_≤ℤ_}
 use Rattle.lists.specs.Basics.{pick}
-use Rattle.geometry.proofs.IntLaws.{le-parts, abs-parts}
+use Rattle.geometry.proofs.IntLaws.{le-parts}
 use Rattle.geometry.proofs.GapLaws.{axis-gap-low, axis-gap-high}
 use Rattle.geometry.proofs.StoredLaws.{coord-parts, coord-magnitude}
-use Rattle.geometry.proofs.PackedLaws.{asked-length, asked-few}
+use Rattle.geometry.proofs.PackedLaws.{asked-length}
 use Rattle.geometry.proofs.RowLaws.{sum-add, sum-swap, square-falls, square-rises}
 use Rattle.geometry.proofs.TableLaws.{featureIn, feature-in, axis-in, slice-asked, row-on}
-use Rattle.geometry.specs.Features.{Feature, gapTo, gapOf, costOf, Ordered, Asks}
+use Rattle.geometry.specs.Features.{Feature, gapTo, Ordered, Asks}
 use Rattle.geometry.specs.Slices.{onAxis, axisNo, sliceAt}
 use Rattle.geometry.specs.Stored.{coordOf}
-use Rattle.geometry.specs.Questions.{sizeOf, askedOf, Packed, sumTo, rowAt}
+use Rattle.geometry.specs.Questions.{sizeOf, askedOf, sumTo, rowAt}
 use Rattle.geometry.specs.Lanes.{ownFrom, fromAt, oddOf, endAt, Bounded}
 
 -- of two numbers, one of them 0, the greater one squared is the sum of the squares
@@ -100,7 +100,8 @@ turn-below l u h g g′ o t k e e′ =
     (other _ _ (none-both l u h o (omega arith))) (other _ _ (none-both l u (suc h) o k)) (rw (a, b) f) (rw (c, d) (rw s at r))
 
 -- a question's ends as they are stored
-asks-at : (W : ℕ) (fs : List Feature) (m : ℕ) (z : Feature) → Asks W fs → m < length fs → (natAbs (getD fs m z .low) ≤ 1000) × (natAbs (getD fs m z .high) ≤ 1000) × (getD fs m z .weight ≤ W)
+asks-at : (W : ℕ) (fs : List Feature) (m : ℕ) (z : Feature) → Asks W fs → m < length fs
+    → (natAbs (getD fs m z .low) ≤ 1000) × (natAbs (getD fs m z .high) ≤ 1000) × (getD fs m z .weight ≤ W)
 asks-at W [] m z r l = absurd (let y : m < 0 = l in omega arith)
 asks-at W (f ∷ fs) zero z r l = r .0
 asks-at W (f ∷ fs) (suc m) z r l = asks-at W fs m z (r .1) (omega arith)
@@ -117,7 +118,7 @@ from-side : (a : List ℕ) (i j m : ℕ) → j ≡ axisNo (sizeOf a) i → m ≢
 unfolding fromAt
 from-side a i j m e n = rw (← e, ne-eqb m j n)
 
-from-own : (a : List ℕ) (i j : ℕ) → j ≡ axisNo (sizeOf a) i → fromAt a i j ≡ ownFrom a i j
+pub from-own : (a : List ℕ) (i j : ℕ) → j ≡ axisNo (sizeOf a) i → fromAt a i j ≡ ownFrom a i j
 unfolding fromAt
 from-own a i j e = rw (← e, eq-eqb j j refl)
 
@@ -154,9 +155,11 @@ module _ (a : List ℕ) (p : Bounded a) where
           → gapTo (featureIn a j) (onAxis b h) * gapTo (featureIn a j) (onAxis b h) + ((2 * h + 2001) - pick b (4000 - 2 * getD a j 0) (2 * getD a (16 + j) 0))
           ≡ gapTo (featureIn a j) (onAxis b (suc h)) * gapTo (featureIn a j) (onAxis b (suc h)) + (oddOf (pick b (1000 - getD a (16 + j) 0) (getD a j 0 - 1000)) - 2 * h)
       by true =
-          turn-below (getD a j 0) (getD a (16 + j) 0) h _ _ (ends-ordered j l) (low-le j l) k (axis-gap-low (getD a j 0) (getD a (16 + j) 0) true h refl (omega arith)) (axis-gap-low (getD a j 0) (getD a (16 + j) 0) true (suc h) refl k)
+          turn-below (getD a j 0) (getD a (16 + j) 0) h _ _ (ends-ordered j l) (low-le j l) k
+          (axis-gap-low (getD a j 0) (getD a (16 + j) 0) true h refl (omega arith)) (axis-gap-low (getD a j 0) (getD a (16 + j) 0) true (suc h) refl k)
       by false =
-          turn-above (getD a j 0) (getD a (16 + j) 0) h _ _ (ends-ordered j l) (axis-gap-high (getD a j 0) (getD a (16 + j) 0) false h refl) (axis-gap-high (getD a j 0) (getD a (16 + j) 0) false (suc h) refl)
+          turn-above (getD a j 0) (getD a (16 + j) 0) h _ _ (ends-ordered j l)
+          (axis-gap-high (getD a j 0) (getD a (16 + j) 0) false h refl) (axis-gap-high (getD a j 0) (getD a (16 + j) 0) false (suc h) refl)
 
   -- the sides
   sides-turn : (j h : ℕ)

@@ -3,23 +3,22 @@ use mathlib.Core.Path.{_≡_, refl, sym, ap, ap₂, _∙_}
 use mathlib.Core.Bool.{Bool, true, false}
 use mathlib.Core.List.{List}
 use mathlib.Core.Logic.{_≢_}
-use Prim.Native.Nat.{ℕ, zero, suc, max, min, _+_, _*_, _-_, _≤_, _<_}
+use Prim.Native.Nat.{ℕ, zero, suc, _+_, _*_, _-_, _≤_, _<_}
 use native.Mathlib.Omega.{arith}
-use native.Mathlib.Decide.{ℕ-discrete, decLe, decLt}
-use borrow.Author.Tests.{eq-eqb, ne-eqb, lt-ltb, le-ltb, le-leb, lt-leb, leb-true, leb-false, ltb-true, ltb-false}
+use native.Mathlib.Decide.{ℕ-discrete, decLt}
+use borrow.Author.Tests.{eq-eqb, ne-eqb, lt-ltb, le-ltb, le-leb, lt-leb, leb-true, ltb-true, ltb-false}
 use lib.Dec.{leb, ltb, eqb}
-use lib.ListN.{length, getD, take, drop, set, replicate, length-set, List·getD-eq-default}
+use lib.ListN.{length, getD, drop, set, replicate, length-set, List·getD-eq-default}
 use lib.Seq.{getD-take, getD-drop, getD-set-same, getD-set-other}
 use Rattle.lists.specs.Basics.{pick, tick}
 use Rattle.geometry.proofs.GapLaws.{reach-stored}
-use Rattle.geometry.proofs.QuestionLaws.{feature-at, reach-at-place, length-reaches}
+use Rattle.geometry.proofs.QuestionLaws.{feature-at, reach-at-place}
 use Rattle.geometry.proofs.PackedLaws.{asked-length, asked-few, first-length}
-use Rattle.geometry.proofs.BoundLaws.{least-in-is}
 use Rattle.geometry.proofs.RowLaws.{sum-none, sum-ext, sum-past, sideFrom, slice-row}
-use Rattle.geometry.specs.Features.{Feature, gapTo, gapOf, costOf}
-use Rattle.geometry.specs.Slices.{onAxis, reachOf, axisNo, signNo, sliceBy, sliceAt, LeastAt, Nearest, lowestOf, leastIn, boundTo}
+use Rattle.geometry.specs.Features.{Feature, gapTo, costOf}
+use Rattle.geometry.specs.Slices.{onAxis, reachOf, axisNo, signNo, sliceAt}
 use Rattle.geometry.specs.Stored.{coordOf}
-use Rattle.geometry.specs.Questions.{reachAt, reachesOf, sizeOf, partFrom, askedOf, Packed, sumTo, rowAt, rowFrom, widthOf, rowCost, Filled, Rows}
+use Rattle.geometry.specs.Questions.{reachAt, sizeOf, partFrom, askedOf, Packed, sumTo, rowAt, rowFrom, widthOf, rowCost, Filled, Rows}
 use Rattle.geometry.specs.Tables.{rowIn, Counted}
 
 -- coordinate m of a question
@@ -192,7 +191,8 @@ row-place reach places j m v c l e y =
     rw z (rw (c .each m l) at e)
 
 -- the reaches copied, and 0 past them
-pub reaches-end : (a r : List ℕ) (m : ℕ) → m ≡ sizeOf a → ((k : ℕ) → k < m → getD r k 0 ≡ getD a (48 + k) 0) → ((k : ℕ) → m ≤ k → getD r k 0 ≡ 0) → (k : ℕ) → k < 16 → getD r k 0 ≡ getD a (48 + k) 0
+pub reaches-end : (a r : List ℕ) (m : ℕ) → m ≡ sizeOf a → ((k : ℕ) → k < m → getD r k 0 ≡ getD a (48 + k) 0) → ((k : ℕ) → m ≤ k → getD r k 0 ≡ 0) → (k : ℕ) → k < 16
+    → getD r k 0 ≡ getD a (48 + k) 0
 reaches-end a r m e f z k l = by (decLt k m)
   where
     by : Dec (k < m) → getD r k 0 ≡ getD a (48 + k) 0

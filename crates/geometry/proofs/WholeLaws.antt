@@ -1,13 +1,11 @@
 -- The bound from the tables: rows filled one after the other, the least distance to each whole pyramid, and the walk over a span.
 use mathlib.Core.Path.{_≡_, refl, sym, ap, ap₂, _∙_}
-use mathlib.Core.Bool.{Bool}
 use mathlib.Core.List.{List}
 use Prim.Native.Nat.{ℕ, zero, suc, min, max, _+_, _*_, _-_, _≤_, _<_}
 use native.Mathlib.Omega.{arith}
 use native.Mathlib.Decide.{ℕ-discrete}
-use lib.Dec.{ltb, eqb}
+use lib.Dec.{ltb}
 use lib.ListN.{length, getD}
-use Rattle.lists.specs.Basics.{pick, tick}
 use Rattle.geometry.proofs.BoundLaws.{least-in-is}
 use Rattle.geometry.proofs.PackedLaws.{asked-length, asked-few}
 use Rattle.geometry.proofs.TableLaws.{slice-asked, axis-in, row-sum, width-le}
@@ -63,7 +61,8 @@ whole-is fs i lo r h v m e k =
     let t : h ≡ max lo (min r 1000) = omega (arith, m .high) in
     k ∙ (ap (sliceAt fs i) t ∙ sym (least-in-is fs i lo 1000 r m (omega arith)))
 
-pub least-whole : (fs : List Feature) (i lo hi low r h v : ℕ) → LeastAt (sliceAt fs i) 0 1000 r → hi ≤ 1000 → h ≡ max lo (min r hi) → h ≡ r → low ≤ h → v ≡ leastIn fs i low 1000 → v ≡ leastIn fs i lo hi
+pub least-whole : (fs : List Feature) (i lo hi low r h v : ℕ) → LeastAt (sliceAt fs i) 0 1000 r → hi ≤ 1000 → h ≡ max lo (min r hi) → h ≡ r → low ≤ h
+    → v ≡ leastIn fs i low 1000 → v ≡ leastIn fs i lo hi
 least-whole fs i lo hi low r h v m u e k l w =
     let a : max low (min r 1000) ≡ h = omega (arith, m .high) in
     w ∙ (least-in-is fs i low 1000 r m (omega arith) ∙ (ap (sliceAt fs i) (a ∙ e) ∙ sym (least-in-is fs i lo hi r m u)))
@@ -72,15 +71,15 @@ pub least-sliced : (fs : List Feature) (i lo hi r h v : ℕ) → LeastAt (sliceA
 least-sliced fs i lo hi r h v m u e k = k ∙ (ap (sliceAt fs i) e ∙ sym (least-in-is fs i lo hi r m u))
 
 -- the pyramids between the ends
-pub between-none : (whole : List ℕ) (b i : ℕ) → b ≡ leastBetween whole b i (i + 1 - i - 1)
+pub between-none : (whole : List ℕ) (b i : ℕ) → b ≡ leastBetween whole b i (i - i)
 unfolding leastBetween
-between-none whole b i = let e : i + 1 - i - 1 ≡ 0 = omega arith in rw e
+between-none whole b i = let e : i - i ≡ 0 = omega arith in rw e
 
-pub between-more : (whole : List ℕ) (b i1 i : ℕ) → i1 < i → min (leastBetween whole b i1 (i - i1 - 1)) (getD whole i 0) ≡ leastBetween whole b i1 (i + 1 - i1 - 1)
+pub between-more : (whole : List ℕ) (b i1 i : ℕ) → i1 ≤ i → min (leastBetween whole b i1 (i - i1)) (getD whole (i + 1) 0) ≡ leastBetween whole b i1 (i + 1 - i1)
 unfolding leastBetween
 between-more whole b i1 i l =
-    let e : i + 1 - i1 - 1 ≡ suc (i - i1 - 1) = omega arith in
-    let k : i1 + suc (i - i1 - 1) ≡ i = omega arith in
+    let e : i + 1 - i1 ≡ suc (i - i1) = omega arith in
+    let k : i1 + suc (i - i1) ≡ i + 1 = omega arith in
     rw (e, k)
 
 between-is : (fs : List Feature) (whole : List ℕ) (D i h n : ℕ) → ((k : ℕ) → k < D → getD whole k 0 ≡ leastIn fs k (lowestOf (length fs) k) 1000) → i + n < D
@@ -93,7 +92,8 @@ pub bound-one : (fs : List Feature) (i1 h1 i2 h2 v : ℕ) → i2 ≤ i1 → v �
 unfolding boundTo
 bound-one fs i1 h1 i2 h2 v l e = let z : i2 - i1 ≡ 0 = omega arith in rw z e
 
-pub bound-more : (fs : List Feature) (whole : List ℕ) (D i1 h1 i2 h2 low a b c : ℕ) → ((k : ℕ) → k < D → getD whole k 0 ≡ leastIn fs k (lowestOf (length fs) k) 1000) → i1 < i2 → i2 < D
+pub bound-more : (fs : List Feature) (whole : List ℕ) (D i1 h1 i2 h2 low a b c : ℕ) → ((k : ℕ) → k < D → getD whole k 0 ≡ leastIn fs k (lowestOf (length fs) k) 1000)
+    → i1 < i2 → i2 < D
     → low ≡ lowestOf (length fs) i2 → a ≡ leastIn fs i1 h1 1000 → b ≡ leastBetween whole a i1 (i2 - i1 - 1) → c ≡ leastIn fs i2 low h2 → min b c ≡ boundTo fs i1 h1 (i2 - i1) h2
 unfolding boundTo
 bound-more fs whole D i1 h1 i2 h2 low a b c f l k w x y z =

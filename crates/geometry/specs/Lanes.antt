@@ -7,7 +7,7 @@ use lib.ListN.{length, getD}
 use Rattle.lists.specs.Basics.{pick}
 use Rattle.geometry.specs.Features.{Ordered, Asks}
 use Rattle.geometry.specs.Slices.{axisNo}
-use Rattle.geometry.specs.Questions.{sizeOf, askedOf, Packed, sumTo, rowAt}
+use Rattle.geometry.specs.Questions.{sizeOf, askedOf, Packed, sumTo, rowAt, Filled}
 
 -- what coordinate m has to come down from in pyramid i, on its axis too, and what its square falls by from height 0 to 1
 unfoldable pub ownFrom : List ℕ → ℕ → ℕ → ℕ
@@ -33,6 +33,13 @@ pub record Bounded (a : List ℕ) : Type 0 where
 pub record Axes (d n : ℕ) (axes : List ℕ) : Type 0 where
   pub long : length axes ≡ 32
   pub each : (i : ℕ) → i < n → getD axes i 0 ≡ axisNo d i
+
+-- what the rows of the lanes are filled from
+pub record Aligned (a axes : List ℕ) (n : ℕ) : Type 0 where
+  pub asked : Bounded a
+  pub lined : Axes (sizeOf a) n axes
+  pub few : n ≤ 32
+  pub cover : sizeOf a + sizeOf a ≤ n
 
 pub record Falls (a falls : List ℕ) (m : ℕ) : Type 0 where
   pub long : length falls ≡ 512
@@ -76,6 +83,9 @@ settledAt sum weight end t step h = pick (leb sum (weight * (t + 2001 - end))) h
 
 abbrev pub halvedAt : List ℕ → List ℕ → List ℕ → List ℕ → ℕ → ℕ → ℕ → ℕ → ℕ
 halvedAt falls weights owns ends k step i h = settledAt (sumTo k (pullAt falls weights i (2 * h + (2 * step - 2)))) (getD owns i 0) (getD ends i 0) (2 * h + (2 * step - 2)) step h
+
+abbrev pub Halved : List ℕ → List ℕ → List ℕ → List ℕ → ℕ → ℕ → ℕ → List ℕ → List ℕ → Type 0
+Halved falls weights owns ends k step n xs ys = Filled (halvedAt falls weights owns ends k step) 0 n xs ys
 
 -- how many coordinates are summed for n lanes
 abbrev pub summed : ℕ → ℕ

@@ -25,12 +25,6 @@ reachesOf [] hs = []
 reachesOf (l ∷ ls) [] = []
 reachesOf (l ∷ ls) (h ∷ hs) = reachAt l h ∷ reachesOf ls hs
 
--- `sideBy` from reaches and weights
-unfoldable pub sideSum : ℕ → List ℕ → List ℕ → ℕ
-sideSum k [] ws = 0
-sideSum k (u ∷ us) [] = 0
-sideSum k (u ∷ us) (w ∷ ws) = w * ((u - k) * (u - k)) + sideSum k us ws
-
 -- what is lent for a question: at most 16 ranges with their weights, and their reaches, computed once
 pub record Prepared (low high weight reach : List ℕ) : Type 0 where
   pub few : length low ≤ 16

@@ -3,7 +3,7 @@
 // The distance is convex in the height, so over the heights of a span that height, clamped to them, is nearest: one sum over the coordinates for
 // each pyramid of the span.
 ghost use mathlib.Core.Path.{_≡_};
-ghost use Prim.Native.Nat.{min, _+_, _*_, _-_, _<_, _≤_};
+ghost use Prim.Native.Nat.{min, _+_, _-_, _<_, _≤_};
 ghost use lib.ListN.{length};
 ghost use Rattle.geometry.specs.Slices.{lastPyramid, leastIn, boundTo, boundOf};
 ghost use Rattle.geometry.specs.Questions.{reachAt, sizeOf, askedOf, LaidOut, Spanned, nearPlaces, wholePlaces, Preparable, Heights, Ready};
@@ -107,9 +107,9 @@ fn between(whole: &[u64], best: u64, i1: usize, i2: usize) -> u64
     ensures { λ r. ⌜ r ≡ leastBetween (now (whole .entry)) best i1 (i2 - i1 - 1) ⌝ }
 {
     let mut least = best;
-    let mut i = i1 + 1;
-    while i < i2 {
-        least = nearer(least, whole[i]);
+    let mut i = i1;
+    while i + 1 < i2 {
+        least = nearer(least, whole[i + 1]);
         i += 1;
     }
     least

@@ -2,12 +2,13 @@
 // From height h to h + 1 a distance falls by what its coordinates come down, and rises by what the axis goes on past its range: two weighted sums.
 ghost use mathlib.Core.Path.{_≡_};
 ghost use Prim.Native.Nat.{ℕ, _+_, _*_, _-_, _<_, _≤_};
-ghost use lib.Dec.{ltb};
+ghost use lib.Dec.{ltb, eqb};
 ghost use lib.ListN.{length, getD};
 ghost use Rattle.lists.specs.Basics.{pick};
 ghost use Rattle.geometry.specs.Slices.{axisNo, Nearest};
 ghost use Rattle.geometry.specs.Questions.{sizeOf, askedOf, sumTo, nearPlaces, Filled};
-ghost use Rattle.geometry.specs.Lanes.{oddOf, Bounded, Axes, Falls, Weights, Sides, endBelow, endAbove, weightOf, sideIn, same, pullAt, settledAt, halvedAt, summed, Movable, Lanes, lanesOf, copied, Blank};
+ghost use Rattle.geometry.specs.Lanes.{oddOf, sideIn, same, copied, endBelow, endAbove, weightOf, pullAt, settledAt, summed, lanesOf};
+ghost use Rattle.geometry.specs.Lanes.{Bounded, Axes, Aligned, Falls, Weights, Sides, Movable, Halved, Lanes, Blank};
 use crate::points::above;
 
 // A question's list: high ends, weights and reaches from these places on; and the places of a row of lanes.
@@ -85,7 +86,7 @@ fn fill_lanes(falls: &mut [u16], axes: &[u16], m: usize, n: usize, reach: u16)
 
 // What coordinate m falls by in each lane.
 fn fill_fall(asked: &[u16], axes: &[u16], m: usize, n: usize, falls: &mut [u16])
-    requires { ⌜ Bounded (now asked) × Axes (sizeOf (now asked)) n (now axes) × (n ≤ 32) × (sizeOf (now asked) + sizeOf (now asked) ≤ n) × (m < sizeOf (now asked)) × Falls (now asked) (now falls) m ⌝ }
+    requires { ⌜ Aligned (now asked) (now axes) n × (m < sizeOf (now asked)) × Falls (now asked) (now falls) m ⌝ }
     ensures { λ _. ⌜ Falls (now (asked .entry)) (now (falls .exit)) (m + 1) ⌝ }
 {
     let d = asked.len() - REACHES;
@@ -97,7 +98,7 @@ fn fill_fall(asked: &[u16], axes: &[u16], m: usize, n: usize, falls: &mut [u16])
 
 // What each coordinate falls by in each lane.
 fn fill_falls(asked: &[u16], axes: &[u16], n: usize, falls: &mut [u16])
-    requires { ⌜ Bounded (now asked) × Axes (sizeOf (now asked)) n (now axes) × (n ≤ 32) × (sizeOf (now asked) + sizeOf (now asked) ≤ n) × Falls (now asked) (now falls) 0 ⌝ }
+    requires { ⌜ Aligned (now asked) (now axes) n × Falls (now asked) (now falls) 0 ⌝ }
     ensures { λ _. ⌜ Falls (now (asked .entry)) (now (falls .exit)) (sizeOf (now (asked .entry))) ⌝ }
 {
     let d = asked.len() - REACHES;
@@ -213,7 +214,7 @@ fn halve_four(
     heights: &mut [u16],
 )
     requires { ⌜ Movable (now falls) (now weights) (now owns) (now ends) n step (now heights) ⌝ }
-    ensures { λ _. ⌜ Filled (halvedAt (now (falls .entry)) (now (weights .entry)) (now (owns .entry)) (now (ends .entry)) 4 step) 0 n (now (heights .entry)) (now (heights .exit)) ⌝ }
+    ensures { λ _. ⌜ Halved (now (falls .entry)) (now (weights .entry)) (now (owns .entry)) (now (ends .entry)) 4 step n (now (heights .entry)) (now (heights .exit)) ⌝ }
 {
     let twice = 2 * step - 2;
     let mut i = 0;
@@ -236,7 +237,7 @@ fn halve_eight(
     heights: &mut [u16],
 )
     requires { ⌜ Movable (now falls) (now weights) (now owns) (now ends) n step (now heights) ⌝ }
-    ensures { λ _. ⌜ Filled (halvedAt (now (falls .entry)) (now (weights .entry)) (now (owns .entry)) (now (ends .entry)) 8 step) 0 n (now (heights .entry)) (now (heights .exit)) ⌝ }
+    ensures { λ _. ⌜ Halved (now (falls .entry)) (now (weights .entry)) (now (owns .entry)) (now (ends .entry)) 8 step n (now (heights .entry)) (now (heights .exit)) ⌝ }
 {
     let twice = 2 * step - 2;
     let mut i = 0;
@@ -259,7 +260,7 @@ fn halve_all(
     heights: &mut [u16],
 )
     requires { ⌜ Movable (now falls) (now weights) (now owns) (now ends) n step (now heights) ⌝ }
-    ensures { λ _. ⌜ Filled (halvedAt (now (falls .entry)) (now (weights .entry)) (now (owns .entry)) (now (ends .entry)) 16 step) 0 n (now (heights .entry)) (now (heights .exit)) ⌝ }
+    ensures { λ _. ⌜ Halved (now (falls .entry)) (now (weights .entry)) (now (owns .entry)) (now (ends .entry)) 16 step n (now (heights .entry)) (now (heights .exit)) ⌝ }
 {
     let twice = 2 * step - 2;
     let mut i = 0;
@@ -282,7 +283,7 @@ fn halve(
     heights: &mut [u16],
 )
     requires { ⌜ Movable (now falls) (now weights) (now owns) (now ends) n step (now heights) ⌝ }
-    ensures { λ _. ⌜ Filled (halvedAt (now (falls .entry)) (now (weights .entry)) (now (owns .entry)) (now (ends .entry)) (summed n) step) 0 n (now (heights .entry)) (now (heights .exit)) ⌝ }
+    ensures { λ _. ⌜ Halved (now (falls .entry)) (now (weights .entry)) (now (owns .entry)) (now (ends .entry)) (summed n) step n (now (heights .entry)) (now (heights .exit)) ⌝ }
 {
     if n <= 8 {
         halve_four(falls, weights, owns, ends, n, step, heights);
@@ -343,6 +344,35 @@ fn nearest_lanes(asked: &[u16]) -> [u16; 32]
     heights
 }
 
+// The height at which an axis first has its range, or 0 where each is as near.
+fn reached(weight: u16, x: u16) -> u16
+    ensures { λ r. ⌜ r ≡ pick (eqb weight 0) 0 x ⌝ }
+{
+    if weight == 0 { 0 } else { x }
+}
+
+// The nearest heights of one coordinate.
+fn nearest_one(asked: &[u16]) -> [u16; 32]
+    requires { ⌜ Bounded (now asked) × (sizeOf (now asked) ≡ 1) ⌝ }
+    ensures { λ r. ⌜ Nearest (askedOf (now (asked .entry))) r × (length r ≡ 32) ⌝ }
+{
+    let mut heights = [0u16; 32];
+    let weight = asked[WEIGHTS];
+    heights[0] = reached(weight, above(1000, asked[HIGHS]));
+    heights[1] = reached(weight, above(asked[0], 1000));
+    heights
+}
+
+fn nearest_heights(asked: &[u16]) -> [u16; 32]
+    requires { ⌜ Bounded (now asked) ⌝ }
+    ensures { λ r. ⌜ Nearest (askedOf (now (asked .entry))) r × (length r ≡ 32) ⌝ }
+{
+    if asked.len() - REACHES == 1 {
+        return nearest_one(asked);
+    }
+    nearest_lanes(asked)
+}
+
 fn copy_heights(heights: &[u16], near: &mut [u16])
     requires { ⌜ (length (now heights) ≡ 32) × (length (now near) ≡ nearPlaces) ⌝ }
     ensures { λ _. ⌜ Filled (copied (now (heights .entry))) 0 32 (now (near .entry)) (now (near .exit)) ⌝ }
@@ -359,6 +389,6 @@ pub fn fill_heights(asked: &[u16], near: &mut [u16])
     requires { ⌜ Bounded (now asked) × (length (now near) ≡ nearPlaces) ⌝ }
     ensures { λ _. ⌜ Nearest (askedOf (now (asked .entry))) (now (near .exit)) × (length (now (near .exit)) ≡ nearPlaces) ⌝ }
 {
-    let heights = nearest_lanes(asked);
+    let heights = nearest_heights(asked);
     copy_heights(&heights, near);
 }

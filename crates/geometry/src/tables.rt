@@ -1,10 +1,10 @@
 // The tables of a question that its slices are summed from: the row of each axis, and the least distance to each whole pyramid.
 ghost use mathlib.Core.Path.{_≡_};
-ghost use Prim.Native.Nat.{ℕ, _+_, _*_, _-_, _<_, _≤_};
+ghost use Prim.Native.Nat.{_+_, _*_, _-_, _<_, _≤_};
 ghost use lib.Dec.{ltb, eqb};
-ghost use lib.ListN.{length, getD};
+ghost use lib.ListN.{length};
 ghost use Rattle.lists.specs.Basics.{pick, tick};
-ghost use Rattle.geometry.specs.Questions.{reachesFrom, sizeOf, Packed, nearPlaces, wholePlaces, widthOf, rowFrom, Filled, Heights, Wholes};
+ghost use Rattle.geometry.specs.Questions.{Packed, nearPlaces, wholePlaces, rowFrom, Filled, Heights, Wholes};
 ghost use Rattle.geometry.specs.Tables.{rowIn, Counted, Reached, RowRoom, Rowed, RowsOver};
 use crate::points::above;
 use crate::points::greater;

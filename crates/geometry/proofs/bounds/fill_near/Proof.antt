@@ -1,7 +1,5 @@
 -- `bounds::fill_near` meets its contract: filling the rows leaves the heights.
 use borrow.Author.Needs.{needs}
-use mathlib.Core.Path.{_≡_, refl, sym, _∙_}
-use Rattle.geometry.proofs.PackedLaws.{asked-length, asked-few}
 use Rattle.geometry.proofs.WholeLaws.{heights-over}
 use borrow.Author.Needs.{needs}
 use Rattle.geometry.proofs.bounds.fill_near.Statement.{statement}

@@ -1,10 +1,10 @@
 -- `bounds::least_in` meets its contract: the pyramid's nearest height, clamped, is nearest over lo .. hi (convexity); where it is not moved, that of the whole pyramid is.
 use native.Mathlib.Omega.{arith}
 use borrow.Author.Needs.{needs}
-use mathlib.Core.Path.{_≡_, refl, sym, ap, _∙_}
-use Prim.Native.Nat.{ℕ, max, min, _+_, _<_}
+use mathlib.Core.Path.{_≡_, sym, ap, _∙_}
+use Prim.Native.Nat.{ℕ, max, min}
 use lib.ListN.{length, getD}
-use Rattle.geometry.specs.Questions.{sizeOf, askedOf}
+use Rattle.geometry.specs.Questions.{askedOf}
 use Rattle.geometry.specs.Slices.{lowestOf}
 use Rattle.geometry.proofs.PackedLaws.{asked-length, asked-few}
 use Rattle.geometry.proofs.WholeLaws.{least-whole, least-sliced}

@@ -2,9 +2,9 @@
 use native.Mathlib.Omega.{arith}
 use borrow.Author.Needs.{needs}
 use mathlib.Core.Path.{_≡_}
-use Prim.Native.Nat.{ℕ, _+_, _-_, _/_, _≤_, _<_}
+use Prim.Native.Nat.{_-_, _≤_}
 use lib.ListN.{length}
-use Rattle.geometry.specs.Questions.{sizeOf, askedOf}
+use Rattle.geometry.specs.Questions.{sizeOf}
 use Rattle.geometry.specs.Lanes.{Lanes, lanesOf}
 use Rattle.geometry.proofs.PackedLaws.{asked-length, asked-few}
 use Rattle.geometry.proofs.FillLaws.{Halving, halving-start, halving-turn, halving-end, movable}

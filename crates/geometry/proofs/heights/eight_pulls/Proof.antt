@@ -1,7 +1,6 @@
 -- `heights::eight_pulls` meets its contract: the second four stand 128 places on.
 use native.Mathlib.Omega.{arith}
 use borrow.Author.Needs.{needs}
-use mathlib.Core.Path.{_≡_}
 use Rattle.geometry.proofs.FillLaws.{eight-is}
 use borrow.Author.Needs.{needs}
 use Rattle.geometry.proofs.heights.eight_pulls.Statement.{statement}

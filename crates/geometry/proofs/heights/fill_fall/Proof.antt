@@ -34,7 +34,7 @@ shared-slice-read-fill-lanes c = search needs
 fill-lanes-requires : tie.Need-fill-lanes-requires
 fill-lanes-requires c κs =
     let a = c .before .before .before .before .before .args in let p = c .before .before .before .before .before .pre in
-    (omega (arith, p .4, asked-few (a .asked .now) (p .0 .packed)), p .2, reach-at-most (a .asked .now) (p .0) (a .m) (p .4), p .5 .long, p .1 .long)
+    (omega (arith, p .1, asked-few (a .asked .now) (p .0 .asked .packed)), p .0 .few, reach-at-most (a .asked .now) (p .0 .asked) (a .m) (p .1), p .2 .long, p .0 .lined .long)
 
 add-above : tie.Need-add-above
 add-above c = search needs
@@ -68,7 +68,7 @@ above-requires-2 c κs = search needs
 
 odd-requires-2 : tie.Need-odd-requires-2
 odd-requires-2 c κs =
-    let a = c .before .before .before .before .before .before .before .before .before .before .before .before .before .args in let p = c .before .before .before .before .before .before .before .before .before .before .before .before .before .pre in omega (arith, c .above2 .ensures, low-le (a .asked .now) (p .0) (a .m) (p .4))
+    let a = c .before .before .before .before .before .before .before .before .before .before .before .before .before .args in let p = c .before .before .before .before .before .before .before .before .before .before .before .before .before .pre in omega (arith, c .above2 .ensures, low-le (a .asked .now) (p .0 .asked) (a .m) (p .1))
 
 add-falls : tie.Need-add-falls
 add-falls c = search needs
@@ -79,7 +79,7 @@ mul-falls-2 c = search needs
 slice-write-falls-2 : tie.Need-slice-write-falls-2
 slice-write-falls-2 c =
     let a = c .before .before .before .before .before .before .before .before .before .before .before .before .before .before .args in let p = c .before .before .before .before .before .before .before .before .before .before .before .before .before .before .pre in
-    simp length-set (omega (arith, c .before .before .before .before .before .before .before .before .fill-lanes .ensures .long, p .5 .long, p .4, asked-few (a .asked .now) (p .0 .packed)))
+    simp length-set (omega (arith, c .before .before .before .before .before .before .before .before .fill-lanes .ensures .long, p .2 .long, p .1, asked-few (a .asked .now) (p .0 .asked .packed)))
 
 same-length : tie.Need-same-length
 same-length c = search needs
@@ -87,7 +87,7 @@ same-length c = search needs
 returns : tie.Need-returns
 returns c =
     let a = c .before .before .before .before .before .before .before .before .before .before .before .before .before .before .args in let p = c .before .before .before .before .before .before .before .before .before .before .before .before .before .before .pre in
-    falls-more (a .asked .now) (a .axes .now) (a .falls .now) _ (a .m) (a .n) _ _ (p .0) (p .2) (p .3) (p .4) (p .1) (p .5) (c .before .before .before .before .before .before .before .before .fill-lanes .ensures) (c .before .before .before .odd .ensures ∙ ap oddOf (c .before .before .before .before .above .ensures)) (c .odd2 .ensures ∙ ap oddOf (c .before .above2 .ensures))
+    falls-more (a .asked .now) (a .axes .now) (a .falls .now) _ (a .m) (a .n) _ _ (p .0 .asked) (p .0 .few) (p .0 .cover) (p .1) (p .0 .lined) (p .2) (c .before .before .before .before .before .before .before .before .fill-lanes .ensures) (c .before .before .before .odd .ensures ∙ ap oddOf (c .before .before .before .before .above .ensures)) (c .odd2 .ensures ∙ ap oddOf (c .before .above2 .ensures))
 
 pub fill-fall-spec : {M : Type 1} → statement M
 fill-fall-spec =

@@ -17,15 +17,15 @@ abbrev μ-loop : tie.MeasureT-loop
 μ-loop asked axes n falls₀ d m₀ falls m = d - m
 
 sub-d : tie.Need-sub-d Inv-loop μ-loop
-sub-d c = omega (arith, c .before .before .before .pre .0 .packed .whole)
+sub-d c = omega (arith, c .before .before .before .pre .0 .asked .packed .whole)
 
 loop-holds : tie.Need-loop-holds Inv-loop μ-loop
-loop-holds c = let a = c .before .before .before .args in let p = c .before .before .before .pre in (omega arith, refl, asked-few (a .asked .now) (p .0 .packed), p .4 .long, p .4)
+loop-holds c = let a = c .before .before .before .args in let p = c .before .before .before .pre in (omega arith, refl, asked-few (a .asked .now) (p .0 .asked .packed), p .1 .long, p .1)
 
 fill-fall-requires : tie.Need-fill-fall-requires Inv-loop μ-loop
 fill-fall-requires c κs =
     let p = c .before .before .before .before .before .before .pre in let i = c .before .before .loop .inv in
-    (p .0, p .1, p .2, p .3, omega (arith, i .1, c .before .loop-test .taken), i .4)
+    (p .0, omega (arith, i .1, c .before .loop-test .taken), i .4)
 
 add-m : tie.Need-add-m Inv-loop μ-loop
 add-m c = search needs

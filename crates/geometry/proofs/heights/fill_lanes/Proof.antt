@@ -1,12 +1,9 @@
 -- `heights::fill_lanes` meets its contract: i lanes are filled.
 use native.Mathlib.Omega.{arith}
 use borrow.Author.Needs.{needs}
-use mathlib.Core.Path.{_≡_, ap, ap₂, _∙_}
-use mathlib.Core.Bool.{Bool}
-use Prim.Native.Nat.{ℕ, _+_, _*_, _-_, _≤_, _<_}
-use lib.Dec.{ltb}
+use mathlib.Core.Path.{_≡_, ap, _∙_}
+use Prim.Native.Nat.{_+_, _*_, _-_, _≤_, _<_}
 use lib.ListN.{length, getD}
-use Rattle.lists.specs.Basics.{pick}
 use Rattle.geometry.specs.Questions.{Filled}
 use Rattle.geometry.specs.Lanes.{oddOf, sideIn}
 use Rattle.geometry.proofs.TableLaws.{filled-none, filled-more}

@@ -1,8 +1,8 @@
 -- `heights::four_pulls` meets its contract: four products.
 use native.Mathlib.Omega.{arith}
 use borrow.Author.Needs.{needs}
-use mathlib.Core.Path.{_≡_, ap, _∙_}
-use Prim.Native.Nat.{ℕ, _+_, _*_, _-_, _≤_}
+use mathlib.Core.Path.{ap, _∙_}
+use Prim.Native.Nat.{ℕ, _+_, _*_, _-_}
 use lib.ListN.{getD}
 use Rattle.geometry.proofs.FillLaws.{four-is}
 use borrow.Author.Needs.{needs}

@@ -1,9 +1,5 @@
 -- `heights::halve` meets its contract: as many coordinates are summed as the lanes may have.
 use borrow.Author.Needs.{needs}
-use mathlib.Core.Path.{_≡_, ap}
-use Prim.Native.Nat.{ℕ}
-use Rattle.geometry.specs.Questions.{Filled}
-use Rattle.geometry.specs.Lanes.{halvedAt}
 use Rattle.geometry.proofs.FillLaws.{summed-4, summed-8, summed-16}
 use borrow.Author.Needs.{needs}
 use Rattle.geometry.proofs.heights.halve.Statement.{statement}

@@ -32,8 +32,15 @@ slice-aggregate-fill-falls c = search needs
 
 fill-falls-requires : tie.Need-fill-falls-requires
 fill-falls-requires c κs =
-    let a = c .before .before .before .before .before .before .before .before .before .before .args in let p = c .before .before .before .before .before .before .before .before .before .before .pre in let d = sizeOf (a .asked .now) in let e = c .before .before .before .before .before .lanes .ensures in
-    (p .0, c .before .before .before .before .axes-of .ensures, omega (arith, e, lanes-few d (asked-few (a .asked .now) (p .0 .packed))), omega (arith, e, lanes-cover d), falls-none (a .asked .now) (a .falls .now) (p .1))
+    let a = c .before .before .before .before .before .before .before .before .before .before .args in let p = c .before .before .before .before .before .before .before .before .before .before .pre in let d = sizeOf (a .asked .now) in let e = c .before .before .before .before .before .lanes .ensures in (
+      record {
+        asked = p .0;
+        lined = c .before .before .before .before .axes-of .ensures;
+        few = omega (arith, e, lanes-few d (asked-few (a .asked .now) (p .0 .packed)));
+        cover = omega (arith, e, lanes-cover d);
+      },
+      falls-none (a .asked .now) (a .falls .now) (p .1),
+    )
 
 fill-weights-requires : tie.Need-fill-weights-requires
 fill-weights-requires c κs =

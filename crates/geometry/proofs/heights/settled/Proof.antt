@@ -1,7 +1,6 @@
 -- `heights::settled` meets its contract: the test of `settledAt`.
 use borrow.Author.Needs.{needs}
-use mathlib.Core.Path.{_≡_, sym, ap, _∙_}
-use mathlib.Core.Bool.{Bool}
+use mathlib.Core.Path.{ap, _∙_}
 use Prim.Native.Nat.{ℕ, _+_, _*_, _-_}
 use Rattle.geometry.proofs.FillLaws.{stays, moves}
 use borrow.Author.Needs.{needs}

@@ -1,8 +1,7 @@
 -- `heights::side_fall` meets its contract.
 use borrow.Author.Tests.{lt-ltb, le-ltb}
-use mathlib.Core.Path.{_≡_, sym, ap}
+use mathlib.Core.Path.{sym, ap}
 use mathlib.Core.Bool.{Bool}
-use Prim.Native.Nat.{ℕ}
 use Rattle.lists.specs.Basics.{pick}
 use Rattle.geometry.proofs.heights.side_fall.Statement.{statement}
 use Rattle.geometry.proofs.heights.side_fall.Tie as tie

@@ -3,7 +3,7 @@ use native.Mathlib.Omega.{arith}
 use borrow.Author.Needs.{needs}
 use mathlib.Core.Path.{_≡_, ap, _∙_}
 use Prim.Native.Nat.{ℕ, _+_, _-_, _*_, _≤_}
-use lib.ListN.{length, getD}
+use lib.ListN.{getD}
 use Rattle.geometry.specs.Questions.{sumTo, rowCost}
 use Rattle.geometry.proofs.RowLaws.{sum-none, sum-more}
 use Rattle.geometry.proofs.slices.row_sum.Statement.{statement}

@@ -1,9 +1,8 @@
 -- `slices::slice_in` meets its contract: the axis, and the row of what the other coordinates come down from.
 use native.Mathlib.Omega.{arith}
 use borrow.Author.Needs.{needs}
-use mathlib.Core.Path.{_≡_, refl, ap, _∙_}
-use Prim.Native.Nat.{ℕ, _+_, _*_, _≤_}
-use lib.ListN.{getD}
+use mathlib.Core.Path.{refl, ap, _∙_}
+use Prim.Native.Nat.{ℕ, _+_, _≤_}
 use Rattle.geometry.proofs.PackedLaws.{asked-few}
 use Rattle.geometry.proofs.TableLaws.{width-le}
 use Rattle.geometry.proofs.WholeLaws.{slice-of}

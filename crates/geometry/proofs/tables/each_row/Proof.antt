@@ -2,9 +2,7 @@
 use native.Mathlib.Omega.{arith}
 use borrow.Author.Needs.{needs}
 use mathlib.Core.Path.{_≡_, _∙_}
-use Prim.Native.Nat.{ℕ, _+_, _-_, _≤_, _<_}
-use lib.ListN.{length}
-use Rattle.geometry.specs.Questions.{nearPlaces}
+use Prim.Native.Nat.{_-_, _≤_}
 use Rattle.geometry.specs.Tables.{RowRoom, Rowed}
 use Rattle.geometry.proofs.WholeLaws.{rowed-none, rowed-more}
 use Rattle.geometry.proofs.tables.each_row.Statement.{statement}

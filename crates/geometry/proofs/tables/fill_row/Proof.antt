@@ -1,8 +1,8 @@
 -- `tables::fill_row` meets its contract: m places of the row are filled.
 use native.Mathlib.Omega.{arith}
 use borrow.Author.Needs.{needs}
-use mathlib.Core.Path.{_≡_, ap, _∙_}
-use Prim.Native.Nat.{ℕ, _+_, _-_, _*_, _≤_, _<_}
+use mathlib.Core.Path.{_≡_}
+use Prim.Native.Nat.{_+_, _-_, _≤_, _<_}
 use lib.ListN.{length, getD}
 use Rattle.geometry.specs.Questions.{rowFrom, nearPlaces, Filled}
 use Rattle.geometry.specs.Tables.{rowIn, Counted}

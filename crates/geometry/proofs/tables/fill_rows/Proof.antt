@@ -1,8 +1,7 @@
 -- `tables::fill_rows` meets its contract: the rows filled are those of the question.
 use native.Mathlib.Omega.{arith}
 use borrow.Author.Needs.{needs}
-use mathlib.Core.Path.{_≡_, refl, sym, _∙_}
-use Prim.Native.Nat.{ℕ, _≤_}
+use mathlib.Core.Path.{refl}
 use Rattle.geometry.proofs.PackedLaws.{asked-few}
 use Rattle.geometry.proofs.TableLaws.{width-le}
 use Rattle.geometry.proofs.WholeLaws.{rows-over}

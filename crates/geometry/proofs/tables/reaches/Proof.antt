@@ -1,9 +1,9 @@
 -- `tables::reaches` meets its contract: the reaches below m are copied, and what comes after is 0.
 use native.Mathlib.Omega.{arith}
 use borrow.Author.Needs.{needs}
-use mathlib.Core.Path.{_≡_, refl, sym, _∙_}
+use mathlib.Core.Path.{_≡_, refl, _∙_}
 use Prim.Native.Nat.{ℕ, _+_, _-_, _≤_, _<_}
-use lib.ListN.{length, getD, length-set, List·getD-eq-default}
+use lib.ListN.{length, getD, length-set}
 use lib.Seq.{getD-set-other}
 use Rattle.lists.specs.Basics.{below-stored}
 use Rattle.geometry.specs.Questions.{sizeOf}
