@@ -6,11 +6,8 @@ use mathlib.Core.List.{List, [], _∷_}
 use Prim.Native.Nat.{ℕ, zero, suc, min, max, _+_, _-_, _*_, _≤_, _<_}
 use native.Mathlib.Omega.{arith}
 use native.Mathlib.Nat.{le-antisymm, le-trans, le-of-eq, le-refl, mul-le-mul}
-use borrow.Author.Tests.{lt-ltb, le-ltb}
-use lib.Dec.{ltb}
 use lib.IntN.{ℤ, pos, natAbs}
 use lib.ListN.{length}
-use Rattle.lists.specs.Basics.{pick}
 use Rattle.geometry.proofs.IntLaws.{neg-abs}
 use Rattle.geometry.proofs.GapLaws.{gap-le}
 use Rattle.geometry.proofs.ConvexLaws.{at-convex}
@@ -18,7 +15,7 @@ use Rattle.geometry.proofs.HeightLaws.{from-below, least-height, clamp-
 use Rattle.geometry.proofs.SpanLaws.{SpanLeast, LeastOver, span-one, span-more, span-bound, lowest-from, lowest-le-one, real-at, real-up}
 use Rattle.geometry.specs.Points.{PairLe}
 use Rattle.geometry.specs.Features.{Feature, gapTo, costOf, distTo, Ordered, Asks, InSpan, IsBound}
-use Rattle.geometry.specs.Slices.{onAxis, reachOf, sideBy, sliceBy, sliceAt, axisNo, signNo, lowestOf, highestOf, lastPyramid, Real, LeastAt, leastIn, boundTo, boundOf}
+use Rattle.geometry.specs.Slices.{onAxis, reachOf, sideBy, sliceBy, sliceAt, axisNo, signNo, lowestOf, lastPyramid, Real, LeastAt, leastIn, boundTo, boundOf}
 
 -- numbers by themselves, so that omega meets nothing else
 reaches : (lo hi h : ℕ) → lo ≤ hi → h ≤ hi → h ≤ lo + (hi - lo)
@@ -172,33 +169,6 @@ bound-small W fs i h i′ h′ r =
 pub least-in-is : (fs : List Feature) (i lo hi r : ℕ) → LeastAt (sliceAt fs i) 0 1000 r → hi ≤ 1000 → leastIn fs i lo hi ≡ sliceAt fs i (max lo (min r hi))
 unfolding leastIn
 least-in-is fs i lo hi r m t = clamp-value (sliceAt fs i) (at-convex fs i) 1000 lo hi r m t
-
--- the walk over a span's pyramids
-pub highest-le : (i i′ h : ℕ) → h ≤ 1000 → highestOf i i′ h ≤ 1000
-highest-le i i′ h l = by (ltb i i′)
-  where
-    by : (b : Bool) → pick b 1000 h ≤ 1000
-    by true = omega arith
-    by false = l
-
-pub turn-first : (fs : List Feature) (i h hi top : ℕ) → hi ≡ top → leastIn fs i h hi ≡ boundTo fs i h (i - i) top
-unfolding boundTo
-turn-first fs i h hi top e = let z : i - i ≡ 0 = omega arith in rw (z, e)
-
-pub turn-next : (fs : List Feature) (i1 h1 i i2 h2 lo hi best : ℕ) → i1 ≤ i → i < i2 → lo ≡ lowestOf (length fs) (i + 1) → hi ≡ highestOf (i + 1) i2 h2 → best ≡ boundTo fs i1 h1 (i - i1) (highestOf i i2 h2)
-    → min best (leastIn fs (i + 1) lo hi) ≡ boundTo fs i1 h1 (i + 1 - i1) (highestOf (i + 1) i2 h2)
-unfolding boundTo
-turn-next fs i1 h1 i i2 h2 lo hi best l k el eh eb =
-    let a : i + 1 - i1 ≡ suc (i - i1) = omega arith in
-    let b : i1 + suc (i - i1) ≡ i + 1 = omega arith in
-    let t : highestOf i i2 h2 ≡ 1000 = rw (lt-ltb i i2 k) in
-    rw (a, b, eb, el, eh, t)
-
-pub turn-last : (fs : List Feature) (i1 h1 i i2 h2 : ℕ) → i1 ≤ i → i - i1 ≤ i2 - i1 → i2 ≤ i → boundTo fs i1 h1 (i - i1) (highestOf i i2 h2) ≡ boundTo fs i1 h1 (i2 - i1) h2
-turn-last fs i1 h1 i i2 h2 l k t =
-    let a : i - i1 ≡ i2 - i1 = omega arith in
-    let b : highestOf i i2 h2 ≡ h2 = rw (le-ltb i i2 t) in
-    rw (a, b)
 
 pub bound-read : (fs : List Feature) (d p1 g1 p2 g2 i1 h1 i2 h2 : ℕ) → length fs ≡ d → i1 ≡ lastPyramid d p1 → h1 ≡ min g1 1000 → i2 ≡ lastPyramid d p2 → h2 ≡ min g2 1000
     → boundTo fs i1 h1 (i2 - i1) h2 ≡ boundOf fs p1 g1 p2 g2

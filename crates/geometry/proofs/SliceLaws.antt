@@ -6,7 +6,7 @@ use Prim.Native.Nat.{ℕ, zero, suc, _+_, _-_, _*_, _≤_, _<_}
 use native.Mathlib.Omega.{arith}
 use native.Mathlib.Nat.{add-le-add, le-of-eq, suc-inj}
 use lib.IntN.{ℤ, pos, negsuc, natAbs, negℤ}
-use lib.ListN.{length, getD, take, drop}
+use lib.ListN.{length}
 use lib.Signed.{_≤ℤ_, ≤ℤ-refl}
 use Rattle.geometry.proofs.IntLaws.{neg-abs}
 use Rattle.geometry.proofs.GapLaws.{gap-ge, gap-point, near, near-in, near-gap}
@@ -115,14 +115,6 @@ nearSlice-dist (suc j) s h (f ∷ fs) o t =
     let d = next-axis j s h t in
     let k : suc (h - 1) ≡ h = omega (arith, d .0) in
     ap₂ _+_ (ap (costOf f) (rw k at (value-gap f (h - 1) (o .0)))) (nearSlice-dist j s h fs (o .1) (d .1))
-
--- the sum in three parts, as the code makes it: on the axis, before it, after it
-pub slice-parts : (j : ℕ) (s : Bool) (h : ℕ) (fs : List Feature) (z : Feature) → j < length fs
-    → sliceBy j s h fs ≡ costOf (getD fs j z) (gapTo (getD fs j z) (onAxis s h)) + (sideBy h (take j fs) + sideBy (suc h) (drop (suc j) fs))
-unfolding sliceBy sideBy
-slice-parts j s h [] z l = absurd (let z : 1 ≤ 0 = omega arith in omega arith)
-slice-parts zero s h (f ∷ fs) z l = omega arith
-slice-parts (suc j) s h (f ∷ fs) z l = omega (arith, slice-parts j s h fs z (omega arith))
 
 -- the unweighted distance is the squared Euclidean one
 pub plain-distance : (q p : List ℤ) → distTo (plain q) p ≡ distance q p

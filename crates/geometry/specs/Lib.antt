@@ -4,4 +4,6 @@ pub mod Stored
 pub mod Keys
 pub mod Slices
 pub mod Questions
+pub mod Tables
+pub mod Lanes
 pub mod Examples
