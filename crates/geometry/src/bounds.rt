@@ -1,7 +1,7 @@
 // The bound of a span for a question: the least distance to a grid point whose pair is in the span.
-// Per question, `ask` notes how far out each coordinate is asked for, and `prepare` finds for each pyramid the least height at which it is nearest.
-// The distance is convex in the height, so over the heights of a span that height, clamped to them, is nearest: one sum over the coordinates for
-// each pyramid of the span.
+// Per question, `ask` notes how far out each coordinate is asked for, and `prepare` fills its tables. The distance is convex in the height, so over the
+// heights of a span in one pyramid its nearest height, clamped to them, is nearest: one sum over the coordinates in the first and the last pyramid of a
+// span, and one look into a table for each between them.
 ghost use mathlib.Core.Path.{_≡_};
 ghost use Prim.Native.Nat.{min, _+_, _-_, _<_, _≤_};
 ghost use lib.ListN.{length};

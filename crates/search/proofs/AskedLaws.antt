@@ -77,6 +77,7 @@ preparable asked near whole s n w =
     record {
       some = omega (arith, s .point .some, length-take (sizeOf asked) asked);
       packed = s .packed;
+      ordered = rw (s .is) (plain-ordered (pointOf (lowEnds asked)));
       asks = rw (s .is) (plain-asks 1000 (pointOf (lowEnds asked)) (omega arith) (in-range (s .point .ranges)));
       places = n;
       wholes = w;

@@ -4,7 +4,6 @@ use mathlib.Core.Path.{_∙_}
 use Rattle.geometry.specs.Questions.{askedOf}
 use Rattle.geometry.proofs.BoundLaws.{bound-read}
 use Rattle.geometry.proofs.PackedLaws.{asked-length, asked-few}
-use borrow.Author.Needs.{needs}
 use Rattle.geometry.proofs.bounds.bound.Statement.{statement}
 use Rattle.geometry.proofs.bounds.bound.Tie as tie
 

@@ -9,7 +9,6 @@ use Rattle.geometry.specs.Slices.{lowestOf}
 use Rattle.geometry.proofs.PackedLaws.{asked-length, asked-few}
 use Rattle.geometry.proofs.SpanLaws.{lowest-le-one}
 use Rattle.geometry.proofs.WholeLaws.{bound-one, bound-more}
-use borrow.Author.Needs.{needs}
 use Rattle.geometry.proofs.bounds.bound_between.Statement.{statement}
 use Rattle.geometry.proofs.bounds.bound_between.Tie as tie
 

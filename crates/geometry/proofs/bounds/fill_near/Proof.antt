@@ -1,7 +1,6 @@
 -- `bounds::fill_near` meets its contract: filling the rows leaves the heights.
 use borrow.Author.Needs.{needs}
 use Rattle.geometry.proofs.WholeLaws.{heights-over}
-use borrow.Author.Needs.{needs}
 use Rattle.geometry.proofs.bounds.fill_near.Statement.{statement}
 use Rattle.geometry.proofs.bounds.fill_near.Tie as tie
 

@@ -8,7 +8,6 @@ use Rattle.geometry.specs.Questions.{askedOf}
 use Rattle.geometry.specs.Slices.{lowestOf}
 use Rattle.geometry.proofs.PackedLaws.{asked-length, asked-few}
 use Rattle.geometry.proofs.WholeLaws.{least-whole, least-sliced}
-use borrow.Author.Needs.{needs}
 use Rattle.geometry.proofs.bounds.least_in.Statement.{statement}
 use Rattle.geometry.proofs.bounds.least_in.Tie as tie
 

@@ -1,7 +1,6 @@
 -- `heights::all_pulls` meets its contract: the second eight stand 256 places on.
 use borrow.Author.Needs.{needs}
 use Rattle.geometry.proofs.FillLaws.{all-is}
-use borrow.Author.Needs.{needs}
 use Rattle.geometry.proofs.heights.all_pulls.Statement.{statement}
 use Rattle.geometry.proofs.heights.all_pulls.Tie as tie
 

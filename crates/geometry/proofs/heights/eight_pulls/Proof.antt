@@ -2,7 +2,6 @@
 use native.Mathlib.Omega.{arith}
 use borrow.Author.Needs.{needs}
 use Rattle.geometry.proofs.FillLaws.{eight-is}
-use borrow.Author.Needs.{needs}
 use Rattle.geometry.proofs.heights.eight_pulls.Statement.{statement}
 use Rattle.geometry.proofs.heights.eight_pulls.Tie as tie
 

@@ -9,7 +9,6 @@ use Rattle.geometry.specs.Lanes.{oddOf}
 use Rattle.geometry.proofs.PackedLaws.{asked-few}
 use Rattle.geometry.proofs.SlopeLaws.{low-le}
 use Rattle.geometry.proofs.FillLaws.{reach-at-most, falls-more}
-use borrow.Author.Needs.{needs}
 use Rattle.geometry.proofs.heights.fill_fall.Statement.{statement}
 use Rattle.geometry.proofs.heights.fill_fall.Tie as tie
 

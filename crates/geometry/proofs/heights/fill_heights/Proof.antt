@@ -4,7 +4,6 @@ use borrow.Author.Needs.{needs}
 use mathlib.Core.Path.{_∙_}
 use Rattle.geometry.proofs.PackedLaws.{asked-length, asked-few}
 use Rattle.geometry.proofs.FillLaws.{copied-nearest}
-use borrow.Author.Needs.{needs}
 use Rattle.geometry.proofs.heights.fill_heights.Statement.{statement}
 use Rattle.geometry.proofs.heights.fill_heights.Tie as tie
 

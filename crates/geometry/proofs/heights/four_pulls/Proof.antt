@@ -5,7 +5,6 @@ use mathlib.Core.Path.{ap, _∙_}
 use Prim.Native.Nat.{ℕ, _+_, _*_, _-_}
 use lib.ListN.{getD}
 use Rattle.geometry.proofs.FillLaws.{four-is}
-use borrow.Author.Needs.{needs}
 use Rattle.geometry.proofs.heights.four_pulls.Statement.{statement}
 use Rattle.geometry.proofs.heights.four_pulls.Tie as tie
 

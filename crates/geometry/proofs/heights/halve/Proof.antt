@@ -1,7 +1,6 @@
 -- `heights::halve` meets its contract: as many coordinates are summed as the lanes may have.
 use borrow.Author.Needs.{needs}
 use Rattle.geometry.proofs.FillLaws.{summed-4, summed-8, summed-16}
-use borrow.Author.Needs.{needs}
 use Rattle.geometry.proofs.heights.halve.Statement.{statement}
 use Rattle.geometry.proofs.heights.halve.Tie as tie
 

@@ -2,7 +2,6 @@
 use native.Mathlib.Omega.{arith}
 use borrow.Author.Needs.{needs}
 use Rattle.geometry.proofs.TableLaws.{zero-at}
-use borrow.Author.Needs.{needs}
 use Rattle.geometry.proofs.heights.nearest_lanes.Statement.{statement}
 use Rattle.geometry.proofs.heights.nearest_lanes.Tie as tie
 

@@ -7,7 +7,6 @@ use lib.Dec.{eqb}
 use lib.ListN.{getD, replicate}
 use Rattle.lists.specs.Basics.{pick}
 use Rattle.geometry.proofs.OneLaws.{one-nearest}
-use borrow.Author.Needs.{needs}
 use Rattle.geometry.proofs.heights.nearest_one.Statement.{statement}
 use Rattle.geometry.proofs.heights.nearest_one.Tie as tie
 

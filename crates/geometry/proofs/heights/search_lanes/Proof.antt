@@ -7,7 +7,6 @@ use Rattle.geometry.specs.Questions.{sizeOf}
 use Rattle.geometry.specs.Lanes.{lanesOf}
 use Rattle.geometry.proofs.PackedLaws.{asked-few}
 use Rattle.geometry.proofs.FillLaws.{lanes-few, lanes-cover, lanes-enough, falls-none}
-use borrow.Author.Needs.{needs}
 use Rattle.geometry.proofs.heights.search_lanes.Statement.{statement}
 use Rattle.geometry.proofs.heights.search_lanes.Tie as tie
 

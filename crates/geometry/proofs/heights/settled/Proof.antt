@@ -1,9 +1,9 @@
 -- `heights::settled` meets its contract: the test of `settledAt`.
+use native.Mathlib.Omega.{arith}
 use borrow.Author.Needs.{needs}
 use mathlib.Core.Path.{ap, _∙_}
 use Prim.Native.Nat.{ℕ, _+_, _*_, _-_}
 use Rattle.geometry.proofs.FillLaws.{stays, moves}
-use borrow.Author.Needs.{needs}
 use Rattle.geometry.proofs.heights.settled.Statement.{statement}
 use Rattle.geometry.proofs.heights.settled.Tie as tie
 
@@ -23,13 +23,13 @@ returns : tie.Need-returns
 returns c =
     let a = c .before .before .before .args in
     let e = c .before .pull .ensures .0 ∙ ap (λ (x : ℕ). a .weight * x) (c .before .before .above .ensures) in
-    stays (a .sum) _ _ (a .h) (a .h + a .step) e (c .if1 .taken)
+    stays (a .sum) _ _ (a .h) (a .h + a .step) e (omega (arith, c .if1 .taken))
 
 returns-2 : tie.Need-returns-2
 returns-2 c =
     let a = c .before .before .before .args in
     let e = c .before .pull .ensures .0 ∙ ap (λ (x : ℕ). a .weight * x) (c .before .before .above .ensures) in
-    moves (a .sum) _ _ (a .h) (a .h + a .step) e (c .if1 .left)
+    moves (a .sum) _ _ (a .h) (a .h + a .step) e (omega (arith, c .if1 .left))
 
 pub settled-spec : {M : Type 1} → statement M
 settled-spec =

@@ -7,7 +7,6 @@ use Rattle.geometry.proofs.PackedLaws.{asked-few}
 use Rattle.geometry.proofs.TableLaws.{width-le}
 use Rattle.geometry.proofs.WholeLaws.{slice-of}
 use Rattle.geometry.specs.Questions.{sizeOf}
-use borrow.Author.Needs.{needs}
 use Rattle.geometry.proofs.slices.slice_in.Statement.{statement}
 use Rattle.geometry.proofs.slices.slice_in.Tie as tie
 

@@ -6,7 +6,6 @@ use Rattle.geometry.proofs.PackedLaws.{asked-few}
 use Rattle.geometry.proofs.TableLaws.{width-le}
 use Rattle.geometry.proofs.WholeLaws.{rows-over}
 use Rattle.geometry.specs.Questions.{sizeOf}
-use borrow.Author.Needs.{needs}
 use Rattle.geometry.proofs.tables.fill_rows.Statement.{statement}
 use Rattle.geometry.proofs.tables.fill_rows.Tie as tie
 

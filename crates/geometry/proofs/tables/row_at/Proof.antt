@@ -3,7 +3,6 @@ use native.Mathlib.Omega.{arith}
 use borrow.Author.Needs.{needs}
 use mathlib.Core.Path.{_∙_}
 use Rattle.geometry.proofs.TableLaws.{row-same, row-after, row-before}
-use borrow.Author.Needs.{needs}
 use Rattle.geometry.proofs.tables.row_at.Statement.{statement}
 use Rattle.geometry.proofs.tables.row_at.Tie as tie
 
