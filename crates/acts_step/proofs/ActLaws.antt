@@ -10,16 +10,17 @@ use borrow.Author.Tests.{eq-eqb, ne-eqb}
 use Rattle.candidates.specs.declared.Row.{Row}
 use Rattle.candidates.specs.Held.{rowsOf, rowsIn}
 use Rattle.search.specs.Visit.{Answer as Found}
-use Rattle.lending.specs.declared.Outcome.{Outcome}
+use Rattle.lending.specs.declared.Answer.{Answer}
 use Rattle.index.specs.Refusals.{First, insertRules, deleteRules}
 use Rattle.index.specs.Outcomes.{insertedWith, deletedWith, foundWith, nothingFound}
+use Rattle.index.specs.Asking.{Question}
 use Rattle.index.specs.Acts.{Act, insert, delete, question}
 use Rattle.index.specs.Questions.{QuestionOutcome}
 use Rattle.acts_text.specs.declared.ActLine.{ActLine}
 use Rattle.acts_text.specs.Bytes.{Written}
 use Rattle.acts_text.specs.Output.{resultLine}
 use Rattle.acts_step.specs.Printed.{rowLines, answerLines}
-use Rattle.acts_step.specs.Steps.{rowsLent, mostPrinted, pointOf, askedBy, Acted, Puts}
+use Rattle.acts_step.specs.Steps.{rowsLent, mostPrinted, pointOf, questionIn, askedBy, Acted, Asks, Puts}
 
 module _ (b c out out' : List ℕ) (n code at r : ℕ) (room : r ≤ at + 105) where
   pub inserted : (i : ℕ) (p : List ℤ) → i < 2 ^ 32 → First (insertRules b i p) code → c ≡ insertedWith code b i p → Written out out' at r (resultLine n code i 0 0)
@@ -50,9 +51,9 @@ lines-some n code leaves [] e = absurd (e refl)
 lines-some n code leaves (x ∷ xs) e = refl
 
 -- one that has rows is not refused
-rows-zero : (b : List ℕ) (p : List ℤ) (k m : ℕ) → length (foundWith m b p k .rows) ≢ 0 → m ≡ 0
-rows-zero b p k zero e = refl
-rows-zero b p k (suc m) e = absurd (e refl)
+rows-zero : (b : List ℕ) (w : Question) (m : ℕ) → length (foundWith m b w .rows) ≢ 0 → m ≡ 0
+rows-zero b w zero e = refl
+rows-zero b w (suc m) e = absurd (e refl)
 
 length-rows : (ds ts : List ℕ) → length (rowsOf ds ts) ≤ length ds
 unfolding rowsOf
@@ -60,52 +61,51 @@ length-rows [] ts = omega arith
 length-rows (d ∷ ds) [] = omega arith
 length-rows (d ∷ ds) (t ∷ ts) = omega (arith, length-rows ds ts)
 
-module _ (b : List ℕ) (p : List ℤ) (k : ℕ) (o : Outcome) (a : QuestionOutcome b p k 64 o) where
+module _ (b : List ℕ) (w : Question) (ds ts : List ℕ) (o : Answer) (a : QuestionOutcome b w 64 ds ts o) where
   abbrev answer : Found
-  answer = foundWith (o .answer .code) b p k
+  answer = foundWith (o .code) b w
 
   -- no more rows than there are places for them
-  pub rows-fit : o .list .count ≤ 64
+  pub rows-fit : o .count ≤ length ds
   rows-fit =
-      let e : o .list .count ≡ length (rowsIn (o .list .distances) (o .list .tags) (o .list .count)) = a .listed ∙ a .count ∙ ap length (sym (a .rows)) in
-      let l = length-take (o .list .count) (rowsOf (o .list .distances) (o .list .tags)) in
-      let m = length-rows (o .list .distances) (o .list .tags) in
-      let d = a .distances in omega arith
+      let e : o .count ≡ length (rowsIn ds ts (o .count)) = a .count ∙ ap length (sym (a .rows)) in
+      let l = length-take (o .count) (rowsOf ds ts) in
+      let m = length-rows ds ts in omega arith
 
   module _ (n : ℕ) (out out' : List ℕ) (at r : ℕ) where
-    pub asked-none : o .answer .count ≡ 0 → Written out out' at r (resultLine n (o .answer .code) 0 0 (o .answer .leaves)) → r ≤ at + 105
-        → Puts (Acted (question p k rowsLent) b n b) mostPrinted out out' at r
-    asked-none z w room = record {
-      text = resultLine n (o .answer .code) 0 0 (o .answer .leaves);
+    pub asked-none : o .count ≡ 0 → Written out out' at r (resultLine n (o .code) 0 0 (o .leaves)) → r ≤ at + 105
+        → Puts (Asks w b n) mostPrinted out out' at r
+    asked-none z t room = record {
+      text = resultLine n (o .code) 0 0 (o .leaves);
       says = record {
-        code = o .answer .code;
+        code = o .code;
         answer = answer;
         done = (a .first, refl, refl);
-        prints = ap (λ (x : ℕ). resultLine n (o .answer .code) 0 0 x) (a .leaves) ∙ lines-none n (o .answer .code) (answer .leaves) (answer .rows) (sym (a .count) ∙ z);
+        prints = ap (λ (x : ℕ). resultLine n (o .code) 0 0 x) (a .leaves) ∙ lines-none n (o .code) (answer .leaves) (answer .rows) (sym (a .count) ∙ z);
       };
-      written = w;
+      written = t;
       room = omega arith;
     }
 
-    pub asked-some : o .answer .count ≢ 0 → Puts (λ t. t ≡ rowLines n 0 (o .answer .leaves) (rowsIn (o .list .distances) (o .list .tags) (o .list .count))) mostPrinted out out' at r
-        → Puts (Acted (question p k rowsLent) b n b) mostPrinted out out' at r
-    asked-some z w =
+    pub asked-some : o .count ≢ 0 → Puts (λ t. t ≡ rowLines n 0 (o .leaves) (rowsIn ds ts (o .count))) mostPrinted out out' at r
+        → Puts (Asks w b n) mostPrinted out out' at r
+    asked-some z t =
         let some : length (answer .rows) ≢ 0 = λ e. z (a .count ∙ e) in
-        let zero : o .answer .code ≡ 0 = rows-zero b p k (o .answer .code) some in
+        let zero : o .code ≡ 0 = rows-zero b w (o .code) some in
         record {
-          text = w .text;
+          text = t .text;
           says = record {
-            code = o .answer .code;
+            code = o .code;
             answer = answer;
             done = (a .first, refl, refl);
-            prints = w .says
-                ∙ ap (λ (x : ℕ). rowLines n x (o .answer .leaves) (rowsIn (o .list .distances) (o .list .tags) (o .list .count))) (sym zero)
-                ∙ ap (λ (x : ℕ). rowLines n (o .answer .code) x (rowsIn (o .list .distances) (o .list .tags) (o .list .count))) (a .leaves)
-                ∙ ap (rowLines n (o .answer .code) (answer .leaves)) (a .rows)
-                ∙ lines-some n (o .answer .code) (answer .leaves) (answer .rows) some;
+            prints = t .says
+                ∙ ap (λ (x : ℕ). rowLines n x (o .leaves) (rowsIn ds ts (o .count))) (sym zero)
+                ∙ ap (λ (x : ℕ). rowLines n (o .code) x (rowsIn ds ts (o .count))) (a .leaves)
+                ∙ ap (rowLines n (o .code) (answer .leaves)) (a .rows)
+                ∙ lines-some n (o .code) (answer .leaves) (answer .rows) some;
           };
-          written = w .written;
-          room = w .room;
+          written = t .written;
+          room = t .room;
         }
 
 -- ---- THE ACT THAT A LINE ASKS FOR
@@ -117,7 +117,7 @@ module _ (a : ActLine) where
   is-delete : a .act ≡ 2 → delete (a .id) ≡ askedBy a
   is-delete e = rw (ne-eqb (a .act) 1 (λ (z : a .act ≡ 1). omega arith), eq-eqb (a .act) 2 e)
 
-  is-question : a .act ≢ 2 → a .act ≢ 1 → question (pointOf a) (a .k) 64 ≡ askedBy a
+  is-question : a .act ≢ 2 → a .act ≢ 1 → question (questionIn a) rowsLent ≡ askedBy a
   is-question e f = rw (ne-eqb (a .act) 1 f, ne-eqb (a .act) 2 e)
 
   module _ (b : List ℕ) (n : ℕ) (c out out' : List ℕ) (at r : ℕ) where
@@ -130,5 +130,5 @@ module _ (a : ActLine) where
     pub does-delete : a .act ≡ 2 → Does (delete (a .id)) → Does (askedBy a)
     does-delete e w = subst Does (is-delete e) w
 
-    pub does-question : a .act ≢ 2 → a .act ≢ 1 → Does (question (pointOf a) (a .k) 64) → Does (askedBy a)
+    pub does-question : a .act ≢ 2 → a .act ≢ 1 → Does (question (questionIn a) rowsLent) → Does (askedBy a)
     does-question e f w = subst Does (is-question e f) w

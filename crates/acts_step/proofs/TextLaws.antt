@@ -4,11 +4,11 @@ use mathlib.Core.Path.{_≡_, refl, sym, ap, _∙_, subst}
 use mathlib.Core.List.{List, [], _∷_, _++_, map, append-assoc}
 use Prim.Native.Nat.{ℕ, suc, _+_, _≤_}
 use native.Mathlib.Omega.{arith}
-use lib.IntN.{ℤ}
 use lib.ListN.{length}
 use Rattle.pagestore.specs.Store.{newIndex}
 use Rattle.search.specs.Visit.{Answer as Found}
 use Rattle.trees.specs.Sound.{Permitted}
+use Rattle.index.specs.Asking.{Question}
 use Rattle.index.specs.Acts.{Act, question, Done, Series, end, next, heldBy}
 use Rattle.index.specs.Acts as acts
 use Rattle.promises.specs.Series.{Stands, series}
@@ -83,16 +83,16 @@ module _ (b : List ℕ) (d : ℕ) (lent : Permitted (length b)) (low : 1 ≤ d) 
   text-stands r = series b d lent low high (runs-series r .1)
 
 -- a question that is carried out on index m prints the k nearest of the records held, and the exact number of leaves
-pub record Told (p : List ℤ) (k n : ℕ) (m t : List ℕ) : Type 0 where
+pub record Told (w : Question) (n : ℕ) (m t : List ℕ) : Type 0 where
   pub found : Found
-  pub nearest : Answers m p k found
+  pub nearest : Answers m w found
   pub lines : t ≡ answerLines n 0 (found .leaves) (found .rows)
 
-pub text-question : {n : ℕ} {m c t : List ℕ} (p : List ℤ) (k j : ℕ) (w : Acted (question p k j) m n c t) → w .code ≡ 0 → Told p k n m t
-text-question {n = n} {m = m} {c = c} p k j w z =
-    let h : acts.does (question p k j) m 0 (w .answer) c = subst (λ (x : ℕ). acts.does (question p k j) m x (w .answer) c) z (w .done) in
+pub text-question : {n : ℕ} {m c t : List ℕ} (w : Question) (j : ℕ) (a : Acted (question w j) m n c t) → a .code ≡ 0 → Told w n m t
+text-question {n = n} {m = m} {c = c} w j a z =
+    let h : acts.does (question w j) m 0 (a .answer) c = subst (λ (x : ℕ). acts.does (question w j) m x (a .answer) c) z (a .done) in
     record {
-      found = w .answer;
-      nearest = subst (Answers m p k) (sym (h .1)) (question-answers m p k j (h .0));
-      lines = w .prints ∙ ap (λ (x : ℕ). answerLines n x (w .answer .leaves) (w .answer .rows)) z;
+      found = a .answer;
+      nearest = subst (Answers m w) (sym (h .1)) (question-answers m w j (h .0));
+      lines = a .prints ∙ ap (λ (x : ℕ). answerLines n x (a .answer .leaves) (a .answer .rows)) z;
     }

@@ -20,5 +20,5 @@ answerLines n code leaves (x ∷ xs) = rowLines n code leaves (x ∷ xs)
 abbrev pub printed : ℕ → Act → ℕ → Found → List ℕ
 printed n (insert i p) code f = resultLine n code i 0 0
 printed n (delete i) code f = resultLine n code i 0 0
-printed n (question p k m) code f = answerLines n code (f .leaves) (f .rows)
+printed n (question w m) code f = answerLines n code (f .leaves) (f .rows)
 printed n check code f = []

@@ -10,6 +10,7 @@ use lib.ListN.{take}
 use Rattle.lists.specs.Basics.{pick}
 use Rattle.pagestore.specs.Store.{newIndex}
 use Rattle.search.specs.Visit.{Answer as Found}
+use Rattle.index.specs.Asking.{Question, nearestOf}
 use Rattle.index.specs.Acts.{Act, insert, delete, question, does}
 use Rattle.acts_text.specs.declared.ActLine.{ActLine}
 use Rattle.acts_text.specs.Bytes.{Written}
@@ -34,9 +35,13 @@ mostPrinted = rowsLent * 105
 abbrev pub pointOf : ActLine → List ℤ
 pointOf a = take (a .d) (a .coords)
 
+-- what it asks
+abbrev pub questionIn : ActLine → Question
+questionIn a = nearestOf (pointOf a) (a .k)
+
 -- act 1 inserts, 2 deletes, 3 questions
 abbrev pub askedBy : ActLine → Act
-askedBy a = pick (eqb (a .act) 1) (insert (a .id) (pointOf a)) (pick (eqb (a .act) 2) (delete (a .id)) (question (pointOf a) (a .k) rowsLent))
+askedBy a = pick (eqb (a .act) 1) (insert (a .id) (pointOf a)) (pick (eqb (a .act) 2) (delete (a .id)) (question (questionIn a) rowsLent))
 
 -- the act x of line n is done on index b: it leaves index c and prints t
 pub record Acted (x : Act) (b : List ℕ) (n : ℕ) (c t : List ℕ) : Type 0 where
@@ -44,6 +49,10 @@ pub record Acted (x : Act) (b : List ℕ) (n : ℕ) (c t : List ℕ) : Type 0 wh
   pub answer : Found
   pub done : does x b code answer c
   pub prints : t ≡ printed n x code answer
+
+-- line n asks the question w of index b and prints t
+abbrev pub Asks : Question → List ℕ → ℕ → List ℕ → Type 0
+Asks w b n t = Acted (question w rowsLent) b n b t
 
 -- line n of values, l, on index b of d features: it leaves index c and prints t
 pub data Steps (d : ℕ) (b : List ℕ) (n : ℕ) (l c t : List ℕ) : Type 0 where

@@ -3,15 +3,15 @@ ghost use mathlib.Core.Path.{_≡_};
 ghost use mathlib.Core.Bool.{true};
 ghost use Prim.Native.Nat.{_+_, _≤_};
 ghost use lib.ListN.{length};
-ghost use Rattle.index.specs.Acts.{insert, delete, question};
+ghost use Rattle.index.specs.Asking.{questionOf};
+ghost use Rattle.index.specs.Acts.{insert, delete};
 ghost use Rattle.candidates.specs.Held.{rowsIn};
 ghost use Rattle.acts_step.specs.Printed.{rowLines};
-ghost use Rattle.acts_step.specs.Steps.{rowsLent, mostPrinted, askedBy, Acted, Puts};
+ghost use Rattle.acts_step.specs.Steps.{rowsLent, mostPrinted, askedBy, Acted, Asks, Puts};
 use acts_text::ActLine;
 use acts_text::output::put_result;
 use candidates::row_of;
-use lending::Candidates;
-use search::Query;
+use index::Criteria;
 
 // The rows lent to a question.
 const ROWS: usize = 64;
@@ -68,16 +68,17 @@ fn put_rows(
 fn question_line(
     index: &[u8],
     point: &[i16],
-    k: u32,
+    what: Criteria,
     number: u64,
     out: &mut [u8],
     at: usize,
 ) -> usize
     requires { ⌜ at + mostPrinted ≤ length (now out) ⌝ }
-    ensures { λ r. ⌜ Puts (Acted (question (now (point .entry)) k rowsLent) (now (index .entry)) number (now (index .entry))) mostPrinted (now (out .entry)) (now (out .exit)) at r ⌝ }
+    ensures { λ r. ⌜ Puts (Asks (questionOf (now (point .entry)) what) (now (index .entry)) number) mostPrinted (now (out .entry)) (now (out .exit)) at r ⌝ }
 {
-    let o = index::question_outcome(index, point, Query { k: k as usize }, ROWS);
-    let answer = o.answer;
+    let mut distances = [0u64; 64];
+    let mut tags = [0u64; 64];
+    let answer = index::question_outcome(index, point, what, ROWS, &mut distances, &mut tags);
     if answer.count == 0 {
         return put_result(
             out,
@@ -89,9 +90,6 @@ fn question_line(
             answer.leaves as u64,
         );
     }
-    let list = o.list;
-    let distances = list.distances;
-    let tags = list.tags;
     put_rows(
         out,
         at,
@@ -99,7 +97,7 @@ fn question_line(
         answer.leaves as u64,
         &distances,
         &tags,
-        list.count,
+        answer.count,
     )
 }
 
@@ -116,5 +114,6 @@ pub fn do_act(index: &mut [u8], a: ActLine, number: u64, out: &mut [u8], at: usi
     if a.act == 1 {
         return insert_line(index, a.id, &coords[..d], number, out, at);
     }
-    question_line(index, &coords[..d], a.k, number, out, at)
+    let k = a.k as usize;
+    question_line(index, &coords[..d], Criteria { k: k }, number, out, at)
 }

@@ -1,8 +1,8 @@
 -- Rows held in two arrays: the distances, and the tags.
 use mathlib.Core.Path.{_≡_}
-use mathlib.Core.Bool.{Bool, false}
+use mathlib.Core.Bool.{Bool, true, false}
 use mathlib.Core.List.{List, [], _∷_}
-use Prim.Native.Nat.{ℕ, _-_, _≤_}
+use Prim.Native.Nat.{ℕ, _-_, _≤_, _<_}
 use lib.Dec.{ltb, eqb}
 use lib.ListN.{length, getD, take, drop}
 use Rattle.lists.specs.Basics.{pick}
@@ -34,6 +34,11 @@ pub record Offered (distances tags : List ℕ) (n k : ℕ) (x : Row) (r : ℕ) (
   pub held : Held distances' tags' r k
   pub rows : rowsIn distances' tags' r ≡ sorting.offer rowOrder k x (rowsIn distances tags n)
   pub past : (drop r distances' ≡ drop r distances) × (drop r tags' ≡ drop r tags)
+
+-- whether the row before index i is not before row x; there is none before index 0
+pub record GivesWay (distances tags : List ℕ) (i : ℕ) (x : Row) (r : Bool) : Type 0 where
+  pub gives : r ≡ true → (0 < i) × (rowOrder (rowOf (getD distances (i - 1) 0) (getD tags (i - 1) 0)) x ≡ false)
+  pub stays : r ≡ false → 0 < i → rowOrder (rowOf (getD distances (i - 1) 0) (getD tags (i - 1) 0)) x ≡ true
 
 -- there are k rows, and the k-th is nearer than a distance
 abbrev pub behindAll : List ℕ → ℕ → ℕ → ℕ → Bool

@@ -1,10 +1,9 @@
 // The candidates of a question: the best rows so far, in row order, held in two lent arrays.
 ghost use mathlib.Core.Path.{_≡_};
-ghost use Prim.Native.Nat.{_≤_, _<_, min};
+ghost use Prim.Native.Nat.{_+_, _≤_, _<_};
 ghost use lib.ListN.{length};
-ghost use Rattle.lists.specs.Sorting.{count, putIn};
 ghost use Rattle.candidates.specs.Rows.{rowOrder, rowOf, tagOf};
-ghost use Rattle.candidates.specs.Held.{rowsIn, behindAll, Held, Offered, Stops};
+ghost use Rattle.candidates.specs.Held.{behindAll, GivesWay, Held, Offered, Stops};
 
 // A row (01): the squared distance and the identifier of a record, and the position of the leaf that holds it.
 #[repr(C)]
@@ -49,45 +48,30 @@ fn precedes(d: u64, t: u64, distance: u64, tag: u64) -> bool
     t < tag
 }
 
-// The number of the n rows that are before the row of (distance, tag). It looks from the last on, so that a row behind
-// all of them costs one comparison.
-fn place(distances: &[u64], tags: &[u64], n: usize, distance: u64, tag: u64) -> usize
-    requires { ⌜ Held (now distances) (now tags) n n ⌝ }
-    ensures { λ r. ⌜ r ≡ count (λ x. rowOrder x (rowOf distance tag)) (rowsIn (now (distances .entry)) (now (tags .entry)) n) ⌝ }
+// Whether there is a row before index i that is not before the row of (distance, tag).
+fn gives_way(distances: &[u64], tags: &[u64], i: usize, distance: u64, tag: u64) -> bool
+    requires { ⌜ (i ≤ length (now distances)) × (i ≤ length (now tags)) ⌝ }
+    ensures { λ r. ⌜ GivesWay (now (distances .entry)) (now (tags .entry)) i (rowOf distance tag) r ⌝ }
+{
+    if i == 0 {
+        return false;
+    }
+    !precedes(distances[i - 1], tags[i - 1], distance, tag)
+}
+
+// Puts the row of (distance, tag) in among the n rows, from the last on; those behind it move up by one.
+fn slide(distances: &mut [u64], tags: &mut [u64], n: usize, distance: u64, tag: u64)
+    requires { ⌜ Held (now distances) (now tags) n (n + 1) ⌝ }
+    ensures { λ r. ⌜ Offered (now (distances .entry)) (now (tags .entry)) n (n + 1) (rowOf distance tag) (n + 1) (now (distances .exit)) (now (tags .exit)) ⌝ }
 {
     let mut i = n;
-    while 0 < i {
-        let j = i - 1;
-        let first = precedes(distances[j], tags[j], distance, tag);
-        if first {
-            return i;
-        }
-        i = j;
+    while gives_way(distances, tags, i, distance, tag) {
+        distances[i] = distances[i - 1];
+        tags[i] = tags[i - 1];
+        i -= 1;
     }
-    i
-}
-
-// Puts x in at index `at`; those from there on move up by one, and the one at index n is lost.
-fn put(words: &mut [u64], at: usize, n: usize, x: u64)
-    requires { ⌜ (at ≤ n) × (n < length (now words)) ⌝ }
-    ensures { λ r. ⌜ now (words .exit) ≡ putIn at n x (now (words .entry)) ⌝ }
-{
-    let mut carry = x;
-    let mut i = at;
-    while i < n {
-        let here = words[i];
-        words[i] = carry;
-        carry = here;
-        i += 1;
-    }
-    words[i] = carry;
-}
-
-// The lesser of two numbers.
-fn lesser(a: usize, b: usize) -> usize
-    ensures { λ r. ⌜ r ≡ min a b ⌝ }
-{
-    if a < b { a } else { b }
+    distances[i] = distance;
+    tags[i] = tag;
 }
 
 // Whether there are k rows, the k-th of them nearer than a distance: a row that far is behind all of them.
@@ -110,18 +94,16 @@ pub fn offer(distances: &mut [u64], tags: &mut [u64], n: usize, k: usize, row: R
     ensures { λ r. ⌜ Offered (now (distances .entry)) (now (tags .entry)) n k row r (now (distances .exit)) (now (tags .exit)) ⌝ }
 {
     let distance = row.distance;
-    if behind(distances, n, k, distance) {
-        return n;
-    }
     let tag = tag(row);
-    let at = place(distances, tags, n, distance, tag);
-    if at == k {
+    if n < k {
+        slide(distances, tags, n, distance, tag);
+        return n + 1;
+    }
+    if !gives_way(distances, tags, n, distance, tag) {
         return n;
     }
-    let last = lesser(n, k - 1);
-    put(distances, at, last, distance);
-    put(tags, at, last, tag);
-    last + 1
+    slide(distances, tags, n - 1, distance, tag);
+    n
 }
 
 // Whether there are k rows and the bound exceeds the k-th distance.

@@ -1,6 +1,7 @@
 // The acts for programs in C and other languages (include/epoch_index.h, include/epoch_index_unchecked.h). Each is the act of `index` and promises what that promises.
 ghost use mathlib.Core.Path.{_≡_};
 ghost use lib.ListN.{length};
+ghost use Rattle.index.specs.Asking.{nearestOf};
 ghost use Rattle.index.specs.CheckAnswers.{CheckAnswer};
 ghost use Rattle.index.specs.Refusals.{First, makeRules, insertRules, deleteRules};
 ghost use Rattle.index.specs.Outcomes.{madeWith, insertedWith, deletedWith};
@@ -8,11 +9,11 @@ ghost use Rattle.index.specs.Questions.{Questioned};
 ghost use Rattle.index.specs.Trusted.{trustedInsert, trustedDelete, TrustedQuestioned};
 ghost use Rattle.index.specs.Vouched.{vouchedInsert, vouchedDelete, vouchedDeletedWith};
 use candidates::Row;
+use index::Criteria;
 use index::trusted;
 use index::vouched;
 use lending::Answer;
 use lending::Tally;
-use search::Query;
 
 // Makes an empty index of some features in the bytes lent.
 #[no_mangle]
@@ -57,10 +58,10 @@ pub extern "C" fn epoch_index_question(
     rows: &mut [Row],
     tally: &mut Tally,
 ) -> Answer
-    ensures { λ r. ⌜ Questioned (now (index .entry)) (now (point .entry)) k (now (rows .entry)) (now (tally .entry)) r (now (rows .exit)) (now (tally .exit)) ⌝ }
+    ensures { λ r. ⌜ Questioned (now (index .entry)) (nearestOf (now (point .entry)) k) (now (rows .entry)) (now (tally .entry)) r (now (rows .exit)) (now (tally .exit)) ⌝ }
 {
-    let query = Query { k: k };
-    index::question(index, point, query, rows, tally)
+    let what = Criteria { k: k };
+    index::question(index, point, what, rows, tally)
 }
 
 // Inserts an identifier with its point, without the check.
@@ -88,10 +89,10 @@ pub extern "C" fn epoch_index_trusted_question(
     rows: &mut [Row],
     tally: &mut Tally,
 ) -> Answer
-    ensures { λ r. ⌜ TrustedQuestioned (now (index .entry)) (now (point .entry)) k (now (rows .entry)) (now (tally .entry)) r (now (rows .exit)) (now (tally .exit)) ⌝ }
+    ensures { λ r. ⌜ TrustedQuestioned (now (index .entry)) (nearestOf (now (point .entry)) k) (now (rows .entry)) (now (tally .entry)) r (now (rows .exit)) (now (tally .exit)) ⌝ }
 {
-    let query = Query { k: k };
-    trusted::question(index, point, query, rows, tally)
+    let what = Criteria { k: k };
+    trusted::question(index, point, what, rows, tally)
 }
 
 // Inserts an identifier, which the caller vouches is not live, with its point, without the check.

@@ -6,8 +6,8 @@ ghost use Prim.Native.Nat.{_≤_, _<_};
 ghost use lib.ListN.{length};
 use example_parts::show::line;
 use example_parts::show::text;
-use lending::Outcome;
-use search::Query;
+use index::Criteria;
+use lending::Answer;
 
 // 1 if a length is not permitted.
 fn refused_length(bytes: usize) -> u64 {
@@ -21,15 +21,28 @@ fn show_permitted() {
     line(b"length 16778240", refused_length(16778240), 1);
 }
 
+// The answer to a question with so many rows lent.
+fn answer_to(index: &[u8], point: &[i16], k: usize, lent: usize) -> Answer {
+    let mut distances = [0u64; 64];
+    let mut tags = [0u64; 64];
+    index::question_outcome(
+        index,
+        point,
+        Criteria { k: k },
+        lent,
+        &mut distances,
+        &mut tags,
+    )
+}
+
 // A question of two coordinates with some rows lent.
-fn ask(index: &[u8], x: i16, y: i16, k: usize, lent: usize) -> Outcome {
+fn ask(index: &[u8], x: i16, y: i16, k: usize, lent: usize) -> Answer {
     let point = [x, y];
-    index::question_outcome(index, &point, Query { k: k }, lent)
+    answer_to(index, &point, k, lent)
 }
 
 fn ask_code(index: &[u8], x: i16, k: usize, lent: usize) -> u64 {
-    let o = ask(index, x, 0, k, lent);
-    let answer = o.answer;
+    let answer = ask(index, x, 0, k, lent);
     answer.code as u64
 }
 
@@ -82,8 +95,7 @@ fn least(index: &mut [u8]) {
     );
 }
 
-fn show_answer(o: Outcome, rows: u64, leaves: u64) {
-    let answer = o.answer;
+fn show_answer(answer: Answer, rows: u64, leaves: u64) {
     line(b"  code", answer.code as u64, 0);
     line(b"  rows", answer.count as u64, rows);
     line(b"  leaves read", answer.leaves as u64, leaves);
@@ -142,8 +154,7 @@ fn refused_deletes(index: &mut [u8]) {
 
 fn ask_single(index: &[u8]) -> u64 {
     let point = [0i16];
-    let o = index::question_outcome(index, &point, Query { k: 0 }, 0);
-    let answer = o.answer;
+    let answer = answer_to(index, &point, 0, 0);
     answer.code as u64
 }
 

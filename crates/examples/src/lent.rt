@@ -1,13 +1,14 @@
 // The public question, in rows and with a tally that the program lends.
 ghost use Prim.Native.Nat.{_≤_, _<_};
+ghost use Rattle.index.specs.Asking.{questionOf};
 ghost use Rattle.index.specs.Questions.{Questioned};
 use candidates::Row;
 use example_parts::places::coordinate;
 use example_parts::show::line;
 use example_parts::show::text;
+use index::Criteria;
 use lending::Answer;
 use lending::Tally;
-use search::Query;
 
 // An answer, with the rows and the tally after it.
 pub struct Kept {
@@ -17,8 +18,8 @@ pub struct Kept {
 }
 
 // Asks with 64 rows and a tally that are held by value, so that callers need no proof by hand.
-fn ask(index: &[u8], point: &[i16], what: Query, rows: [Row; 64], tally: Tally) -> Kept
-    ensures { λ r. ⌜ Questioned (now (index .entry)) (now (point .entry)) (what .k) rows tally (r .answer) (r .rows) (r .tally) ⌝ }
+fn ask(index: &[u8], point: &[i16], what: Criteria, rows: [Row; 64], tally: Tally) -> Kept
+    ensures { λ r. ⌜ Questioned (now (index .entry)) (questionOf (now (point .entry)) what) rows tally (r .answer) (r .rows) (r .tally) ⌝ }
 {
     let mut kept = rows;
     let mut count = tally;
@@ -35,7 +36,7 @@ fn ask_at(index: &[u8], n: u16, k: usize, rows: [Row; 64], tally: Tally) -> Kept
     requires { ⌜ n ≤ 17 ⌝ }
 {
     let point = [coordinate(1000 + n)];
-    ask(index, &point, Query { k: k }, rows, tally)
+    ask(index, &point, Criteria { k: k }, rows, tally)
 }
 
 fn show_answer(answer: Answer, code: u64, rows: u64, leaves: u64) {

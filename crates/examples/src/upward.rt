@@ -8,12 +8,11 @@ use example_parts::listing::list_leaves;
 use example_parts::places::coordinate;
 use example_parts::show::line;
 use example_parts::show::text;
-use lending::Candidates;
-use lending::Outcome;
+use index::Criteria;
+use lending::Answer;
 use pagestore::free_count;
 use pagestore::fresh_page;
 use pagestore::leaf_at;
-use search::Query;
 
 // Inserts identifier n at n.
 fn insert_one(index: &mut [u8], n: u16) -> u32
@@ -96,46 +95,47 @@ fn show_check(index: &[u8]) {
 }
 
 // The question for the k nearest of the point n.
-fn ask(index: &[u8], n: u16, k: usize) -> Outcome
-    requires { ⌜ n ≤ 17 ⌝ }
+fn ask(index: &[u8], n: u16, k: usize, distances: &mut [u64], tags: &mut [u64]) -> Answer
+    requires { ⌜ (n ≤ 17) × (length (now distances) ≡ 64) × (length (now tags) ≡ 64) ⌝ }
 {
     let point = [coordinate(1000 + n)];
-    index::question_outcome(index, &point, Query { k: k }, 64)
+    index::question_outcome(index, &point, Criteria { k: k }, 64, distances, tags)
 }
 
-fn show_answer(o: Outcome, rows: u64, leaves: u64) {
-    let answer = o.answer;
+fn show_answer(answer: Answer, rows: u64, leaves: u64) {
     line(b"  code", answer.code as u64, 0);
     line(b"  rows", answer.count as u64, rows);
     line(b"  leaves read", answer.leaves as u64, leaves);
 }
 
-fn show_row(list: Candidates, i: usize, id: u64, distance: u64)
-    requires { ⌜ i < 64 ⌝ }
-{
-    let x = list.distances[i];
-    let tag = list.tags[i];
-    let row = row_of(x, tag);
+fn show_row(near: u64, tag: u64, id: u64, distance: u64) {
+    let row = row_of(near, tag);
     line(b"  identifier of a row", row.id as u64, id);
     line(b"  its distance", row.distance, distance);
 }
 
 fn ask_nine(index: &[u8]) {
+    let mut distances = [0u64; 64];
+    let mut tags = [0u64; 64];
     text(b"from 9, k 1\n");
-    show_answer(ask(index, 9, 1), 1, 1);
+    let one = ask(index, 9, 1, &mut distances, &mut tags);
+    show_answer(one, 1, 1);
     text(b"from 9, k 2\n");
-    let o = ask(index, 9, 2);
-    show_answer(o, 2, 2);
-    let list = o.list;
-    show_row(list, 0, 9, 0);
-    show_row(list, 1, 8, 1);
+    let two = ask(index, 9, 2, &mut distances, &mut tags);
+    show_answer(two, 2, 2);
+    show_row(distances[0], tags[0], 9, 0);
+    show_row(distances[1], tags[1], 8, 1);
 }
 
 fn ask_one(index: &[u8]) {
+    let mut distances = [0u64; 64];
+    let mut tags = [0u64; 64];
     text(b"from 1, k 9\n");
-    show_answer(ask(index, 1, 9), 9, 1);
+    let nine = ask(index, 1, 9, &mut distances, &mut tags);
+    show_answer(nine, 9, 1);
     text(b"from 1, k 18\n");
-    show_answer(ask(index, 1, 18), 17, 2);
+    let all = ask(index, 1, 18, &mut distances, &mut tags);
+    show_answer(all, 17, 2);
 }
 
 fn delete_one(index: &mut [u8]) {

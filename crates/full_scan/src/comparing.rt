@@ -2,6 +2,7 @@
 ghost use mathlib.Core.Path.{_≡_};
 ghost use Prim.Native.Nat.{_≤_, _<_, _*_};
 ghost use lib.ListN.{length};
+ghost use Rattle.index.specs.Questions.{Places};
 use crate::leaves::fill_table;
 use crate::leaves::holds;
 use crate::leaves::set_count;
@@ -10,9 +11,8 @@ use crate::scan::measure;
 use crate::scan::take;
 use candidates::Row;
 use candidates::row_of;
-use lending::Candidates;
-use lending::Outcome;
-use search::Query;
+use index::Criteria;
+use lending::Answer;
 
 // What a question asks for: the features, k, the number of points that are live and of leaves.
 pub struct Asked {
@@ -27,14 +27,6 @@ pub struct Seen {
     pub rows: u64,
     pub leaves: u64,
     pub differences: u64,
-}
-
-fn row_at(list: Candidates, i: usize) -> Row
-    requires { ⌜ i < 64 ⌝ }
-{
-    let distance = list.distances[i];
-    let tag = list.tags[i];
-    row_of(distance, tag)
 }
 
 // 1 if a row is not the one that the scan finds next, or is not held by the leaf at its position.
@@ -55,21 +47,22 @@ fn compare_row(index: &[u8], pages: &[u32], distances: &mut [u64], row: Row) -> 
     1
 }
 
-// How many of the n rows differ.
+// How many of the n rows of near and tags differ.
 fn compare_rows(
     index: &[u8],
     pages: &[u32],
     distances: &mut [u64],
-    list: Candidates,
+    near: &[u64],
+    tags: &[u64],
     n: usize,
 ) -> u64
-    requires { ⌜ (n ≤ 64) × (0 < length (now distances)) ⌝ }
+    requires { ⌜ (n ≤ 64) × Places (now near) (now tags) × (0 < length (now distances)) ⌝ }
     ensures { λ r. ⌜ (r ≤ 64) × (length (now (distances .exit)) ≡ length (now (distances .entry))) ⌝ }
 {
     let mut differences: u64 = 0;
     let mut i = 0;
     while i < n {
-        differences += compare_row(index, pages, distances, row_at(list, i));
+        differences += compare_row(index, pages, distances, row_of(near[i], tags[i]));
         i += 1;
     }
     differences
@@ -96,14 +89,13 @@ fn differ(a: u64, b: u64) -> u64
 }
 
 // The distance of the last of n rows, 0 if there is none.
-fn last_distance(list: Candidates, n: usize) -> u64
-    requires { ⌜ n ≤ 64 ⌝ }
+fn last_distance(near: &[u64], n: usize) -> u64
+    requires { ⌜ n ≤ length (now near) ⌝ }
 {
     if n == 0 {
         return 0;
     }
-    let i = n - 1;
-    list.distances[i]
+    near[n - 1]
 }
 
 // A question that was refused, or returned another number of rows.
@@ -122,12 +114,12 @@ fn compare(
     distances: &mut [u64],
     table: &[u64],
     asked: Asked,
-    o: Outcome,
+    answer: Answer,
+    near: &[u64],
+    tags: &[u64],
 ) -> Seen
-    requires { ⌜ (1 ≤ asked .d) × (asked .d ≤ 16) × (asked .leaves ≤ length (now pages)) × (length (now table) ≡ 32032) × (0 < length (now distances)) ⌝ }
+    requires { ⌜ (1 ≤ asked .d) × (asked .d ≤ 16) × (asked .leaves ≤ length (now pages)) × (length (now table) ≡ 32032) × (0 < length (now distances)) × Places (now near) (now tags) ⌝ }
 {
-    let answer = o.answer;
-    let list = o.list;
     let n = answer.count;
     if answer.code != 0 {
         return wrong();
@@ -138,8 +130,8 @@ fn compare(
     if 64 < n {
         return wrong();
     }
-    let last = last_distance(list, n);
-    let rows = compare_rows(index, pages, distances, list, n);
+    let last = last_distance(near, n);
+    let rows = compare_rows(index, pages, distances, near, tags, n);
     let wanted = leaves_wanted(index, pages, table, last, asked);
     let leaves = answer.leaves as u64;
     Seen {
@@ -150,11 +142,11 @@ fn compare(
 }
 
 // The question for the k nearest of the point with these places.
-fn ask(index: &[u8], q: &[u16], d: usize, k: usize) -> Outcome
-    requires { ⌜ (d ≤ 16) × (16 ≤ length (now q)) ⌝ }
+fn ask(index: &[u8], q: &[u16], d: usize, k: usize, near: &mut [u64], tags: &mut [u64]) -> Answer
+    requires { ⌜ (d ≤ 16) × (16 ≤ length (now q)) × Places (now near) (now tags) ⌝ }
 {
     let point = point_at(q, 0);
-    index::question_outcome(index, &point[..d], Query { k: k }, 64)
+    index::question_outcome(index, &point[..d], Criteria { k: k }, 64, near, tags)
 }
 
 // Works out what a full scan says of the point q.
@@ -181,6 +173,8 @@ pub fn ask_from(
 {
     let d = asked.d;
     prepare(distances, table, places, live, &q[..d]);
-    let o = ask(index, q, d, asked.k);
-    compare(index, pages, distances, table, asked, o)
+    let mut near = [0u64; 64];
+    let mut tags = [0u64; 64];
+    let answer = ask(index, q, d, asked.k, &mut near, &mut tags);
+    compare(index, pages, distances, table, asked, answer, &near, &tags)
 }

@@ -8,9 +8,10 @@ use lib.IntN.{ℤ, pos, negℤ}
 use lib.ListN.{length}
 use mathlib.Core.Logic.{inr}
 use Rattle.lists.specs.Basics.{All, none, also}
-use Rattle.geometry.proofs.ConvexLaws.{square-cost}
 use Rattle.geometry.proofs.BoundLaws.{bound-exact}
-use Rattle.geometry.specs.Points.{square, heightOf, axisAt, axisOf, pyramidOf}
+use Rattle.geometry.proofs.SliceLaws.{plain-ordered}
+use Rattle.geometry.specs.Points.{heightOf, axisAt, axisOf, pyramidOf}
+use Rattle.geometry.specs.Features.{plain, gapOf}
 use Rattle.geometry.specs.Slices.{Real, sideBy, sliceBy, axisNo, signNo, sliceAt, leastFrom, leastIn, boundTo, boundOf}
 use Rattle.geometry.specs.Examples.{pair, bound, Holds, examples}
 
@@ -18,18 +19,18 @@ pair-holds : (p : List ℤ) (i h : ℕ) → pyramidOf p ≡ i → heightOf p ≡
 pair-holds p i h a b = (a, b)
 
 -- a bound within one pyramid, by the function's value
-bound-holds : (q : List ℤ) (i lo hi B : ℕ) → 0 < length q → i < length q + length q → 0 < lo → lo ≤ hi → hi ≤ 1000 → boundOf square q i lo i hi ≡ B → Holds (bound q i lo i hi B)
+bound-holds : (q : List ℤ) (i lo hi B : ℕ) → 0 < length (plain q) → i < length (plain q) + length (plain q) → 0 < lo → lo ≤ hi → hi ≤ 1000 → boundOf (plain q) i lo i hi ≡ B → Holds (bound q i lo i hi B)
 bound-holds q i lo hi B l k z o t e =
-    let p : Real (length q) i lo = record { pyramid = k; height = omega arith; centre = λ w. absurd (omega arith) } in
-    let r : Real (length q) i hi = record { pyramid = k; height = t; centre = λ w. absurd (omega arith) } in
-    (rw e at (bound-exact square square-cost q i lo i hi l p r (inr (refl, o))), e)
+    let p : Real (length (plain q)) i lo = record { pyramid = k; height = omega arith; centre = λ w. absurd (omega arith) } in
+    let r : Real (length (plain q)) i hi = record { pyramid = k; height = t; centre = λ w. absurd (omega arith) } in
+    (rw e at (bound-exact (plain q) i lo i hi l (plain-ordered q) p r (inr (refl, o))), e)
 
 abbrev asked : List ℤ
 asked = pos 500 ∷ pos 0 ∷ []
 
 -- every example of the list holds
 pub figures-hold : All Holds examples
-unfolding boundOf boundTo leastIn leastFrom sliceAt sliceBy sideBy axisNo signNo heightOf axisAt axisOf pyramidOf
+unfolding plain gapOf boundOf boundTo leastIn leastFrom sliceAt sliceBy sideBy axisNo signNo heightOf axisAt axisOf pyramidOf
 figures-hold =
     also (pair-holds (pos 400 ∷ pos 400 ∷ []) 2 400 refl refl)
     (also (pair-holds (pos 0 ∷ pos 0 ∷ []) 2 0 refl refl)

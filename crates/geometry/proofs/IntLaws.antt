@@ -3,8 +3,10 @@ use mathlib.Core.Path.{_≡_, refl, _∙_}
 use mathlib.Core.Bool.{Bool, true, false, cond, not}
 use Prim.Native.Nat.{ℕ, zero, suc, _+_, _-_, _≤_, _<_}
 use native.Mathlib.Omega.{arith}
-use lib.Dec.{T, ltb, ltb→lt, nltb→le}
+use lib.Dec.{T, ltb, ltb→lt, nltb→le, leb→le}
 use lib.IntN.{ℤ, pos, negsuc, natAbs, negℤ, subℕ, _-ℤ_}
+use lib.Signed.{_≤ℤ_}
+use Rattle.geometry.specs.Features.{upper}
 
 subℕ-abs′ : (b : Bool) (x y : ℕ) → (T b → x < y) → (T (not b) → y ≤ x) → natAbs (cond b (negsuc (y - suc x)) (pos (x - y))) ≡ (x - y) + (y - x)
 subℕ-abs′ true x y p n = let h : x < y = p tt in omega arith
@@ -18,41 +20,50 @@ pub gap-pos : (a b : ℕ) → natAbs (pos a -ℤ pos b) ≡ (a - b) + (b - a)
 gap-pos a zero = omega arith
 gap-pos a (suc b) = subℕ-abs a (suc b)
 
-gap-pos-negsuc : (a b : ℕ) → natAbs (pos a -ℤ negsuc b) ≡ a + suc b
-gap-pos-negsuc a b = refl
-
-pub gap-neg-pos : (a b : ℕ) → natAbs (negsuc a -ℤ pos b) ≡ suc a + b
+gap-neg-pos : (a b : ℕ) → natAbs (negsuc a -ℤ pos b) ≡ suc a + b
 gap-neg-pos a zero = subℕ-abs zero (suc a) ∙ omega arith
 gap-neg-pos a (suc b) = omega arith
 
 gap-negsuc : (a b : ℕ) → natAbs (negsuc a -ℤ negsuc b) ≡ (a - b) + (b - a)
 gap-negsuc a b = subℕ-abs (suc b) (suc a) ∙ omega arith
 
-pub gap-pos-neg : (a h : ℕ) → natAbs (pos a -ℤ negℤ (pos h)) ≡ a + h
-gap-pos-neg a zero = gap-pos a 0 ∙ omega arith
-gap-pos-neg a (suc h) = gap-pos-negsuc a h
-
-pub gap-neg : (a h : ℕ) → natAbs (negsuc a -ℤ negℤ (pos h)) ≡ (suc a - h) + (h - suc a)
-gap-neg a zero = gap-neg-pos a 0 ∙ omega arith
-gap-neg a (suc h) = gap-negsuc a h ∙ omega arith
-
 pub neg-abs : (h : ℕ) → natAbs (negℤ (pos h)) ≡ h
 neg-abs zero = refl
 neg-abs (suc h) = refl
 
-pub self-gap : (q : ℤ) → natAbs (q -ℤ q) ≡ 0
-self-gap (pos a) = gap-pos a a ∙ omega arith
-self-gap (negsuc a) = gap-negsuc a a ∙ omega arith
+-- how far a number is below 0, or 0; with `upper` it says the number, and what is linear in the two omega reads
+abbrev pub lower : ℤ → ℕ
+lower (pos n) = 0
+lower (negsuc n) = suc n
 
--- the gap is at least the difference of the magnitudes, and at most their sum
-pub gap-ge : (q p : ℤ) → natAbs q ≤ natAbs (q -ℤ p) + natAbs p
-gap-ge (pos a) (pos b) = omega (arith, gap-pos a b)
-gap-ge (pos a) (negsuc b) = omega (arith, gap-pos-negsuc a b)
-gap-ge (negsuc a) (pos b) = omega (arith, gap-neg-pos a b)
-gap-ge (negsuc a) (negsuc b) = omega (arith, gap-negsuc a b)
+pub abs-parts : (a : ℤ) → natAbs a ≡ upper a + lower a
+abs-parts (pos n) = omega arith
+abs-parts (negsuc n) = omega arith
 
-pub gap-le : (q p : ℤ) → natAbs (q -ℤ p) ≤ natAbs q + natAbs p
-gap-le (pos a) (pos b) = omega (arith, gap-pos a b)
-gap-le (pos a) (negsuc b) = omega (arith, gap-pos-negsuc a b)
-gap-le (negsuc a) (pos b) = omega (arith, gap-neg-pos a b)
-gap-le (negsuc a) (negsuc b) = omega (arith, gap-negsuc a b)
+sub-upper′ : (b : Bool) (x y : ℕ) → (T b → x < y) → (T (not b) → y ≤ x) → upper (cond b (negsuc (y - suc x)) (pos (x - y))) ≡ x - y
+sub-upper′ true x y p n = let h : x < y = p tt in omega arith
+sub-upper′ false x y p n = refl
+
+sub-upper : (x y : ℕ) → upper (subℕ x y) ≡ x - y
+sub-upper x y = sub-upper′ (ltb x y) x y (ltb→lt x y) (nltb→le x y)
+
+pub over-parts : (a b : ℤ) → upper (a -ℤ b) ≡ (upper a + lower b) - (lower a + upper b)
+over-parts (pos a) (pos zero) = omega arith
+over-parts (pos a) (pos (suc b)) = sub-upper a (suc b) ∙ omega arith
+over-parts (pos a) (negsuc b) = omega arith
+over-parts (negsuc a) (pos zero) = sub-upper zero (suc a) ∙ omega arith
+over-parts (negsuc a) (pos (suc b)) = omega arith
+over-parts (negsuc a) (negsuc b) = sub-upper (suc b) (suc a) ∙ omega arith
+
+pub gap-parts : (a b : ℤ) → natAbs (a -ℤ b) ≡ ((upper a + lower b) - (lower a + upper b)) + ((lower a + upper b) - (upper a + lower b))
+gap-parts (pos a) (pos b) = gap-pos a b ∙ omega arith
+gap-parts (pos a) (negsuc b) = omega arith
+gap-parts (negsuc a) (pos b) = gap-neg-pos a b ∙ omega arith
+gap-parts (negsuc a) (negsuc b) = gap-negsuc a b ∙ omega arith
+
+-- the order by the parts
+pub le-parts : (a b : ℤ) → a ≤ℤ b → upper a + lower b ≤ lower a + upper b
+le-parts (pos a) (pos b) t = let h : a ≤ b = leb→le a b (t .le) in omega arith
+le-parts (pos a) (negsuc b) t = absurd (t .le)
+le-parts (negsuc a) (pos b) t = omega arith
+le-parts (negsuc a) (negsuc b) t = let h : b ≤ a = leb→le b a (t .le) in omega arith

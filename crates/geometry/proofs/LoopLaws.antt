@@ -9,15 +9,13 @@ use native.Mathlib.Nat.{mul-le-mul}
 use native.Mathlib.Numerals.{add-one}
 use borrow.Author.Tests.{eq-eqb, ne-eqb, leb-true, leb-false}
 use lib.Dec.{leb, ltb}
-use lib.IntN.{ℤ, pos, natAbs, _-ℤ_}
-use lib.ListN.{length, getD, take, drop, set, replicate, length-append, length-map, length-replicate, length-take, length-drop, drop-of-length-le}
-use lib.Seq.{drop-cons, take-all, take-length, length-take-le}
+use lib.IntN.{ℤ, pos, natAbs}
+use lib.ListN.{length, getD, take, drop, set, replicate, length-append, length-map, length-replicate, drop-of-length-le}
+use lib.Seq.{drop-cons, take-length, length-take-le}
 use Rattle.lists.specs.Basics.{pick}
 use Rattle.lists.specs.Counts.{by-cases}
-use Rattle.geometry.proofs.SliceLaws.{slice-parts, side-square}
-use Rattle.geometry.proofs.StoredLaws.{length-point, point-at, point-take, point-drop, coord-gap, coord-neg}
-use Rattle.geometry.specs.Points.{heightOf, axisAt, axisOf, pyramidOf, distBy, square}
-use Rattle.geometry.specs.Slices.{onAxis, sideBy, sliceBy}
+use Rattle.geometry.proofs.StoredLaws.{length-point, point-at, coord-gap, coord-neg}
+use Rattle.geometry.specs.Points.{heightOf, axisAt, axisOf, pyramidOf, distance}
 use Rattle.geometry.specs.Stored.{coordOf, pointOf, stored, slotsOf, inRange}
 
 -- the point from coordinate m on
@@ -84,23 +82,14 @@ lead-is n c (a ∷ cs) =
     (λ t. lead-later n c (a ∷ cs) (leb-false _ _ t) ih)
 
 pub dist-more : (q p : List ℕ) (m : ℕ) → m < length q → m < length p
-    → distBy square m (drop m (pointOf q)) (drop m (pointOf p))
-    ≡ square m ((getD q m 0 - getD p m 0) + (getD p m 0 - getD q m 0)) + distBy square (m + 1) (drop (m + 1) (pointOf q)) (drop (m + 1) (pointOf p))
-unfolding distBy
-dist-more q p m l k = rw (point-cons q m l, point-cons p m k, coord-gap (getD q m 0) (getD p m 0), add-one)
+    → distance (drop m (pointOf q)) (drop m (pointOf p))
+    ≡ ((getD q m 0 - getD p m 0) + (getD p m 0 - getD q m 0)) * ((getD q m 0 - getD p m 0) + (getD p m 0 - getD q m 0)) + distance (drop (m + 1) (pointOf q)) (drop (m + 1) (pointOf p))
+unfolding distance
+dist-more q p m l k = rw (point-cons q m l, point-cons p m k, coord-gap (getD q m 0) (getD p m 0))
 
-pub dist-end : (q p : List ℕ) (m : ℕ) → length q ≤ m → distBy square m (drop m (pointOf q)) (drop m (pointOf p)) ≡ 0
-unfolding distBy
+pub dist-end : (q p : List ℕ) (m : ℕ) → length q ≤ m → distance (drop m (pointOf q)) (drop m (pointOf p)) ≡ 0
+unfolding distance
 dist-end q p m l = rw (point-end q m l)
-
-pub side-more : (e h : ℕ) (q : List ℕ) (m : ℕ) → m < length q
-    → sideBy square m e h (drop m (pointOf q)) ≡ square m (natAbs (coordOf (getD q m 0)) + e - h) + sideBy square (m + 1) e h (drop (m + 1) (pointOf q))
-unfolding sideBy
-side-more e h q m l = rw (point-cons q m l, add-one)
-
-pub side-end : (e h : ℕ) (q : List ℕ) (m : ℕ) → length q ≤ m → sideBy square m e h (drop m (pointOf q)) ≡ 0
-unfolding sideBy
-side-end e h q m l = rw (point-end q m l)
 
 -- the test of range
 range-cons : (p : List ℤ) (m : ℕ) → m < length p → inRange (drop m p) ≡ pick (leb (natAbs (getD p m (pos 0))) 1000) (inRange (drop (m + 1) p)) false
@@ -158,17 +147,3 @@ top-axis t h j e l = omega arith
 pub pyramid-is : (p : List ℕ) (j : ℕ) → j < length p → j ≡ axisOf (pointOf p) → pick (ltb (getD p j 0) 1000) j (j + length p) ≡ pyramidOf (pointOf p)
 unfolding pyramidOf
 pyramid-is p j l e = rw (← e, length-point p, point-at p j l, coord-neg (getD p j 0))
-
-pub tail-length : (q : List ℕ) (j : ℕ) → length (take (length q - (j + 1)) (drop (j + 1) q)) ≤ length q
-tail-length q j = omega (arith, length-take (length q - (j + 1)) (drop (j + 1) q), length-drop (j + 1) q)
-
--- the three sums of a slice
-pub slice-sum : (q : List ℕ) (j : ℕ) (s : Bool) (h : ℕ) → j < length q
-    → natAbs (coordOf (getD q j 0) -ℤ onAxis s h) * natAbs (coordOf (getD q j 0) -ℤ onAxis s h) + sideBy square 0 1 h (pointOf (take j q)) + sideBy square 0 0 h (pointOf (take (length q - (j + 1)) (drop (j + 1) q)))
-    ≡ sliceBy square 0 j s h (pointOf q)
-slice-sum q j s h l =
-    let e = slice-parts square 0 j s h (pointOf q) (omega (arith, length-point q)) in
-    let a = ap (λ (c : ℤ). natAbs (c -ℤ onAxis s h) * natAbs (c -ℤ onAxis s h)) (point-at q j l) in
-    let f = side-square (suc (0 + j)) 0 h (drop (suc j) (pointOf q)) in
-    let t : take (length q - suc j) (drop (suc j) q) ≡ drop (suc j) q = take-all (length q - suc j) (drop (suc j) q) (omega (arith, length-drop (suc j) q)) in
-    rw (add-one, t, point-take, point-drop) (omega (arith, e, a, f))

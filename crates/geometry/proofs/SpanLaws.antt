@@ -3,7 +3,7 @@ use mathlib.Core.Path.{_≡_, refl, sym, _∙_}
 use mathlib.Core.Logic.{_⊎_, inl, inr, ⊎-elim, _≢_}
 use mathlib.Core.Bool.{Bool, true, false}
 use mathlib.Core.List.{List, [], _∷_}
-use Prim.Native.Nat.{ℕ, zero, suc, min, _+_, _-_, _≤_, _<_}
+use Prim.Native.Nat.{ℕ, zero, suc, min, _+_, _≤_, _<_}
 use native.Mathlib.Omega.{arith}
 use native.Mathlib.Nat.{le-trans, le-of-eq}
 use native.Mathlib.Decide.{decLt, ℕ-discrete}
@@ -11,11 +11,11 @@ use borrow.Author.Tests.{lt-ltb, le-ltb, eq-eqb, ne-eqb}
 use lib.IntN.{ℤ, pos, negsuc, natAbs}
 use lib.ListN.{length, getD}
 use Rattle.lists.specs.Basics.{pick}
-use Rattle.geometry.proofs.ConvexLaws.{Mono}
 use Rattle.geometry.proofs.PairLaws.{InSlice, own, slice-height, slice-pyramid, slice-inside, side-of, side-range, height-range}
 use Rattle.geometry.proofs.SliceLaws.{HasPoints, slice-below, nearSlice, nearSlice-length, nearSlice-in, nearSlice-dist}
-use Rattle.geometry.specs.Points.{InRange, isNeg, heightOf, axisOf, pyramidOf, PairLe, distBy, IsBound}
-use Rattle.geometry.specs.Slices.{sliceBy, axisNo, signNo, sliceAt, Real, lowestOf}
+use Rattle.geometry.specs.Points.{InRange, isNeg, heightOf, axisOf, pyramidOf, PairLe}
+use Rattle.geometry.specs.Features.{Feature, distTo, Ordered, IsBound}
+use Rattle.geometry.specs.Slices.{axisNo, signNo, sliceAt, Real, lowestOf}
 
 -- the axis and the sign of a pyramid number made of them
 number-of : (d j : ℕ) (s : Bool) → j < d → (axisNo d (pick s j (j + d)) ≡ j) × (signNo d (pick s j (j + d)) ≡ s)
@@ -56,7 +56,7 @@ has-points d i (suc h) p = tt
 has-points d i zero p = rw (p .centre refl, centre-no d .0, centre-no d .1) tt
 
 -- a grid point's own pair is real, and its distance is at least the slice's
-module _ (κ : ℕ → ℕ → ℕ) (mono : (m : ℕ) → Mono (κ m)) (q p : List ℤ) (e : length p ≡ length q) (l : 0 < length q) where
+module _ (fs : List Feature) (p : List ℤ) (e : length p ≡ length fs) (l : 0 < length fs) where
   mine : InSlice (axisOf p) (isNeg (getD p (axisOf p) (pos 0))) (heightOf p) p
   mine = own p (omega arith)
 
@@ -66,31 +66,31 @@ module _ (κ : ℕ → ℕ → ℕ) (mono : (m : ℕ) → Mono (κ m)) (q p : Li
   inside : axisOf p < length p
   inside = slice-inside _ _ (axisOf p) p mine
 
-  pub pair-below : sliceAt κ q (pyramidOf p) (heightOf p) ≤ distBy κ 0 q p
+  pub pair-below : sliceAt fs (pyramidOf p) (heightOf p) ≤ distTo fs p
   unfolding sliceAt
   pair-below =
-      let n = number-of (length q) (axisOf p) (isNeg (getD p (axisOf p) (pos 0))) (omega (arith, inside)) in
-      rw (number, e, n .0, n .1) (slice-below κ mono 0 (axisOf p) (isNeg (getD p (axisOf p) (pos 0))) (heightOf p) q p e mine)
+      let n = number-of (length fs) (axisOf p) (isNeg (getD p (axisOf p) (pos 0))) (omega (arith, inside)) in
+      rw (number, e, n .0, n .1) (slice-below (axisOf p) (isNeg (getD p (axisOf p) (pos 0))) (heightOf p) fs p e mine)
 
-  pub pair-real : InRange p → Real (length q) (pyramidOf p) (heightOf p)
-  pair-real r = record { pyramid = rw (number, e) (number-lt (length q) (axisOf p) (isNeg (getD p (axisOf p) (pos 0))) (omega (arith, inside))); height = height-range p r; centre = λ z. let w = in-zero _ _ _ p z mine in number ∙ rw (w .1, w .0) (omega arith) }
+  pub pair-real : InRange p → Real (length fs) (pyramidOf p) (heightOf p)
+  pair-real r = record { pyramid = rw (number, e) (number-lt (length fs) (axisOf p) (isNeg (getD p (axisOf p) (pos 0))) (omega (arith, inside))); height = height-range p r; centre = λ z. let w = in-zero _ _ _ p z mine in number ∙ rw (w .1, w .0) (omega arith) }
 
 -- a real pair's slice is reached by a grid point of the pair
-module _ (κ : ℕ → ℕ → ℕ) (q : List ℤ) (i h : ℕ) (r : Real (length q) i h) where
+module _ (fs : List Feature) (i h : ℕ) (r : Real (length fs) i h) where
   there : List ℤ
-  there = nearSlice (axisNo (length q) i) (signNo (length q) i) h q
+  there = nearSlice (axisNo (length fs) i) (signNo (length fs) i) h fs
 
-  there-length : length there ≡ length q
+  there-length : length there ≡ length fs
   unfolding there
-  there-length = nearSlice-length _ _ h q
+  there-length = nearSlice-length _ _ h fs
 
-  there-in : InSlice (axisNo (length q) i) (signNo (length q) i) h there
+  there-in : InSlice (axisNo (length fs) i) (signNo (length fs) i) h there
   unfolding there Back
-  there-in = nearSlice-in _ _ h q (number-back (length q) i (r .pyramid) .0) (has-points (length q) i h r)
+  there-in = nearSlice-in _ _ h fs (number-back (length fs) i (r .pyramid) .0) (has-points (length fs) i h r)
 
   there-pyramid : pyramidOf there ≡ i
   unfolding Back
-  there-pyramid = slice-pyramid _ h _ there there-in ∙ rw there-length (number-back (length q) i (r .pyramid) .1)
+  there-pyramid = slice-pyramid _ h _ there there-in ∙ rw there-length (number-back (length fs) i (r .pyramid) .1)
 
   there-height : heightOf there ≡ h
   there-height = slice-height _ h _ there there-in
@@ -98,31 +98,34 @@ module _ (κ : ℕ → ℕ → ℕ) (q : List ℤ) (i h : ℕ) (r : Real (length
   there-range : InRange there
   there-range = side-range h there (r .height) (side-of h there (le-of-eq there-height))
 
-  there-dist : distBy κ 0 q there ≡ sliceAt κ q i h
+  there-dist : Ordered fs → distTo fs there ≡ sliceAt fs i h
   unfolding there sliceAt
-  there-dist = nearSlice-dist κ 0 _ _ h q (has-points (length q) i h r)
+  there-dist o = nearSlice-dist _ _ h fs o (has-points (length fs) i h r)
 
 -- B is the least of the slices of a span's real pairs
-pub record SpanLeast (κ : ℕ → ℕ → ℕ) (q : List ℤ) (i h i′ h′ B : ℕ) : Type 0 where
+pub record SpanLeast (fs : List Feature) (i h i′ h′ B : ℕ) : Type 0 where
   pub py : ℕ
   pub ht : ℕ
   pub after : PairLe i h py ht
   pub before : PairLe py ht i′ h′
-  pub real : Real (length q) py ht
-  pub value : B ≡ sliceAt κ q py ht
-  pub least : (a b : ℕ) → PairLe i h a b → PairLe a b i′ h′ → Real (length q) a b → B ≤ sliceAt κ q a b
+  pub real : Real (length fs) py ht
+  pub value : B ≡ sliceAt fs py ht
+  pub least : (a b : ℕ) → PairLe i h a b → PairLe a b i′ h′ → Real (length fs) a b → B ≤ sliceAt fs a b
 
 -- and so the bound of the span
-pub span-bound : (κ : ℕ → ℕ → ℕ) → ((m : ℕ) → Mono (κ m)) → (q : List ℤ) (i h i′ h′ B : ℕ) → 0 < length q → SpanLeast κ q i h i′ h′ B → IsBound κ q i h i′ h′ B
-span-bound κ mono q i h i′ h′ B l s =
+pub span-bound : (fs : List Feature) (i h i′ h′ B : ℕ) → 0 < length fs → Ordered fs → SpanLeast fs i h i′ h′ B → IsBound fs i h i′ h′ B
+span-bound fs i h i′ h′ B l o s =
     record {
-      point = there κ q (s .py) (s .ht) (s .real);
-      same = there-length κ q (s .py) (s .ht) (s .real);
-      grid = there-range κ q (s .py) (s .ht) (s .real);
-      after = rw (there-pyramid κ q (s .py) (s .ht) (s .real), there-height κ q (s .py) (s .ht) (s .real)) (s .after);
-      before = rw (there-pyramid κ q (s .py) (s .ht) (s .real), there-height κ q (s .py) (s .ht) (s .real)) (s .before);
-      reached = there-dist κ q (s .py) (s .ht) (s .real) ∙ sym (s .value);
-      least = λ p e r x y. le-trans (s .least (pyramidOf p) (heightOf p) x y (pair-real κ mono q p e l r)) (pair-below κ mono q p e l);
+      point = there fs (s .py) (s .ht) (s .real);
+      inside =
+          record {
+            same = there-length fs (s .py) (s .ht) (s .real);
+            grid = there-range fs (s .py) (s .ht) (s .real);
+            after = rw (there-pyramid fs (s .py) (s .ht) (s .real), there-height fs (s .py) (s .ht) (s .real)) (s .after);
+            before = rw (there-pyramid fs (s .py) (s .ht) (s .real), there-height fs (s .py) (s .ht) (s .real)) (s .before);
+          };
+      reached = there-dist fs (s .py) (s .ht) (s .real) o ∙ sym (s .value);
+      least = λ p x. le-trans (s .least (pyramidOf p) (heightOf p) (x .after) (x .before) (pair-real fs p (x .same) l (x .grid))) (pair-below fs p (x .same) l);
     }
 
 -- B is the value of f at a height of lo .. hi, and at most every other
@@ -134,8 +137,8 @@ pub record LeastOver (f : ℕ → ℕ) (lo hi B : ℕ) : Type 0 where
   pub least : (h : ℕ) → lo ≤ h → h ≤ hi → B ≤ f h
 
 -- a span within one pyramid
-pub span-one : (κ : ℕ → ℕ → ℕ) (q : List ℤ) (i lo hi B : ℕ) → (m : LeastOver (sliceAt κ q i) lo hi B) → Real (length q) i (m .at) → SpanLeast κ q i lo i hi B
-span-one κ q i lo hi B m p =
+pub span-one : (fs : List Feature) (i lo hi B : ℕ) → (m : LeastOver (sliceAt fs i) lo hi B) → Real (length fs) i (m .at) → SpanLeast fs i lo i hi B
+span-one fs i lo hi B m p =
     record {
       py = i;
       ht = m .at;
@@ -146,18 +149,18 @@ span-one κ q i lo hi B m p =
       least = λ a b x y z. go a b x y;
     }
   where
-    go : (a b : ℕ) → PairLe i lo a b → PairLe a b i hi → B ≤ sliceAt κ q a b
+    go : (a b : ℕ) → PairLe i lo a b → PairLe a b i hi → B ≤ sliceAt fs a b
     go a b (inl x) (inl y) = absurd (omega arith)
     go a b (inl x) (inr y) = absurd (omega (arith, y .0))
     go a b (inr x) (inl y) = absurd (omega (arith, x .0))
     go a b (inr x) (inr y) = rw (← x .0) (m .least b (x .1) (y .1))
 
 -- one pyramid more: its heights from the first that has points
-pub span-more : (κ : ℕ → ℕ → ℕ) (q : List ℤ) (i h k A lo hi B : ℕ) → SpanLeast κ q i h k 1000 A → i ≤ k → ((b : ℕ) → Real (length q) (suc k) b → lo ≤ b)
-    → (m : LeastOver (sliceAt κ q (suc k)) lo hi B) → Real (length q) (suc k) (m .at) → SpanLeast κ q i h (suc k) hi (min A B)
-span-more κ q i h k A lo hi B s l from m p = go (decLt B A)
+pub span-more : (fs : List Feature) (i h k A lo hi B : ℕ) → SpanLeast fs i h k 1000 A → i ≤ k → ((b : ℕ) → Real (length fs) (suc k) b → lo ≤ b)
+    → (m : LeastOver (sliceAt fs (suc k)) lo hi B) → Real (length fs) (suc k) (m .at) → SpanLeast fs i h (suc k) hi (min A B)
+span-more fs i h k A lo hi B s l from m p = go (decLt B A)
   where
-    split : (a b : ℕ) → PairLe a b (suc k) hi → Real (length q) a b → (PairLe a b k 1000) ⊎ ((a ≡ suc k) × (b ≤ hi))
+    split : (a b : ℕ) → PairLe a b (suc k) hi → Real (length fs) a b → (PairLe a b k 1000) ⊎ ((a ≡ suc k) × (b ≤ hi))
     split a b (inr y) w = inr y
     split a b (inl y) w = below (decLt a k)
       where
@@ -165,18 +168,18 @@ span-more κ q i h k A lo hi B s l from m p = go (decLt B A)
         below (yes u) = inl (inl u)
         below (no u) = inl (inr (omega arith, w .height))
 
-    all : (a b : ℕ) → PairLe i h a b → PairLe a b (suc k) hi → Real (length q) a b → min A B ≤ sliceAt κ q a b
+    all : (a b : ℕ) → PairLe i h a b → PairLe a b (suc k) hi → Real (length fs) a b → min A B ≤ sliceAt fs a b
     all a b x y w =
         ⊎-elim
         (λ u. let t = s .least a b x u w in omega arith)
-        (λ u. let t : B ≤ sliceAt κ q a b = rw (u .0) (m .least b (from b (rw (u .0) at w)) (u .1)) in omega arith)
+        (λ u. let t : B ≤ sliceAt fs a b = rw (u .0) (m .least b (from b (rw (u .0) at w)) (u .1)) in omega arith)
         (split a b y w)
 
     further : (a b : ℕ) → PairLe a b k 1000 → PairLe a b (suc k) hi
     further a b (inl u) = inl (omega arith)
     further a b (inr u) = inl (omega (arith, u .0))
 
-    go : Dec (B < A) → SpanLeast κ q i h (suc k) hi (min A B)
+    go : Dec (B < A) → SpanLeast fs i h (suc k) hi (min A B)
     go (yes d) =
         record { py = suc k; ht = m .at; after = inl (omega arith); before = inr (refl, m .high); real = p; value = omega (arith, m .value); least = all }
     go (no d) =
@@ -213,12 +216,3 @@ real-at d i h l k m = record { pyramid = l; height = m; centre = λ e. by e (ℕ
 
 pub real-up : (d i h r : ℕ) → Real d i h → h ≤ r → r ≤ 1000 → Real d i r
 real-up d i h r p l m = record { pyramid = p .pyramid; height = m; centre = λ e. p .centre (omega arith) }
-
--- a pyramid's slice, by its number
-pub slice-neg : (κ : ℕ → ℕ → ℕ) (q : List ℤ) (i h : ℕ) → i < length q → sliceAt κ q i h ≡ sliceBy κ 0 i true h q
-unfolding sliceAt axisNo signNo
-slice-neg κ q i h l = rw (lt-ltb i (length q) l)
-
-pub slice-pos : (κ : ℕ → ℕ → ℕ) (q : List ℤ) (i h : ℕ) → length q ≤ i → sliceAt κ q i h ≡ sliceBy κ 0 (i - length q) false h q
-unfolding sliceAt axisNo signNo
-slice-pos κ q i h l = rw (le-ltb i (length q) l)

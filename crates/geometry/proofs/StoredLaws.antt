@@ -14,7 +14,8 @@ use mir.Syntax.{w16}
 use mir.Val.{SFits, toZ, ofZ}
 use mir.Facts.{toZ-ofZ}
 use Rattle.lists.specs.Basics.{pick}
-use Rattle.geometry.proofs.IntLaws.{gap-pos, gap-neg-pos, gap-pos-neg, gap-neg}
+use Rattle.geometry.proofs.IntLaws.{lower, gap-pos, gap-parts}
+use Rattle.geometry.specs.Features.{upper}
 use Rattle.geometry.specs.Points.{InRange, isNeg}
 use Rattle.geometry.specs.Slices.{onAxis}
 use Rattle.geometry.specs.Stored.{coordOf, pointOf, stored, slotsOf, inRange}
@@ -33,43 +34,36 @@ coord-neg x = by (ltb x 1000) refl
     by true e = rw (coord-low x (ltb-true x 1000 e), e)
     by false e = rw (coord-high x (ltb-false x 1000 e), e)
 
+pub coord-parts : (x : ℕ) → (upper (coordOf x) ≡ x - 1000) × (lower (coordOf x) ≡ 1000 - x)
+coord-parts x = by (ltb x 1000) refl
+  where
+    by : (b : Bool) → ltb x 1000 ≡ b → (upper (coordOf x) ≡ x - 1000) × (lower (coordOf x) ≡ 1000 - x)
+    by true e = let l = ltb-true x 1000 e in rw (coord-low x l) (omega arith, omega arith)
+    by false e = let l = ltb-false x 1000 e in rw (coord-high x l) (omega arith, omega arith)
+
 pub coord-magnitude : (x : ℕ) → natAbs (coordOf x) ≡ (x - 1000) + (1000 - x)
 coord-magnitude x = gap-pos x 1000
 
--- the distance of two coordinates is that of the numbers stored
+-- by how much one coordinate is above another is what the numbers stored say
+pub parts-back : (a b : ℕ) → ((a - 1000) + (1000 - b)) - ((1000 - a) + (b - 1000)) ≡ a - b
+parts-back a b = omega arith
+
+parts-under : (a b : ℕ) → ((1000 - a) + (b - 1000)) - ((a - 1000) + (1000 - b)) ≡ b - a
+parts-under a b = omega arith
+
+-- and so their distance
 pub coord-gap : (a b : ℕ) → natAbs (coordOf a -ℤ coordOf b) ≡ (a - b) + (b - a)
-coord-gap a b = by (ltb a 1000) refl (ltb b 1000) refl
-  where
-    by : (s : Bool) → ltb a 1000 ≡ s → (t : Bool) → ltb b 1000 ≡ t → natAbs (coordOf a -ℤ coordOf b) ≡ (a - b) + (b - a)
-    by true e true f =
-        let k = ltb-true a 1000 e in let l = ltb-true b 1000 f in
-        rw (coord-low a k, coord-low b l) (gap-neg (999 - a) (suc (999 - b)) ∙ omega arith)
-    by true e false f =
-        let k = ltb-true a 1000 e in let l = ltb-false b 1000 f in
-        rw (coord-low a k, coord-high b l) (gap-neg-pos (999 - a) (b - 1000) ∙ omega arith)
-    by false e true f =
-        let k = ltb-false a 1000 e in let l = ltb-true b 1000 f in
-        rw (coord-high a k, coord-low b l) (gap-pos-neg (a - 1000) (suc (999 - b)) ∙ omega arith)
-    by false e false f =
-        let k = ltb-false a 1000 e in let l = ltb-false b 1000 f in
-        rw (coord-high a k, coord-high b l) (gap-pos (a - 1000) (b - 1000) ∙ omega arith)
+coord-gap a b =
+    let x = coord-parts a in let y = coord-parts b in
+    gap-parts (coordOf a) (coordOf b) ∙ rw (x .0, x .1, y .0, y .1) (ap₂ _+_ (parts-back a b) (parts-under a b))
 
 -- the number stored for height h on an axis
-axis-low : (h : ℕ) → h ≤ 1000 → coordOf (1000 - h) ≡ onAxis true h
+pub axis-low : (h : ℕ) → h ≤ 1000 → coordOf (1000 - h) ≡ onAxis true h
 axis-low zero l = refl
 axis-low (suc h) l = coord-low (1000 - suc h) (omega arith) ∙ ap negsuc (let e : 999 - (1000 - suc h) ≡ h = omega arith in e)
 
-axis-high : (h : ℕ) → coordOf (1000 + h) ≡ onAxis false h
+pub axis-high : (h : ℕ) → coordOf (1000 + h) ≡ onAxis false h
 axis-high h = coord-high (1000 + h) (omega arith) ∙ ap pos (let e : 1000 + h - 1000 ≡ h = omega arith in e)
-
-onto : (x : ℕ) (s t : Bool) (h y : ℕ) → s ≡ t → coordOf y ≡ onAxis t h → natAbs (coordOf x -ℤ onAxis s h) ≡ (x - y) + (y - x)
-onto x s t h y e f = ap (λ (z : Bool). natAbs (coordOf x -ℤ onAxis z h)) e ∙ (ap (λ (z : ℤ). natAbs (coordOf x -ℤ z)) (sym f) ∙ coord-gap x y)
-
-pub axis-gap-low : (x : ℕ) (s : Bool) (h : ℕ) → s ≡ true → h ≤ 1000 → natAbs (coordOf x -ℤ onAxis s h) ≡ (x - (1000 - h)) + ((1000 - h) - x)
-axis-gap-low x s h e l = onto x s true h (1000 - h) e (axis-low h l)
-
-pub axis-gap-high : (x : ℕ) (s : Bool) (h : ℕ) → s ≡ false → natAbs (coordOf x -ℤ onAxis s h) ≡ (x - (1000 + h)) + ((1000 + h) - x)
-axis-gap-high x s h e = onto x s false h (1000 + h) e (axis-high h)
 
 -- the point of stored numbers, by place
 pub length-point : (xs : List ℕ) → length (pointOf xs) ≡ length xs
@@ -88,12 +82,6 @@ unfolding pointOf
 point-take zero xs = refl
 point-take (suc n) [] = refl
 point-take (suc n) (x ∷ xs) = ap (λ (l : List ℤ). coordOf x ∷ l) (point-take n xs)
-
-pub point-drop : (n : ℕ) (xs : List ℕ) → pointOf (drop n xs) ≡ drop n (pointOf xs)
-unfolding pointOf
-point-drop zero xs = refl
-point-drop (suc n) [] = refl
-point-drop (suc n) (x ∷ xs) = point-drop n xs
 
 -- storing and reading back
 pub stored-back : (c : ℤ) → natAbs c ≤ 1000 → coordOf (stored c) ≡ c

@@ -1,5 +1,9 @@
 pub mod Points
+pub mod Features
 pub mod Stored
 pub mod Keys
 pub mod Slices
+pub mod Questions
+pub mod Tables
+pub mod Lanes
 pub mod Examples

@@ -1,7 +1,10 @@
 // The geometry of the index: keys, the pyramid and height of a point, squared distance, the bound of a span.
 pub mod bounds;
+mod heights;
 pub mod keys;
 pub mod points;
+mod slices;
+mod tables;
 
 // A pyramid number counts regions and a height counts steps from the centre; neither stands for the other.
 pub struct Pyramid(pub u8);

@@ -1,4 +1,4 @@
-// Points: range test and conversion, pyramid and height, the cost of a gap.
+// Points: range test and conversion, pyramid and height, gaps and what they cost.
 // A record holds each coordinate with 1,000 added (`pointOf` reads it back), so everything here but the conversion is on unsigned numbers.
 ghost use mathlib.Core.Path.{_≡_};
 ghost use mathlib.Core.Bool.{true};
@@ -66,6 +66,13 @@ pub fn apart(a: u16, b: u16) -> u16
     ensures { λ r. ⌜ r ≡ (a - b) + (b - a) ⌝ }
 {
     if a < b { b - a } else { a - b }
+}
+
+// What a has above b.
+pub fn above(a: u16, b: u16) -> u16
+    ensures { λ r. ⌜ r ≡ a - b ⌝ }
+{
+    if a < b { 0 } else { a - b }
 }
 
 pub fn smaller(a: u16, b: u16) -> u16
@@ -140,7 +147,7 @@ pub fn pair_of(p: &[u16]) -> Pair
     }
 }
 
-fn wide(x: u16) -> u64
+pub fn wide(x: u16) -> u64
     ensures { λ r. ⌜ (r ≡ x) × (r < 65536) ⌝ }
 {
     x as u64
@@ -152,4 +159,18 @@ pub fn cost(gap: u16) -> u64
 {
     let g = wide(gap);
     g * g
+}
+
+// What a gap costs with a weight: the weight times its square.
+pub fn weigh(weight: u16, gap: u16) -> u64
+    ensures { λ r. ⌜ (r ≡ weight * (gap * gap)) × (r < 281474976710656) ⌝ }
+{
+    wide(weight) * cost(gap)
+}
+
+// The gap of a stored number from low ..= high.
+pub fn gap(low: u16, high: u16, x: u16) -> u16
+    ensures { λ r. ⌜ r ≡ max (low - x) (x - high) ⌝ }
+{
+    greater(above(low, x), above(x, high))
 }

@@ -1,5 +1,5 @@
 -- Laws of a heap: a step down or up, the least at the top, what push and pop do to what is held.
-use Prim.Native.Nat.{ℕ, zero, suc, _+_, _*_, _-_, _/_, _≤_, _<_}
+use Prim.Native.Nat.{ℕ, zero, suc, _+_, _*_, _-_, _/_, _≤_, _<_, min}
 use mathlib.Core.Bool.{false}
 use mathlib.Core.Path.{_≡_, refl, sym, ap, _∙_}
 use mathlib.Core.Logic.{_≢_}
@@ -9,51 +9,52 @@ use native.Mathlib.Numerals.{add-one}
 use lib.ListN.{length, take, drop, getD, set, length-set, length-take}
 use lib.Seq.{take-suc-set, getD-set-same, getD-set-other, getD-take, lt-length-set, set-set, take-set-lt, drop-set-lt, length-take-le}
 use lib.Dec.{ltb}
-use borrow.Author.Tests.{le-ltb}
+use borrow.Author.Tests.{le-ltb, ltb-true, ltb-false}
 use Rattle.lists.specs.Basics.{All}
-use Rattle.lists.specs.Tests.{decide}
+use Rattle.lists.specs.Tests.{cases, decide, three}
 use Rattle.lists.specs.Places.{all-places}
 use Rattle.lists.specs.Sorting.{sort, ins}
 use Rattle.lists.specs.SortingLaws.{ltb-order, ins-first, all-sort, sort-snoc, sort-take, sort-set, sort-swap}
 use Rattle.heap.specs.Heap.{Child, Heap, held, Pushed, Popped}
-use Rattle.heap.specs.Sifting.{Sinking, Rising, LowerChild, Down, Up, Sifted}
+use Rattle.heap.specs.Sifting.{Sinking, Rising, lowerOf, LeastIn, Sifted}
 
 pub heap-none : (a : List ℕ) → Heap 0 a
 heap-none a = record { fits = omega arith; ordered = λ p j k. absurd (let q = k .within in omega arith) }
 
--- ---- where a number goes
+-- ---- the least of some places
 
-pub down-leaf : (n h x : ℕ) (a : List ℕ) → n ≤ 2 * h + 1 → Down n h x a h
-down-leaf n h x a l = record { stays = λ _ j k. absurd (omega arith); goes = λ e. absurd (e refl) }
+pub least-one : (from to i : ℕ) (a : List ℕ) → from ≤ i → i < to → to ≤ from + 1 → LeastIn from to a i
+least-one from to i a p q r = record { low = p; high = q; least = λ j u v. let e : j ≡ i = omega arith in rw e (omega arith) }
 
-module _ (n h x : ℕ) (a : List ℕ) (c : ℕ) (l : LowerChild n (2 * h + 1) a c) where
-  least : (j : ℕ) → Child n h j → getD a c 0 ≤ getD a j 0
-  least j k = l .least j (k .low) (let q = k .high in omega arith) (k .within)
+-- of two runs of places, one behind the other
+pub least-join : (from mid to : ℕ) (a : List ℕ) (c e r : ℕ) → LeastIn from mid a c → LeastIn mid to a e → r ≡ lowerOf a c e → LeastIn from to a r
+least-join from mid to a c e r l m q =
+    let lc = l .low in let hc = l .high in let le = m .low in let he = m .high in
+    cases (ltb (getD a e 0) (getD a c 0))
+    (λ t. let w : getD a e 0 < getD a c 0 = ltb-true (getD a e 0) (getD a c 0) t in
+    let f : r ≡ e = q ∙ (rw t) in
+    rw f record { low = omega arith; high = omega arith; least = λ j u v. over mid j (λ b. let z = l .least j u b in omega arith) (λ b. m .least j b v) })
+    (λ t. let w : getD a c 0 ≤ getD a e 0 = ltb-false (getD a e 0) (getD a c 0) t in
+    let f : r ≡ c = q ∙ (rw t) in
+    rw f record { low = omega arith; high = omega arith; least = λ j u v. over mid j (λ b. l .least j u b) (λ b. let z = m .least j b v in omega arith) })
+  where
+    over : {P : Type 0} (m j : ℕ) → (j < m → P) → (m ≤ j → P) → P
+    over m j f g = three j m f (λ e. g (omega arith)) (λ h. g (omega arith))
 
-  pub down-goes : getD a c 0 < x → Down n h x a c
-  down-goes b = record {
-    stays = λ e. absurd (let q = l .low in omega arith);
-    goes = λ e. (record { low = l .low; high = let q = l .high in omega arith; within = l .within }, b, least);
-  }
+pub least-pair : (i j to : ℕ) (a : List ℕ) (r : ℕ) → j ≡ i + 1 → to ≡ j + 1 → r ≡ lowerOf a i j → LeastIn i to a r
+least-pair i j to a r e f q = least-join i j to a i j r (least-one i j i a (omega arith) (omega arith) (omega arith)) (least-one j to j a (omega arith) (omega arith) (omega arith)) q
 
-  pub down-stays : x ≤ getD a c 0 → Down n h x a h
-  down-stays b = record { stays = λ _ j k. let q = least j k in omega arith; goes = λ e. absurd (e refl) }
+-- the children among the first n end behind the fourth, or at n
+pub least-all : (left n to : ℕ) (a : List ℕ) (c : ℕ) → to ≡ min (left + 4) n → LeastIn left to a c → LeastIn left (min (left + 4) n) a c
+least-all left n to a c e l = rw (← e) l
 
-pub lower-left : (n left : ℕ) (a : List ℕ) → left < n → (left + 1 < n → getD a left 0 ≤ getD a (left + 1) 0) → LowerChild n left a left
-lower-left n left a w r = record {
-  low = omega arith;
-  high = omega arith;
-  within = w;
-  least = λ j p q s. decide j left (λ e. rw e (omega arith)) (λ e. let d : j ≡ left + 1 = omega (arith, e) in rw d (r (omega arith)));
-}
+-- the least of the four from 4h + 1 on among the first n is a child of h, and at most the others
+module _ (n h : ℕ) (a : List ℕ) (c : ℕ) (l : LeastIn (4 * h + 1) (min (4 * h + 1 + 4) n) a c) where
+  pub lowest-kid : Child n h c
+  lowest-kid = let q = l .high in record { low = l .low; high = omega arith; within = omega arith }
 
-pub lower-right : (n left : ℕ) (a : List ℕ) → left + 1 < n → getD a (left + 1) 0 < getD a left 0 → LowerChild n left a (left + 1)
-lower-right n left a w r = record {
-  low = omega arith;
-  high = omega arith;
-  within = w;
-  least = λ j p q s. decide j left (λ e. rw e (omega arith)) (λ e. let d : j ≡ left + 1 = omega (arith, e) in rw d (omega arith));
-}
+  pub lowest : (j : ℕ) → Child n h j → getD a c 0 ≤ getD a j 0
+  lowest j k = let q = k .high in let r = k .within in l .least j (k .low) (omega arith)
 
 -- ---- x at h, and then at c, what stood there at h
 
@@ -94,19 +95,19 @@ module _ (a : List ℕ) (h c x : ℕ) (wh : h < length a) (wc : c < length a) (m
 
 -- ---- down
 
-module _ (n h x : ℕ) (a : List ℕ) (c : ℕ) (s : Sinking n h (set a h x)) (d : Down n h x a c) where
-  pub sunk : c ≡ h → Heap n (set a h x)
-  sunk e = record {
+module _ (n h x : ℕ) (a : List ℕ) (s : Sinking n h (set a h x)) where
+  pub sunk : ((j : ℕ) → Child n h j → x ≤ getD a j 0) → Heap n (set a h x)
+  sunk d = record {
     fits = s .fits;
     ordered = λ p j k. decide p h
         (λ f. let w : h < length a = let q = s .fits in let r = s .place in let z = length-set a h x in omega arith in
-        rw (f, getD-set-same a h x 0 w, getD-set-other a h j x 0 (let q = k .low in omega arith)) (d .stays e j (rw f at k)))
+        rw (f, getD-set-same a h x 0 w, getD-set-other a h j x 0 (let q = k .low in omega arith)) (d j (rw f at k)))
         (λ f. s .except p j f k);
   }
 
-  module _ (m : c ≢ h) where
-    kid : Child n h c
-    kid = d .goes m .0
+  module _ (c : ℕ) (kid : Child n h c) (low : getD a c 0 < x) (least : (j : ℕ) → Child n h j → getD a c 0 ≤ getD a j 0) where
+    away : c ≢ h
+    away = let q = kid .low in omega arith
 
     wide : n ≤ length a
     wide = rw (length-set a h x) at (s .fits)
@@ -119,57 +120,54 @@ module _ (n h x : ℕ) (a : List ℕ) (c : ℕ) (s : Sinking n h (set a h x)) (d
 
     -- what is known of x at h, said of a
     known : (p j : ℕ) → p ≢ h → j ≢ h → getD (set a h x) p 0 ≤ getD (set a h x) j 0 → getD a p 0 ≤ getD a j 0
-    known p j y z l = rw (rest-before a h c x wh wc m p y, rest-before a h c x wh wc m j z) at l
+    known p j y z l = rw (rest-before a h c x wh wc away p y, rest-before a h c x wh wc away j z) at l
 
     sink-except : (p j : ℕ) → p ≢ c → Child n p j → getD (set (set a h (getD a c 0)) c x) p 0 ≤ getD (set (set a h (getD a c 0)) c x) j 0
     sink-except p j y k =
         let u = kid in
         decide p h
         (λ e. decide j c
-        (λ f. let g = d .goes m .1 in rw (e, f, c-at-h a h c x wh wc m, x-at-c a h c x wh wc m) (omega arith))
-        (λ f. rw (e, c-at-h a h c x wh wc m, rest-after a h c x wh wc m j (let q = k .low in omega arith) f) (d .goes m .2 j (rw e at k))))
+        (λ f. rw (e, f, c-at-h a h c x wh wc away, x-at-c a h c x wh wc away) (omega arith))
+        (λ f. rw (e, c-at-h a h c x wh wc away, rest-after a h c x wh wc away j (let q = k .low in omega arith) f) (least j (rw e at k))))
         (λ e. decide j h
-        (λ f. rw (f, c-at-h a h c x wh wc m, rest-after a h c x wh wc m p e y) (known p c e m (s .over p c (rw f at k) u)))
+        (λ f. rw (f, c-at-h a h c x wh wc away, rest-after a h c x wh wc away p e y) (known p c e away (s .over p c (rw f at k) u)))
         (λ f. decide j c
         (λ g. absurd (let q = k .low in let r = k .high in let v = u .low in let w = u .high in omega (arith, e)))
-        (λ g. rw (rest-after a h c x wh wc m p e y, rest-after a h c x wh wc m j f g) (known p j e f (s .except p j e k)))))
+        (λ g. rw (rest-after a h c x wh wc away p e y, rest-after a h c x wh wc away j f g) (known p j e f (s .except p j e k)))))
 
     sink-over : (p j : ℕ) → Child n p c → Child n c j → getD (set (set a h (getD a c 0)) c x) p 0 ≤ getD (set (set a h (getD a c 0)) c x) j 0
     sink-over p j k1 k2 =
         let u = kid in
         let v1 = u .low in let v2 = u .high in let l1 = k1 .low in let l2 = k1 .high in let l3 = k2 .low in
         let e : p ≡ h = omega arith in
-        rw (e, c-at-h a h c x wh wc m, rest-after a h c x wh wc m j (omega arith) (omega arith)) (known c j m (omega arith) (s .except c j m k2))
+        rw (e, c-at-h a h c x wh wc away, rest-after a h c x wh wc away j (omega arith) (omega arith)) (known c j away (omega arith) (s .except c j away k2))
 
     pub sinks : Sinking n c (set (set a h (getD a c 0)) c x)
-    sinks = record { fits = fits-after a h c x wh wc m n (s .fits); place = kid .within; except = sink-except; over = sink-over }
+    sinks = record { fits = fits-after a h c x wh wc away n (s .fits); place = kid .within; except = sink-except; over = sink-over }
 
     pub held-sinks : held n (set (set a h (getD a c 0)) c x) ≡ held n (set a h x)
-    held-sinks = held-moved a h c x wh wc m n (s .place) (kid .within) wide
+    held-sinks = held-moved a h c x wh wc away n (s .place) (kid .within) wide
 
 -- ---- up
 
-module _ (n h x : ℕ) (a : List ℕ) (c : ℕ) (s : Rising n h (set a h x)) (d : Up h x a c) where
-  pub risen : c ≡ h → Heap n (set a h x)
-  risen e = record {
+module _ (n h x : ℕ) (a : List ℕ) (s : Rising n h (set a h x)) where
+  pub risen : (0 < h → getD a ((h - 1) / 4) 0 ≤ x) → Heap n (set a h x)
+  risen d = record {
     fits = s .fits;
     ordered = λ p j k. decide j h
         (λ f. let w : h < length a = let q = s .fits in let r = s .place in let z = length-set a h x in omega arith in
         let q = k .low in let r = k .high in
-        let g : p ≡ (h - 1) / 2 = omega arith in
-        rw (f, getD-set-same a h x 0 w, getD-set-other a h p x 0 (omega arith), g) (d .stays e (omega arith)))
+        let g : p ≡ (h - 1) / 4 = omega arith in
+        rw (f, getD-set-same a h x 0 w, getD-set-other a h p x 0 (omega arith), g) (d (omega arith)))
         (λ f. s .except p j f k);
   }
 
-  module _ (m : c ≢ h) where
-    positive : 0 < h
-    positive = d .goes m .0
-
-    parent : c ≡ (h - 1) / 2
-    parent = d .goes m .1
+  module _ (c : ℕ) (positive : 0 < h) (parent : c ≡ (h - 1) / 4) (high : x < getD a c 0) where
+    apart : c ≢ h
+    apart = omega arith
 
     below : c < h
-    below = let q = positive in let r = parent in omega arith
+    below = omega arith
 
     up-fits : n ≤ length a
     up-fits = rw (length-set a h x) at (s .fits)
@@ -181,44 +179,43 @@ module _ (n h x : ℕ) (a : List ℕ) (c : ℕ) (s : Rising n h (set a h x)) (d 
     uc = let q = uh in let r = below in omega arith
 
     mine : Child n c h
-    mine = let q = positive in let r = parent in record { low = omega arith; high = omega arith; within = s .place }
+    mine = record { low = omega arith; high = omega arith; within = s .place }
 
     only : (p : ℕ) → Child n p h → p ≡ c
-    only p k = let q = k .low in let r = k .high in let u = parent in omega arith
+    only p k = let q = k .low in let r = k .high in omega arith
 
     up-known : (p j : ℕ) → p ≢ h → j ≢ h → getD (set a h x) p 0 ≤ getD (set a h x) j 0 → getD a p 0 ≤ getD a j 0
-    up-known p j y z l = rw (rest-before a h c x uh uc m p y, rest-before a h c x uh uc m j z) at l
+    up-known p j y z l = rw (rest-before a h c x uh uc apart p y, rest-before a h c x uh uc apart j z) at l
 
     rise-except : (p j : ℕ) → j ≢ c → Child n p j → getD (set (set a h (getD a c 0)) c x) p 0 ≤ getD (set (set a h (getD a c 0)) c x) j 0
     rise-except p j y k =
         let b = below in
-        let g = d .goes m .2 in
         let low = k .low in
         decide p c
         (λ e. decide j h
-        (λ f. rw (e, f, x-at-c a h c x uh uc m, c-at-h a h c x uh uc m) (omega arith))
-        (λ f. let z : getD a c 0 ≤ getD a j 0 = up-known c j m f (s .except c j f (rw e at k)) in
-        rw (e, x-at-c a h c x uh uc m, rest-after a h c x uh uc m j f y) (omega arith)))
+        (λ f. rw (e, f, x-at-c a h c x uh uc apart, c-at-h a h c x uh uc apart) (omega arith))
+        (λ f. let z : getD a c 0 ≤ getD a j 0 = up-known c j apart f (s .except c j f (rw e at k)) in
+        rw (e, x-at-c a h c x uh uc apart, rest-after a h c x uh uc apart j f y) (omega arith)))
         (λ e. decide p h
-        (λ f. rw (f, c-at-h a h c x uh uc m, rest-after a h c x uh uc m j (omega arith) y) (up-known c j m (omega arith) (s .over c j mine (rw f at k))))
+        (λ f. rw (f, c-at-h a h c x uh uc apart, rest-after a h c x uh uc apart j (omega arith) y) (up-known c j apart (omega arith) (s .over c j mine (rw f at k))))
         (λ f. let z : j ≢ h = (λ o. e (only p (rw o at k))) in
-        rw (rest-after a h c x uh uc m p f e, rest-after a h c x uh uc m j z y) (up-known p j f z (s .except p j z k))))
+        rw (rest-after a h c x uh uc apart p f e, rest-after a h c x uh uc apart j z y) (up-known p j f z (s .except p j z k))))
 
     rise-over : (p j : ℕ) → Child n p c → Child n c j → getD (set (set a h (getD a c 0)) c x) p 0 ≤ getD (set (set a h (getD a c 0)) c x) j 0
     rise-over p j k1 k2 =
         let b = below in
         let l1 = k1 .low in let l2 = k2 .low in
-        let z : getD a p 0 ≤ getD a c 0 = up-known p c (omega arith) m (s .except p c m k1) in
+        let z : getD a p 0 ≤ getD a c 0 = up-known p c (omega arith) apart (s .except p c apart k1) in
         decide j h
-        (λ e. rw (e, c-at-h a h c x uh uc m, rest-after a h c x uh uc m p (omega arith) (omega arith)) z)
-        (λ e. let y : getD a c 0 ≤ getD a j 0 = up-known c j m e (s .except c j e k2) in
-        rw (rest-after a h c x uh uc m p (omega arith) (omega arith), rest-after a h c x uh uc m j e (omega arith)) (omega arith))
+        (λ e. rw (e, c-at-h a h c x uh uc apart, rest-after a h c x uh uc apart p (omega arith) (omega arith)) z)
+        (λ e. let y : getD a c 0 ≤ getD a j 0 = up-known c j apart e (s .except c j e k2) in
+        rw (rest-after a h c x uh uc apart p (omega arith) (omega arith), rest-after a h c x uh uc apart j e (omega arith)) (omega arith))
 
     pub rises : Rising n c (set (set a h (getD a c 0)) c x)
-    rises = record { fits = fits-after a h c x uh uc m n (s .fits); place = let q = below in let r = s .place in omega arith; except = rise-except; over = rise-over }
+    rises = record { fits = fits-after a h c x uh uc apart n (s .fits); place = let q = below in let r = s .place in omega arith; except = rise-except; over = rise-over }
 
     pub held-rises : held n (set (set a h (getD a c 0)) c x) ≡ held n (set a h x)
-    held-rises = held-moved a h c x uh uc m n (s .place) (let q = below in let r = s .place in omega arith) up-fits
+    held-rises = held-moved a h c x uh uc apart n (s .place) (let q = below in let r = s .place in omega arith) up-fits
 
 -- ---- push
 
@@ -253,8 +250,8 @@ top-by n a h (suc f) j g w =
     decide j 0
     (λ e. rw e (omega arith))
     (λ e.
-    let up : getD a 0 0 ≤ getD a ((j - 1) / 2) 0 = top-by n a h f ((j - 1) / 2) (omega (arith, e)) (omega (arith, e)) in
-    let over : getD a ((j - 1) / 2) 0 ≤ getD a j 0 = h .ordered ((j - 1) / 2) j record { low = omega (arith, e); high = omega (arith, e); within = w } in
+    let up : getD a 0 0 ≤ getD a ((j - 1) / 4) 0 = top-by n a h f ((j - 1) / 4) (omega (arith, e)) (omega (arith, e)) in
+    let over : getD a ((j - 1) / 4) 0 ≤ getD a j 0 = h .ordered ((j - 1) / 4) j record { low = omega (arith, e); high = omega (arith, e); within = w } in
     omega arith)
 
 -- the top is the least

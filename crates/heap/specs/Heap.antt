@@ -1,4 +1,4 @@
--- A binary min-heap in the first n elements of a list, and what push and pop do to it.
+-- A min-heap in the first n elements of a list, each with four children, and what push and pop do to it.
 use Prim.Native.Nat.{ℕ, _+_, _*_, _-_, _≤_, _<_}
 use mathlib.Core.Path.{_≡_}
 use mathlib.Core.List.{List, _∷_}
@@ -8,8 +8,8 @@ use Rattle.lists.specs.Sorting.{sort, ins}
 
 -- j is a child of p among the first n
 pub record Child (n p j : ℕ) : Type 0 where
-  pub low : 2 * p + 1 ≤ j
-  pub high : j ≤ 2 * p + 2
+  pub low : 4 * p + 1 ≤ j
+  pub high : j ≤ 4 * p + 4
   pub within : j < n
 
 -- each of the first n is at most its children

@@ -1,9 +1,11 @@
 -- A number on its way down or up in a heap.
-use Prim.Native.Nat.{ℕ, _+_, _-_, _/_, _≤_, _<_}
+use Prim.Native.Nat.{ℕ, _≤_, _<_}
 use mathlib.Core.Path.{_≡_}
 use mathlib.Core.Logic.{_≢_}
 use mathlib.Core.List.{List}
 use lib.ListN.{length, getD, drop, set}
+use lib.Dec.{ltb}
+use Rattle.lists.specs.Basics.{pick}
 use Rattle.heap.specs.Heap.{Child, Heap, held}
 
 -- a heap but for h, which may be above its children; these are at least what is above h
@@ -20,22 +22,15 @@ pub record Rising (n h : ℕ) (a : List ℕ) : Type 0 where
   pub except : (p j : ℕ) → j ≢ h → Child n p j → getD a p 0 ≤ getD a j 0
   pub over : (p j : ℕ) → Child n p h → Child n h j → getD a p 0 ≤ getD a j 0
 
--- c is the place, of left and left + 1 below n, that holds the lower number
-pub record LowerChild (n left : ℕ) (a : List ℕ) (c : ℕ) : Type 0 where
-  pub low : left ≤ c
-  pub high : c ≤ left + 1
-  pub within : c < n
-  pub least : (j : ℕ) → left ≤ j → j ≤ left + 1 → j < n → getD a c 0 ≤ getD a j 0
+-- that of the places i and j which holds the lower number
+abbrev pub lowerOf : List ℕ → ℕ → ℕ → ℕ
+lowerOf a i j = pick (ltb (getD a j 0) (getD a i 0)) j i
 
--- where x goes from h on its way down: to the child c, if that is the lower one and below x; it stays if no child is below x
-pub record Down (n h x : ℕ) (a : List ℕ) (c : ℕ) : Type 0 where
-  pub stays : c ≡ h → (j : ℕ) → Child n h j → x ≤ getD a j 0
-  pub goes : c ≢ h → Child n h c × (getD a c 0 < x) × ((j : ℕ) → Child n h j → getD a c 0 ≤ getD a j 0)
-
--- and on its way up: to the parent, if that is above x; it stays if there is none above x
-pub record Up (h x : ℕ) (a : List ℕ) (c : ℕ) : Type 0 where
-  pub stays : c ≡ h → 0 < h → getD a ((h - 1) / 2) 0 ≤ x
-  pub goes : c ≢ h → (0 < h) × (c ≡ (h - 1) / 2) × (x < getD a c 0)
+-- c is a place, from `from` on and before `to`, that holds the least number there
+pub record LeastIn (from to : ℕ) (a : List ℕ) (c : ℕ) : Type 0 where
+  pub low : from ≤ c
+  pub high : c < to
+  pub least : (j : ℕ) → from ≤ j → j < to → getD a c 0 ≤ getD a j 0
 
 -- a, with x put at h, has become the heap b
 pub record Sifted (n h x : ℕ) (a b : List ℕ) : Type 0 where

@@ -1,39 +1,44 @@
-// A binary min-heap in the first n numbers of a lent slice: push and pop.
+// A min-heap with four children a place in the first n numbers of a lent slice: push and pop.
 // A number on its way down or up moves those it passes by one place, and is put down where it ends.
 ghost use mathlib.Core.Path.{_≡_};
-ghost use Prim.Native.Nat.{_+_, _*_, _≤_, _<_};
+ghost use Prim.Native.Nat.{_+_, _≤_, _<_, min};
 ghost use lib.ListN.{length, set};
 ghost use Rattle.heap.specs.Heap.{Heap, Pushed, Popped};
-ghost use Rattle.heap.specs.Sifting.{Sinking, Rising, LowerChild, Down, Up, Sifted};
+ghost use Rattle.heap.specs.Sifting.{Sinking, Rising, lowerOf, LeastIn, Sifted};
 
-// The lower of the children at left and left + 1 among the first n.
-fn lower_child(a: &[u64], n: usize, left: usize) -> usize
-    requires { ⌜ (n ≤ length (now a)) × (left < n) ⌝ }
-    ensures { λ r. ⌜ LowerChild n left (now (a .entry)) r ⌝ }
+// That of two places which holds the lower number.
+fn lower(a: &[u64], i: usize, j: usize) -> usize
+    requires { ⌜ (i < length (now a)) × (j < length (now a)) ⌝ }
+    ensures { λ r. ⌜ r ≡ lowerOf (now (a .entry)) i j ⌝ }
 {
-    let right = left + 1;
-    if right < n {
-        if a[right] < a[left] {
-            return right;
-        }
-    }
-    left
+    if a[j] < a[i] { j } else { i }
 }
 
-// Where x goes from h: to the lower child, if that is below x.
-fn down(a: &[u64], n: usize, h: usize, x: u64) -> usize
-    requires { ⌜ (n ≤ length (now a)) × (h < n) ⌝ }
-    ensures { λ r. ⌜ Down n h x (now (a .entry)) r ⌝ }
+// The place of the least of the first n from `left` on.
+fn least_from(a: &[u64], n: usize, left: usize) -> usize
+    requires { ⌜ (n ≤ length (now a)) × (left < n) ⌝ }
+    ensures { λ r. ⌜ LeastIn left n (now (a .entry)) r ⌝ }
 {
-    let left = 2 * h + 1;
-    if n <= left {
-        return h;
+    let mut c = left;
+    let mut i = left + 1;
+    while i < n {
+        c = lower(a, c, i);
+        i += 1;
     }
-    let c = lower_child(a, n, left);
-    if a[c] < x {
-        return c;
+    c
+}
+
+// The lowest of the four children from `left` on, as far as they are among the first n.
+fn lowest_child(a: &[u64], n: usize, left: usize) -> usize
+    requires { ⌜ (n ≤ length (now a)) × (left < n) ⌝ }
+    ensures { λ r. ⌜ LeastIn left (min (left + 4) n) (now (a .entry)) r ⌝ }
+{
+    if left + 3 < n {
+        let c = lower(a, left, left + 1);
+        let e = lower(a, left + 2, left + 3);
+        return lower(a, c, e);
     }
-    h
+    least_from(a, n, left)
 }
 
 // Moves x down from the top of the first n.
@@ -43,29 +48,19 @@ fn sink(a: &mut [u64], n: usize, x: u64)
 {
     let mut h = 0;
     loop {
-        let c = down(a, n, h, x);
-        if c == h {
+        let left = 4 * h + 1;
+        if n <= left {
+            a[h] = x;
+            return;
+        }
+        let c = lowest_child(a, n, left);
+        if x <= a[c] {
             a[h] = x;
             return;
         }
         a[h] = a[c];
         h = c;
     }
-}
-
-// Where x goes from h: to the parent, if that is above x.
-fn up(a: &[u64], h: usize, x: u64) -> usize
-    requires { ⌜ h < length (now a) ⌝ }
-    ensures { λ r. ⌜ Up h x (now (a .entry)) r ⌝ }
-{
-    if h == 0 {
-        return h;
-    }
-    let p = (h - 1) / 2;
-    if x < a[p] {
-        return p;
-    }
-    h
 }
 
 // Moves x up from behind the first n.
@@ -75,8 +70,12 @@ fn rise(a: &mut [u64], n: usize, x: u64)
 {
     let mut h = n;
     loop {
-        let p = up(a, h, x);
-        if p == h {
+        if h == 0 {
+            a[h] = x;
+            return;
+        }
+        let p = (h - 1) / 4;
+        if a[p] <= x {
             a[h] = x;
             return;
         }

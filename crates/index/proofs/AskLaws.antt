@@ -1,72 +1,66 @@
--- The outcome of a question by value, refused or carried out.
+-- The outcome of a question, refused or carried out.
 use mathlib.Core.Path.{_≡_, refl, sym, ap, _∙_, subst}
 use mathlib.Core.Logic.{_≢_}
-use mathlib.Core.List.{List, map}
+use mathlib.Core.List.{List}
 use Prim.Native.Nat.{ℕ, zero, suc, _≤_}
 use native.Mathlib.Omega.{arith}
-use lib.IntN.{ℤ}
-use lib.ListN.{length, take}
-use lib.Seq.{length-take-le}
-use Rattle.geometry.specs.Stored.{stored, slotsOf}
-use Rattle.candidates.specs.Held.{rowsIn, rowsOf}
-use Rattle.candidates.proofs.HeldLaws.{length-rowsOf}
-use Rattle.search.specs.declared.Found as search
+use lib.ListN.{length}
+use Rattle.candidates.specs.Held.{rowsIn}
+use Rattle.lending.specs.FillingLaws.{rows-held}
+use Rattle.search.specs.declared.Query.{Query}
+use Rattle.search.specs.declared.Seen.{Seen}
+use Rattle.search.specs.Asked.{Asked, asks}
 use Rattle.search.specs.Visit.{Answer as Found, found}
-use Rattle.search.specs.Steps.{Searched}
-use Rattle.lending.specs.declared.Outcome.{Outcome}
+use Rattle.search.specs.Steps.{Searches, Searched}
+use Rattle.lending.specs.declared.Answer.{Answer}
+use Rattle.index.specs.Asking.{Question, Searchable, QueryFor, sought}
 use Rattle.index.specs.Refusals.{Rule, First}
 use Rattle.index.specs.Outcomes.{foundWith, nothingFound}
-use Rattle.index.specs.PointLaws.{slots-own}
-use Rattle.index.specs.Questions.{OutcomeBy, Refused, Answered}
+use Rattle.index.specs.Questions.{Places, OutcomeBy, Refused, Answered}
 
--- ---- THE ROWS
+module _ (rules : List Rule) (answers : Found → Type 0) (b : List ℕ) (w : Question) (ds ts : List ℕ) where
+  nothing-with : (m : ℕ) → m ≢ 0 → foundWith m b w ≡ nothingFound
+  nothing-with zero z = absurd (z refl)
+  nothing-with (suc m) z = refl
 
-rows-held : (ds ts : List ℕ) (n : ℕ) → length ds ≡ 64 → length ts ≡ 64 → n ≤ 64 → length (rowsIn ds ts n) ≡ n
-rows-held ds ts n d t l = length-take-le n (rowsOf ds ts) (length-rowsOf n ds ts (omega arith) (omega arith))
-
--- ---- THE OUTCOME
-
-module _ (rules : List Rule) (answers : Found → Type 0) (b : List ℕ) (p : List ℤ) (k : ℕ) where
-  nothing-with : (m : ℕ) → m ≢ 0 → foundWith m b p k ≡ nothingFound
-  nothing-with zero w = absurd (w refl)
-  nothing-with (suc m) w = refl
-
-  pub asked-refused : (m : ℕ) (o : Outcome) → First rules m → m ≢ 0 → Refused m o → OutcomeBy rules answers b p k o
-  asked-refused m o f w h =
-      let e : foundWith (o .answer .code) b p k ≡ nothingFound = ap (λ (x : ℕ). foundWith x b p k) (h .code) ∙ nothing-with m w in
+  pub asked-refused : (m : ℕ) (r : Answer) → First rules m → m ≢ 0 → Refused m r → OutcomeBy rules answers b w ds ts r
+  asked-refused m r f z h =
+      let e : foundWith (r .code) b w ≡ nothingFound = ap (λ (x : ℕ). foundWith x b w) (h .code) ∙ nothing-with m z in
       record {
         first = subst (First rules) (sym (h .code)) f;
-        listed = h .listed ∙ sym (h .count);
-        few = omega (arith, h .listed);
+        few = omega (arith, h .count);
         count = h .count ∙ sym (ap (λ (x : Found). length (x .rows)) e);
         leaves = h .leaves ∙ sym (ap (λ (x : Found). x .leaves) e);
-        rows = ap (rowsIn (o .list .distances) (o .list .tags)) (h .listed) ∙ sym (ap (λ (x : Found). x .rows) e);
-        distances = h .distances;
-        tags = h .tags;
-        carried = λ z. absurd (w (sym (h .code) ∙ z));
+        rows = ap (rowsIn ds ts) (h .count) ∙ sym (ap (λ (x : Found). x .rows) e);
+        carried = λ e. absurd (z (sym (h .code) ∙ e));
       }
 
-  pub asked-answered : (m : ℕ) (o : Outcome) → First rules m → m ≡ 0 → k ≤ 64 → answers (found b (map stored p) k) → Answered b p k o → OutcomeBy rules answers b p k o
-  asked-answered m o f z top w h =
-      let e : found b (map stored p) k ≡ foundWith (o .answer .code) b p k = sym (ap (λ (x : ℕ). foundWith x b p k) (h .code)) in
-      let rows : rowsIn (o .list .distances) (o .list .tags) (o .list .count) ≡ foundWith (o .answer .code) b p k .rows = ap (λ (x : Found). x .rows) (h .same ∙ e) in
-      let few : o .list .count ≤ k = h .few in
+  pub asked-answered : (m : ℕ) (r : Answer) → First rules m → m ≡ 0 → Places ds ts → w .k ≤ 64 → answers (found b (sought w)) → Answered b w ds ts r → OutcomeBy rules answers b w ds ts r
+  asked-answered m r f z p top answer h =
+      let e : found b (sought w) ≡ foundWith (r .code) b w = sym (ap (λ (x : ℕ). foundWith x b w) (h .code)) in
+      let rows : rowsIn ds ts (r .count) ≡ foundWith (r .code) b w .rows = ap (λ (x : Found). x .rows) (h .same ∙ e) in
+      let few : r .count ≤ w .k = h .few in
       record {
         first = subst (First rules) (z ∙ sym (h .code)) f;
-        listed = h .listed;
         few = few;
-        count = sym (h .listed) ∙ sym (rows-held (o .list .distances) (o .list .tags) (o .list .count) (h .distances) (h .tags) (omega arith)) ∙ ap length rows;
+        count = sym (rows-held ds ts (r .count) (omega (arith, p .0)) (omega (arith, p .1))) ∙ ap length rows;
         leaves = ap (λ (x : Found). x .leaves) (h .same ∙ e);
         rows = rows;
-        distances = h .distances;
-        tags = h .tags;
-        carried = λ z. subst answers (sym (h .same)) w;
+        carried = λ z. subst answers (sym (h .same)) answer;
       }
 
--- what the search returns, as an outcome
-pub answered-by : (b : List ℕ) (p : List ℤ) (k : ℕ) (slots : List ℕ) (r : search.Found) → slots ≡ slotsOf p → Searched b (take (length p) slots) k r
-    → length (r .distances) ≡ 64 → length (r .tags) ≡ 64
-    → Answered b p k (record { answer = record { code = 0; count = r .rows; leaves = r .leaves }; list = record { distances = r .distances; tags = r .tags; count = r .rows } })
-answered-by b p k slots r e h d t =
-    let own : take (length p) slots ≡ map stored p = subst (λ (s : List ℕ). take (length p) s ≡ map stored p) (sym e) (slots-own p) in
-    record { code = refl; listed = refl; few = h .few; same = h .answer ∙ ap (λ (q : List ℕ). found b q k) own; distances = d; tags = t }
+-- the query for a question, with places for its rows, can be searched for
+pub query-sought : (w : Question) (r : Query) (ds ts : List ℕ) → QueryFor w r → Searchable w → Places ds ts → Searches r ds ts
+query-sought w r ds ts q can p =
+    let k : r .k ≡ w .k = ap (λ (a : Asked). a .k) (q .is) in
+    record {
+      slots = q .slots;
+      few = q .few;
+      looked = record { seekable = q .seekable; one = omega (arith, can .some); rows = omega (arith, can .few, p .0); tags = omega (arith, can .few, p .1) };
+    }
+
+-- what the search returns, as an answer
+pub answered-by : (b : List ℕ) (w : Question) (q : Query) (ds ts : List ℕ) (r : Seen) → QueryFor w q → Searched b (asks q) ds ts r
+    → Answered b w ds ts (record { code = 0; count = r .rows; leaves = r .leaves })
+answered-by b w q ds ts r e h =
+    record { code = refl; few = omega (arith, h .few, ap (λ (a : Asked). a .k) (e .is)); same = h .answer ∙ ap (found b) (e .is) }

@@ -2,21 +2,23 @@
 use mathlib.Core.Path.{_≡_, refl, _∙_, subst}
 use mathlib.Core.Bool.{Bool, true}
 use mathlib.Core.Logic.{_≢_, inl, inr}
-use mathlib.Core.List.{List, [], _∷_, _++_, map}
+use mathlib.Core.List.{List, [], _∷_, _++_}
 use Prim.Native.Nat.{ℕ, _≤_, _<_}
 use native.Mathlib.Omega.{arith}
 use lib.IntN.{ℤ}
 use lib.ListN.{length}
 use Rattle.lists.specs.Tests.{three}
-use Rattle.geometry.specs.Stored.{stored, inRange}
-use Rattle.search.specs.Visit.{found}
+use Rattle.geometry.specs.Stored.{inRange}
 use Rattle.pagestore.specs.Store.{View, viewOf, fieldAt, features, total}
 use Rattle.trees.specs.Sound.{SoundIndex}
-use Rattle.index.specs.Refusals.{Rule, First, checkRules, insertRules, deleteRules, questionRules}
-use Rattle.index.specs.RefusalLaws.{Hold, numbered, all-hold, refused-before, refused-after, later}
+use Rattle.search.specs.Visit.{found}
+use Rattle.index.specs.Asking.{Question, Searchable, sought}
+use Rattle.index.specs.Refusals.{Rule, First, checkRules, insertRules, deleteRules, questionRules, askedRules}
+use Rattle.index.specs.RefusalLaws.{Hold, numbered, all-hold, refused-before, refused-after, later, Carried}
 use Rattle.index.specs.Outcomes.{Decides}
 use Rattle.index.specs.Answers.{AnswersIfSound, search-answers}
 use Rattle.index.specs.Trusted.{Suits, trustedPoint, trustedInsert, trustedQuestion, pairRules}
+use Rattle.index.specs.TrustedLaws.{trusted-carried}
 use Rattle.index.specs.Vouched.{vouchedInsert, vouchedDelete}
 
 -- ---- THE HEADER'S FIELDS
@@ -50,15 +52,15 @@ module _ (b : List ℕ) (n : ℕ) (f : First (checkRules b) n) where
   checked-sound e = none-refuses (checkRules b) n refl f e .1 .0
 
   -- an act begins with the check's rules
-  module _ (w : n ≢ 0) where
+  module _ (z : n ≢ 0) where
     pub insert-unsound : (i : ℕ) (p : List ℤ) → First (insertRules b i p) n
-    insert-unsound i p = refused-before (checkRules b) (later (later (insertRules b i p))) n w f
+    insert-unsound i p = refused-before (checkRules b) (later (later (insertRules b i p))) n z f
 
     pub delete-unsound : (i : ℕ) → First (deleteRules b i) n
-    delete-unsound i = refused-before (checkRules b) (later (later (deleteRules b i))) n w f
+    delete-unsound i = refused-before (checkRules b) (later (later (deleteRules b i))) n z f
 
-    pub question-unsound : (p : List ℤ) (k m : ℕ) → First (questionRules b p k m) n
-    question-unsound p k m = refused-before (checkRules b) (later (later (questionRules b p k m))) n w f
+    pub question-unsound : (w : Question) (m : ℕ) → First (questionRules b w m) n
+    question-unsound w m = refused-before (checkRules b) (later (later (questionRules b w m))) n z f
 
 -- ---- THE POINT
 
@@ -76,15 +78,14 @@ module _ (b : List ℕ) (p : List ℤ) (n : ℕ) (f : First (trustedPoint b p) n
     pub pair-some : n ≡ 0 → i ≢ 0 → First (pairRules b i p) 0
     pair-some e w = pairs e 0 (inr (omega (arith, w), refl))
 
-  module _ (k lent : ℕ) where
-    abbrev ofQuestion : List Rule
-    ofQuestion = later (later (later (later (trustedQuestion b p k lent))))
+-- ---- THE QUESTION
 
-    pub question-point : n ≢ 0 → First (trustedQuestion b p k lent) n
-    question-point w = refused-before (trustedPoint b p) ofQuestion n w f
+module _ (b : List ℕ) (w : Question) (lent n : ℕ) (f : First (trustedPoint b (w .point)) n) where
+  pub question-point : n ≢ 0 → First (trustedQuestion b w lent) n
+  question-point z = refused-before (trustedPoint b (w .point)) (askedRules w lent) n z f
 
-    pub question-further : n ≡ 0 → (m : ℕ) → First ofQuestion m → First (trustedQuestion b p k lent) m
-    question-further e m g = refused-after (trustedPoint b p) ofQuestion m (none-refuses (trustedPoint b p) n refl f e) g
+  pub question-further : n ≡ 0 → (m : ℕ) → First (askedRules w lent) m → First (trustedQuestion b w lent) m
+  question-further e m g = refused-after (trustedPoint b (w .point)) (askedRules w lent) m (none-refuses (trustedPoint b (w .point)) n refl f e) g
 
 -- ---- THE IDENTIFIER AND ITS POINT
 
@@ -117,12 +118,14 @@ insert-fits b i p n f e = let h = none-refuses (trustedInsert b i p) n refl f e 
 pub vouched-fits : (b : List ℕ) (i : ℕ) (p : List ℤ) (n : ℕ) → First (vouchedInsert b i p) n → n ≡ 0 → (length p ≤ 16) × (inRange p ≡ true)
 vouched-fits b i p n f e = let h = none-refuses (vouchedInsert b i p) n refl f e in (h .1 .1 .0 .1, h .1 .1 .1 .0)
 
--- what the search asks for
-pub may-search : (b : List ℕ) (p : List ℤ) (k lent n : ℕ) → First (trustedQuestion b p k lent) n → n ≡ 0
-    → (1 ≤ length p) × (length p ≤ 16) × (inRange p ≡ true) × (1 ≤ k) × (k ≤ 64)
-may-search b p k lent n f e = let h = none-refuses (trustedQuestion b p k lent) n refl f e in (h .1 .1 .0 .0, h .1 .1 .0 .1, h .1 .1 .1 .0, h .1 .1 .1 .1 .0 .0, h .1 .1 .1 .1 .0 .1)
+module _ (b : List ℕ) (w : Question) (lent n : ℕ) (f : First (trustedQuestion b w lent) n) (e : n ≡ 0) where
+  -- a question that is not refused can be searched for
+  pub may-search : Searchable w
+  may-search =
+      let h = none-refuses (trustedQuestion b w lent) n refl f e in
+      let c = trusted-carried b w lent (subst (First (trustedQuestion b w lent)) e f) in
+      record { features = h .1 .1 .0 .0; most = h .1 .1 .0 .1; ranges = c .ranges; some = c .some; few = c .most }
 
--- and what it finds on a sound index
-pub trusted-answers : (b : List ℕ) (p : List ℤ) (k lent n : ℕ) → First (trustedQuestion b p k lent) n → n ≡ 0 → AnswersIfSound b p k (found b (map stored p) k)
-trusted-answers b p k lent n f e s =
-    let h = none-refuses (trustedQuestion b p k lent) n refl f e in search-answers b s p (h .1 .1 .0 .2) (h .1 .1 .1 .0) k (h .1 .1 .1 .1 .0 .0)
+  -- and what is found on a sound index
+  pub trusted-answers : AnswersIfSound b w (found b (sought w))
+  trusted-answers s = let c = trusted-carried b w lent (subst (First (trustedQuestion b w lent)) e f) in search-answers b s w (c .features) (c .some)

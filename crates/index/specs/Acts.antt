@@ -7,14 +7,15 @@ use Rattle.pagestore.specs.declared.Record.{Record}
 use Rattle.tree.specs.Insertion.{insertRecord}
 use Rattle.tree.specs.Deletion.{deleteRecord}
 use Rattle.search.specs.Visit.{Answer as Found}
+use Rattle.index.specs.Asking.{Question}
 use Rattle.index.specs.Refusals.{First, insertRules, deleteRules, questionRules, checkRules, recordOf}
 use Rattle.index.specs.Outcomes.{unlessRefused, insertedWith, deletedWith, foundWith}
 
--- insert an identifier with its point; delete an identifier; question for the k nearest of a point, with n rows lent; check
+-- insert an identifier with its point; delete an identifier; ask a question, with n rows lent; check
 pub data Act : Type 0 where
   insert : (i : ℕ) → List ℤ → Act
   delete : (i : ℕ) → Act
-  question : List ℤ → (k n : ℕ) → Act
+  question : Question → (n : ℕ) → Act
   check : Act
 
 -- an act with what it returned: its number, and of a question the rows and the number of leaves read
@@ -27,7 +28,7 @@ pub record Done : Type 0 where
 abbrev pub does : Act → List ℕ → ℕ → Found → List ℕ → Type 0
 does (insert i p) b code answer c = (i < 2 ^ 32) × (First (insertRules b i p) code) × (c ≡ insertedWith code b i p)
 does (delete i) b code answer c = (First (deleteRules b i) code) × (c ≡ deletedWith code b i)
-does (question p k n) b code answer c = (First (questionRules b p k n) code) × (answer ≡ foundWith code b p k) × (c ≡ b)
+does (question w n) b code answer c = (First (questionRules b w n) code) × (answer ≡ foundWith code b w) × (c ≡ b)
 does check b code answer c = (First (checkRules b) code) × (c ≡ b)
 
 abbrev pub Does : List ℕ → Done → List ℕ → Type 0
@@ -42,7 +43,7 @@ pub data Series : List ℕ → List Done → List ℕ → Type 0 where
 abbrev pub changedBy : ℕ → Act → List Record → List Record
 changedBy d (insert i p) rs = insertRecord d (recordOf i p) rs
 changedBy d (delete i) rs = deleteRecord i rs
-changedBy d (question p k n) rs = rs
+changedBy d (question w n) rs = rs
 changedBy d check rs = rs
 
 -- if it is carried out

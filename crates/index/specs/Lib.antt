@@ -1,3 +1,4 @@
+pub mod Asking
 pub mod Refusals
 pub mod RefusalLaws
 pub mod NumberLaws
@@ -5,6 +6,7 @@ pub mod Outcomes
 pub mod OutcomeLaws
 pub mod CheckAnswers
 pub mod PointLaws
+pub mod AskingLaws
 pub mod Answers
 pub mod Questions
 pub mod QuestionLaws

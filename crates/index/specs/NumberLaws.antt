@@ -6,7 +6,8 @@ use mathlib.Core.List.{List, [], _∷_}
 use Prim.Native.Nat.{ℕ}
 use Rattle.lists.specs.Tests.{cases, false-true}
 use Rattle.faults.specs.Decidable.{Either, le?, eq?, both?, permitted?, sound-index?}
-use Rattle.index.specs.Refusals.{Rule, First, makeRules, insertRules, deleteRules, questionRules, checkRules}
+use Rattle.index.specs.Asking.{Question}
+use Rattle.index.specs.Refusals.{Rule, First, makeRules, insertRules, deleteRules, questionRules, askedRules, checkRules}
 use Rattle.index.specs.Acts.{Act, insert, delete, question, check}
 
 abbrev Decided : List Rule → Type 0
@@ -25,13 +26,16 @@ true? t = cases t (λ e. inl e) (λ e. inr (λ h. false-true (sym e ∙ h)))
 abbrev pub rulesOf : Act → List ℕ → List Rule
 rulesOf (insert i p) b = insertRules b i p
 rulesOf (delete i) b = deleteRules b i
-rulesOf (question p k n) b = questionRules b p k n
+rulesOf (question w n) b = questionRules b w n
 rulesOf check b = checkRules b
+
+asked? : (w : Question) (n : ℕ) → Decided (askedRules w n)
+asked? w n = (both? (le? _ _) (le? _ _), (le? _ _, tt))
 
 decided : (a : Act) (b : List ℕ) → Decided (rulesOf a b)
 decided (insert i p) b = (permitted? _, (sound-index? b, (eq? _ _, (true? _, (le? _ _, (eq? _ _, (le? _ _, (le? _ _, tt))))))))
 decided (delete i) b = (permitted? _, (sound-index? b, (le? _ _, (le? _ _, (le? _ _, tt)))))
-decided (question p k n) b = (permitted? _, (sound-index? b, (eq? _ _, (true? _, (both? (le? _ _) (le? _ _), (le? _ _, tt))))))
+decided (question w n) b = (permitted? _, (sound-index? b, (eq? _ _, (true? _, asked? w n))))
 decided check b = (permitted? _, (sound-index? b, tt))
 
 pub some-number : (a : Act) (b : List ℕ) → (n : ℕ) × First (rulesOf a b) n

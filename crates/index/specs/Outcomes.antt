@@ -1,14 +1,14 @@
 -- What an act returns and what it leaves of the index: where a number refuses it, every byte stays as it was.
 use mathlib.Core.Bool.{Bool, true, false}
-use mathlib.Core.List.{List, [], map}
+use mathlib.Core.List.{List, []}
 use Prim.Native.Nat.{ℕ, zero, suc}
 use lib.IntN.{ℤ}
-use Rattle.geometry.specs.Stored.{stored}
 use Rattle.pagestore.specs.Store.{newIndex}
 use Rattle.tree.specs.Insertion.{insertInto}
 use Rattle.tree.specs.Deletion.{deleteFrom}
 use Rattle.tree.specs.Lookup.{findIn}
 use Rattle.search.specs.Visit.{Answer as Found, found}
+use Rattle.index.specs.Asking.{Question, sought}
 use Rattle.index.specs.Refusals.{recordOf}
 
 -- a test of P
@@ -36,5 +36,5 @@ deletedWith n b i = unlessRefused n (deleteFrom b (findIn b i)) b
 abbrev pub nothingFound : Found
 nothingFound = record { rows = []; leaves = 0 }
 
-abbrev pub foundWith : ℕ → List ℕ → List ℤ → ℕ → Found
-foundWith n b p k = unlessRefused n (found b (map stored p) k) nothingFound
+abbrev pub foundWith : ℕ → List ℕ → Question → Found
+foundWith n b w = unlessRefused n (found b (sought w)) nothingFound

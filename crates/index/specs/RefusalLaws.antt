@@ -4,17 +4,21 @@ use mathlib.Core.Path.{_≡_, refl, sym, _∙_}
 use mathlib.Core.Bool.{Bool, true, false}
 use mathlib.Core.Logic.{_≢_, inl, inr}
 use mathlib.Core.List.{List, [], _∷_, _++_}
-use Prim.Native.Nat.{ℕ, _<_}
+use Prim.Native.Nat.{ℕ, _≤_, _<_}
 use native.Mathlib.Omega.{arith}
 use lib.Dec.{leb, eqb}
+use lib.ListN.{length}
 use borrow.Author.Tests.{leb-true, ne-eqb}
 use Rattle.lists.specs.Basics.{pick, All, none, also}
 use Rattle.lists.specs.Counts.{mult, all-of-mult}
 use Rattle.lists.specs.Sorting.{count}
 use Rattle.lists.specs.Tests.{false-true}
+use Rattle.geometry.specs.Stored.{inRange}
+use Rattle.pagestore.specs.Store.{View, viewOf}
 use Rattle.trees.specs.Sound.{SoundIndex}
 use Rattle.tree_laws.specs.SpacePromises.{pages-given}
-use Rattle.index.specs.Refusals.{Rule, First, liveTimes, pagesToEven, deleteRules}
+use Rattle.index.specs.Asking.{Question}
+use Rattle.index.specs.Refusals.{Rule, First, liveTimes, pagesToEven, deleteRules, questionRules, askedRules}
 
 pub first-one : (rules : List Rule) (m n : ℕ) → First rules m → First rules n → m ≡ n
 first-one [] m n e f = e ∙ sym f
@@ -88,3 +92,27 @@ put-in (x ∷ xs) ys rule n h (inr e) = inr (e .0, put-in xs ys rule n (λ w. h 
 abbrev pub later : List Rule → List Rule
 later [] = []
 later (rule ∷ rules) = rules
+
+-- ---- A QUESTION THAT IS NOT REFUSED
+
+-- with n rows lent, on an index of d features
+pub record Carried (d : ℕ) (w : Question) (n : ℕ) : Type 0 where
+  pub features : length (w .point) ≡ d
+  pub ranges : inRange (w .point) ≡ true
+  pub some : 1 ≤ w .k
+  pub most : w .k ≤ 64
+  pub lent : w .k ≤ n
+
+pub asked-carried : (d : ℕ) (w : Question) (n : ℕ) → length (w .point) ≡ d → inRange (w .point) ≡ true → Hold (askedRules w n) → Carried d w n
+asked-carried d w n e r h = record { features = e; ranges = r; some = h .0 .0; most = h .0 .1; lent = h .1 .0 }
+
+-- and conversely
+pub carried-asked : (d : ℕ) (w : Question) (n : ℕ) → Carried d w n → Hold (askedRules w n)
+carried-asked d w n h = ((h .some, h .most), (h .lent, tt))
+
+module _ (b : List ℕ) (w : Question) (n : ℕ) (h : First (questionRules b w n) 0) where
+  pub question-sound : SoundIndex b
+  question-sound = all-hold (questionRules b w n) refl h .1 .0
+
+  pub question-carried : Carried (viewOf b .d) w n
+  question-carried = let a = all-hold (questionRules b w n) refl h in asked-carried (viewOf b .d) w n (a .1 .1 .0) (a .1 .1 .1 .0) (a .1 .1 .1 .1)

@@ -18,6 +18,7 @@ use Rattle.trees.specs.Sound.{Permitted, SoundIndex}
 use Rattle.tree.specs.Insertion.{pagesWanted}
 use Rattle.tree_laws.specs.DeletePromises.{deleteIdent}
 use Rattle.tree_laws.specs.SpacePromises.{treePages}
+use Rattle.index.specs.Asking.{Question}
 
 -- a number with its condition
 abbrev pub Rule : Type 1
@@ -40,7 +41,7 @@ liveTimes b i = mult i (map identOf (live (viewOf b)))
 unfoldable pub pagesToEven : List ℕ → ℕ → ℕ
 pagesToEven b i = count (λ p. eqb (mult p (treePages b)) 0) (treePages (deleteIdent b i))
 
--- b: the bytes lent. d: features. i: an identifier. p: a point. k: rows asked for. n: rows lent.
+-- b: the bytes lent. d: features. i: an identifier. p: a point. w: a question. n: rows lent.
 
 abbrev pub makeRules : ℕ → ℕ → List Rule
 makeRules bytes d =
@@ -69,15 +70,20 @@ deleteRules b i =
     ∷ (12, pagesToEven b i ≤ length (freeAt b))
     ∷ []
 
-abbrev pub questionRules : List ℕ → List ℤ → ℕ → ℕ → List Rule
-questionRules b p k n =
+-- those of a question that look at no index and not at its point
+abbrev pub askedRules : Question → ℕ → List Rule
+askedRules w n =
+    (10, (1 ≤ w .k) × (w .k ≤ 64))
+    ∷ (11, w .k ≤ n)
+    ∷ []
+
+abbrev pub questionRules : List ℕ → Question → ℕ → List Rule
+questionRules b w n =
     (1, Permitted (length b))
     ∷ (2, SoundIndex b)
-    ∷ (3, length p ≡ viewOf b .d)
-    ∷ (4, inRange p ≡ true)
-    ∷ (10, (1 ≤ k) × (k ≤ 64))
-    ∷ (11, k ≤ n)
-    ∷ []
+    ∷ (3, length (w .point) ≡ viewOf b .d)
+    ∷ (4, inRange (w .point) ≡ true)
+    ∷ askedRules w n
 
 abbrev pub checkRules : List ℕ → List Rule
 checkRules b =

@@ -18,10 +18,10 @@ use Rattle.trees.specs.Sound.{Permitted}
 use Rattle.tree.specs.Insertion.{pagesWanted}
 use Rattle.tree.specs.Lookup.{findIn}
 use Rattle.lending.specs.declared.Answer.{Answer}
-use Rattle.lending.specs.declared.Outcome.{Outcome}
 use Rattle.lending.specs.declared.Tally.{Tally}
 use Rattle.candidates.specs.declared.Row.{Row}
-use Rattle.index.specs.Refusals.{Rule, First, recordOf}
+use Rattle.index.specs.Asking.{Question}
+use Rattle.index.specs.Refusals.{Rule, First, recordOf, askedRules}
 use Rattle.index.specs.Answers.{AnswersIfSound}
 use Rattle.index.specs.Questions.{OutcomeBy, QuestionedBy}
 
@@ -49,15 +49,13 @@ trustedDelete b i =
     ∷ (7, findIn b i .id ≢ 0)
     ∷ []
 
-abbrev pub trustedQuestion : List ℕ → List ℤ → ℕ → ℕ → List Rule
-trustedQuestion b p k n =
+abbrev pub trustedQuestion : List ℕ → Question → ℕ → List Rule
+trustedQuestion b w n =
     (1, Permitted (length b))
     ∷ (2, fieldAt level b ≤ 4)
-    ∷ (3, Suits b p)
-    ∷ (4, inRange p ≡ true)
-    ∷ (10, (1 ≤ k) × (k ≤ 64))
-    ∷ (11, k ≤ n)
-    ∷ []
+    ∷ (3, Suits b (w .point))
+    ∷ (4, inRange (w .point) ≡ true)
+    ∷ askedRules w n
 
 -- those with which insert and question both begin
 abbrev pub trustedPoint : List ℕ → List ℤ → List Rule
@@ -89,9 +87,9 @@ abbrev pub numbers : List Rule → List ℕ
 numbers [] = []
 numbers (rule ∷ rules) = rule .0 ∷ numbers rules
 
--- A question without the check, by value and as it is handed over. Where it is carried out on a sound index, its rows and its count are the act's.
-abbrev pub TrustedOutcome : List ℕ → List ℤ → ℕ → ℕ → Outcome → Type 0
-TrustedOutcome b p k n o = OutcomeBy (trustedQuestion b p k n) (AnswersIfSound b p k) b p k o
+-- A question without the check, before it is handed over and afterwards. Where it is carried out on a sound index, its rows and its count are the act's.
+abbrev pub TrustedOutcome : List ℕ → Question → ℕ → List ℕ → List ℕ → Answer → Type 0
+TrustedOutcome b w n distances tags r = OutcomeBy (trustedQuestion b w n) (AnswersIfSound b w) b w distances tags r
 
-abbrev pub TrustedQuestioned : List ℕ → List ℤ → ℕ → List Row → Tally → Answer → List Row → Tally → Type 0
-TrustedQuestioned b p k lent tally r lent' tally' = QuestionedBy (trustedQuestion b p k (length lent)) (AnswersIfSound b p k) b p k lent tally r lent' tally'
+abbrev pub TrustedQuestioned : List ℕ → Question → List Row → Tally → Answer → List Row → Tally → Type 0
+TrustedQuestioned b w lent tally r lent' tally' = QuestionedBy (trustedQuestion b w (length lent)) (AnswersIfSound b w) b w lent tally r lent' tally'

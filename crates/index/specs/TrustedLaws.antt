@@ -16,14 +16,13 @@ use Rattle.tree_laws.specs.LookupPromises.{find-ident, find-none}
 use Rattle.search.proofs.SoundLaws.{tree-level}
 use Rattle.candidates.specs.declared.Row.{Row}
 use Rattle.lending.specs.declared.Answer.{Answer}
-use Rattle.lending.specs.declared.Candidates.{Candidates}
-use Rattle.lending.specs.declared.Outcome.{Outcome}
 use Rattle.lending.specs.declared.Tally.{Tally}
 use Rattle.lending.specs.Delivered.{Delivered}
-use Rattle.index.specs.Refusals.{Rule, First, liveTimes, pagesToEven, insertRules, deleteRules, questionRules}
-use Rattle.index.specs.RefusalLaws.{evening-takes-none, all-hold, put-in, later}
+use Rattle.index.specs.Asking.{Question}
+use Rattle.index.specs.Refusals.{Rule, First, liveTimes, pagesToEven, insertRules, deleteRules, questionRules, askedRules}
+use Rattle.index.specs.RefusalLaws.{evening-takes-none, all-hold, put-in, later, Carried, asked-carried}
 use Rattle.index.specs.Answers.{AnswersIfSound}
-use Rattle.index.specs.Questions.{QuestionOutcome, Questioned}
+use Rattle.index.specs.Questions.{Places, QuestionOutcome, Questioned}
 use Rattle.index.specs.QuestionLaws.{handed-over}
 use Rattle.index.specs.Trusted.{Suits, trustedInsert, trustedDelete, trustedQuestion, numbers, TrustedOutcome, TrustedQuestioned}
 
@@ -35,8 +34,8 @@ insert-numbers b i p = refl
 pub delete-numbers : (b : List ℕ) (i : ℕ) → numbers (trustedDelete b i) ++ (12 ∷ []) ≡ numbers (deleteRules b i)
 delete-numbers b i = refl
 
-pub question-numbers : (b : List ℕ) (p : List ℤ) (k n : ℕ) → numbers (trustedQuestion b p k n) ≡ numbers (questionRules b p k n)
-question-numbers b p k n = refl
+pub question-numbers : (b : List ℕ) (w : Question) (n : ℕ) → numbers (trustedQuestion b w n) ≡ numbers (questionRules b w n)
+question-numbers b w n = refl
 
 -- ---- RULES THAT AGREE
 
@@ -46,6 +45,10 @@ Alike [] [] = Unit {0}
 Alike [] (y ∷ ys) = ⊥
 Alike (x ∷ xs) [] = ⊥
 Alike (x ∷ xs) (y ∷ ys) = (x .0 ≡ y .0) × (x .1 → y .1) × (y .1 → x .1) × (y .1 → Alike xs ys)
+
+alike-self : (xs : List Rule) → Alike xs xs
+alike-self [] = tt
+alike-self (x ∷ xs) = (refl, λ h. h, λ h. h, λ h. alike-self xs)
 
 first-alike : (xs ys : List Rule) → Alike xs ys → (n : ℕ) → First xs n → First ys n
 first-alike [] [] a n f = f
@@ -118,36 +121,39 @@ module _ (b : List ℕ) (s : SoundIndex b) where
   pub delete-same : (i n : ℕ) → First (trustedDelete b i) n → First (deleteRules b i) n
   delete-same i n f = put-in (liveRules i) [] (12, pagesToEven b i ≤ length (freeAt b)) n (λ w. omega (arith, evening-takes-none b i s (w .1 .1 .1 .0))) (live-same i n f)
 
-  pub question-same : (p : List ℤ) (k m n : ℕ) → First (trustedQuestion b p k m) n → First (questionRules b p k m) n
-  question-same p k m n (inl e) = inl e
-  question-same p k m n (inr (h, inl e)) = absurd (e .1 level-low)
-  question-same p k m n (inr (h, inr f)) =
+  pub question-same : (w : Question) (m n : ℕ) → First (trustedQuestion b w m) n → First (questionRules b w m) n
+  question-same w m n (inl e) = inl e
+  question-same w m n (inr (h, inl e)) = absurd (e .1 level-low)
+  question-same w m n (inr (h, inr f)) =
       inr (
         h,
         inr (
           s,
-          first-alike (later (later (trustedQuestion b p k m))) (later (later (questionRules b p k m)))
-              (refl, λ h. h .2, suits p, λ w. (refl, λ h. h, λ h. h, λ w. (refl, λ h. h, λ h. h, λ w. (refl, λ h. h, λ h. h, λ w. tt)))) n (f .1),
+          first-alike (later (later (trustedQuestion b w m))) (later (later (questionRules b w m)))
+              (refl, λ h. h .2, suits (w .point), λ h. (refl, λ h. h, λ h. h, λ h. alike-self (askedRules w m))) n (f .1),
         ),
       )
 
-  -- and its outcome by value
-  pub asked-same : (p : List ℤ) (k m : ℕ) (o : Outcome) → TrustedOutcome b p k m o → QuestionOutcome b p k m o
-  asked-same p k m o a =
-      record { first = question-same p k m (o .answer .code) (a .first); listed = a .listed; few = a .few; count = a .count; leaves = a .leaves; rows = a .rows; distances = a .distances; tags = a .tags; carried = λ z. a .carried z s }
+  -- and its outcome
+  pub asked-same : (w : Question) (m : ℕ) (ds ts : List ℕ) (r : Answer) → TrustedOutcome b w m ds ts r → QuestionOutcome b w m ds ts r
+  asked-same w m ds ts r a = record { first = question-same w m (r .code) (a .first); few = a .few; count = a .count; leaves = a .leaves; rows = a .rows; carried = λ z. a .carried z s }
 
 -- ---- AN OUTCOME HANDED OVER
 
-module _ (b : List ℕ) (p : List ℤ) (k : ℕ) (lent : List Row) (tally : Tally) (o : Outcome) where
-  room : First (trustedQuestion b p k (length lent)) (o .answer .code) → o .answer .code ≡ 0 → (k ≤ 64) × (k ≤ length lent)
-  room f z =
-      let w = all-hold (trustedQuestion b p k (length lent)) refl (subst (First (trustedQuestion b p k (length lent))) z f) in (w .1 .1 .1 .1 .0 .1, w .1 .1 .1 .1 .1 .0)
+pub trusted-carried : (b : List ℕ) (w : Question) (n : ℕ) → First (trustedQuestion b w n) 0 → Carried (viewOf b .d) w n
+trusted-carried b w n h = let a = all-hold (trustedQuestion b w n) refl h in asked-carried (viewOf b .d) w n (a .1 .1 .0 .2) (a .1 .1 .1 .0) (a .1 .1 .1 .1)
 
-  pub trusted-hands : TrustedOutcome b p k (length lent) o → (r : Answer) (lent' : List Row) (tally' : Tally) → Delivered o lent tally r lent' tally' → TrustedQuestioned b p k lent tally r lent' tally'
-  trusted-hands a = handed-over (trustedQuestion b p k (length lent)) (AnswersIfSound b p k) b p k lent tally o a (room (a .first))
+module _ (b : List ℕ) (w : Question) (lent : List Row) (tally : Tally) (ds ts : List ℕ) (o : Answer) where
+  room : First (trustedQuestion b w (length lent)) (o .code) → o .code ≡ 0 → (w .k ≤ 64) × (w .k ≤ length lent)
+  room f z =
+      let c = trusted-carried b w (length lent) (subst (First (trustedQuestion b w (length lent))) z f) in (c .most, c .lent)
+
+  pub trusted-hands : Places ds ts → TrustedOutcome b w (length lent) ds ts o
+      → (r : Answer) (lent' : List Row) (tally' : Tally) → Delivered o ds ts lent tally r lent' tally' → TrustedQuestioned b w lent tally r lent' tally'
+  trusted-hands p a = handed-over (trustedQuestion b w (length lent)) (AnswersIfSound b w) b w lent tally ds ts o p a (room (a .first))
 
 -- on a sound index the trusted question is the question
-pub questioned-same : (b : List ℕ) → SoundIndex b → (p : List ℤ) (k : ℕ) (lent : List Row) (tally : Tally) (r : Answer) (lent' : List Row) (tally' : Tally)
-    → TrustedQuestioned b p k lent tally r lent' tally' → Questioned b p k lent tally r lent' tally'
-questioned-same b s p k lent tally r lent' tally' q =
-    record { first = question-same b s p k (length lent) (r .code) (q .first); count = q .count; leaves = q .leaves; rows = q .rows; tallying = q .tallying; carried = λ z. q .carried z s }
+pub questioned-same : (b : List ℕ) → SoundIndex b → (w : Question) (lent : List Row) (tally : Tally) (r : Answer) (lent' : List Row) (tally' : Tally)
+    → TrustedQuestioned b w lent tally r lent' tally' → Questioned b w lent tally r lent' tally'
+questioned-same b s w lent tally r lent' tally' q =
+    record { first = question-same b s w (length lent) (r .code) (q .first); count = q .count; leaves = q .leaves; rows = q .rows; tallying = q .tallying; carried = λ z. q .carried z s }

@@ -1,49 +1,59 @@
 // The question: the k nearest of a point, in lent rows, with the caller's tally.
-ghost use Rattle.index.specs.Questions.{QuestionOutcome, Questioned};
-use crate::Asked;
+ghost use Rattle.index.specs.Asking.{questionOf};
+ghost use Rattle.index.specs.Questions.{Places, QuestionOutcome, Questioned};
+use crate::Criteria;
+use crate::Returned;
 use crate::checking::refuse_index;
 use crate::refusing::refused;
 use crate::trusted;
 use candidates::Row;
 use lending::Answer;
-use lending::Outcome;
 use lending::Tally;
 use lending::deliver;
-use search::Query;
 
-// A question by value, with some rows lent: for callers that hold no rows and no tally of their own.
-pub fn question_outcome(index: &[u8], point: &[i16], what: Query, lent: usize) -> Outcome
-    ensures { λ o. ⌜ QuestionOutcome (now (index .entry)) (now (point .entry)) (what .k) lent o ⌝ }
+// A question before it is handed over, with so many rows lent: its rows, as distances and tags, go to two arrays.
+pub fn question_outcome(
+    index: &[u8],
+    point: &[i16],
+    what: Criteria,
+    lent: usize,
+    distances: &mut [u64],
+    tags: &mut [u64],
+) -> Answer
+    requires { ⌜ Places (now distances) (now tags) ⌝ }
+    ensures { λ r. ⌜ QuestionOutcome (now (index .entry)) (questionOf (now (point .entry)) what) lent (now (distances .exit)) (now (tags .exit)) r ⌝ }
 {
     let code = refuse_index(index);
     if code != 0 {
         return refused(code);
     }
-    trusted::question_outcome(index, point, what, lent)
+    trusted::question_outcome(index, point, what, lent, distances, tags)
 }
 
 // The question for the nearest records of a point: its rows go to those lent, and the caller's tally counts it.
 pub fn question(
     index: &[u8],
     point: &[i16],
-    what: Query,
+    what: Criteria,
     rows: &mut [Row],
     tally: &mut Tally,
 ) -> Answer
-    ensures { λ r. ⌜ Questioned (now (index .entry)) (now (point .entry)) (what .k) (now (rows .entry)) (now (tally .entry)) r (now (rows .exit)) (now (tally .exit)) ⌝ }
+    ensures { λ r. ⌜ Questioned (now (index .entry)) (questionOf (now (point .entry)) what) (now (rows .entry)) (now (tally .entry)) r (now (rows .exit)) (now (tally .exit)) ⌝ }
 {
-    let o = question_outcome(index, point, what, rows.len());
-    deliver(rows, tally, o)
+    let mut distances = [0u64; 64];
+    let mut tags = [0u64; 64];
+    let answer = question_outcome(index, point, what, rows.len(), &mut distances, &mut tags);
+    deliver(rows, tally, answer, &distances, &tags)
 }
 
 // The question for callers that hold 64 rows and a tally by value.
-pub fn ask(index: &[u8], point: &[i16], what: Query, rows: [Row; 64], tally: Tally) -> Asked
-    ensures { λ r. ⌜ Questioned (now (index .entry)) (now (point .entry)) (what .k) rows tally (r .answer) (r .rows) (r .tally) ⌝ }
+pub fn ask(index: &[u8], point: &[i16], what: Criteria, rows: [Row; 64], tally: Tally) -> Returned
+    ensures { λ r. ⌜ Questioned (now (index .entry)) (questionOf (now (point .entry)) what) rows tally (r .answer) (r .rows) (r .tally) ⌝ }
 {
     let mut kept = rows;
     let mut count = tally;
     let answer = question(index, point, what, &mut kept, &mut count);
-    Asked {
+    Returned {
         answer: answer,
         rows: kept,
         tally: count,

@@ -8,6 +8,7 @@ use lending::Tally;
 mod asking;
 mod checking;
 mod making;
+mod querying;
 mod refusing;
 pub mod trusted;
 mod upkeep;
@@ -22,8 +23,13 @@ pub use making::permitted;
 pub use upkeep::delete;
 pub use upkeep::insert;
 
+// What is asked of a point.
+pub struct Criteria {
+    pub k: usize, // how many of its nearest
+}
+
 // What a question by value leaves: its answer, and the rows and the tally after it.
-pub struct Asked {
+pub struct Returned {
     pub answer: Answer,
     pub rows: [Row; 64],
     pub tally: Tally,

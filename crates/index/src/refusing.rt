@@ -5,15 +5,15 @@ ghost use Prim.Native.Nat.{_≤_, _<_};
 ghost use lib.ListN.{length};
 ghost use Rattle.geometry.specs.Stored.{inRange};
 ghost use Rattle.pagestore.specs.Store.{freshAt, freeAt};
+ghost use Rattle.index.specs.Asking.{questionOf};
 ghost use Rattle.index.specs.Refusals.{First, recordOf};
 ghost use Rattle.index.specs.Outcomes.{Decides};
 ghost use Rattle.index.specs.Questions.{Refused};
 ghost use Rattle.index.specs.Trusted.{trustedPoint, pairRules, roomRules, trustedInsert, trustedQuestion};
+use crate::Criteria;
 use crate::making::permitted;
 use geometry::points::slots_of;
 use lending::Answer;
-use lending::Candidates;
-use lending::Outcome;
 use pagestore::Record;
 use pagestore::features_of;
 use pagestore::free_count;
@@ -57,41 +57,34 @@ fn refuse_point(index: &[u8], point: &[i16]) -> u32
     0
 }
 
-// The number of a question for the k nearest with some rows lent.
-pub fn refuse_question(index: &[u8], point: &[i16], k: usize, lent: usize) -> u32
-    ensures { λ r. ⌜ First (trustedQuestion (now (index .entry)) (now (point .entry)) k lent) r ⌝ }
+// The number of a question with some rows lent.
+pub fn refuse_question(index: &[u8], point: &[i16], what: Criteria, lent: usize) -> u32
+    ensures { λ r. ⌜ First (trustedQuestion (now (index .entry)) (questionOf (now (point .entry)) what) lent) r ⌝ }
 {
     let coded = refuse_point(index, point);
     if coded != 0 {
         return coded;
     }
-    if k < 1 {
+    if what.k < 1 {
         return 10;
     }
-    if 64 < k {
+    if 64 < what.k {
         return 10;
     }
-    if lent < k {
+    if lent < what.k {
         return 11;
     }
     0
 }
 
 // What a question that is refused returns: its number, 0 rows, 0 leaves.
-pub fn refused(code: u32) -> Outcome
-    ensures { λ o. ⌜ Refused code o ⌝ }
+pub fn refused(code: u32) -> Answer
+    ensures { λ r. ⌜ Refused code r ⌝ }
 {
-    Outcome {
-        answer: Answer {
-            code: code,
-            count: 0,
-            leaves: 0,
-        },
-        list: Candidates {
-            distances: [0; 64],
-            tags: [0; 64],
-            count: 0,
-        },
+    Answer {
+        code: code,
+        count: 0,
+        leaves: 0,
     }
 }
 

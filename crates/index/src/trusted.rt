@@ -2,28 +2,23 @@
 // (`trusted-same`), and leaves a sound one. On any other bytes it ends without a fault, and what it returns and leaves is stated too:
 // a level that no sound index has is refused with 2.
 ghost use mathlib.Core.Path.{_≡_};
-ghost use mathlib.Core.Bool.{true};
-ghost use Prim.Native.Nat.{_≤_};
-ghost use lib.ListN.{length};
-ghost use Rattle.geometry.specs.Stored.{inRange};
+ghost use Rattle.index.specs.Asking.{questionOf, Searchable};
 ghost use Rattle.index.specs.Refusals.{First};
 ghost use Rattle.index.specs.Outcomes.{insertedWith, deletedWith};
-ghost use Rattle.index.specs.Questions.{Answered};
+ghost use Rattle.index.specs.Questions.{Places, Answered};
 ghost use Rattle.index.specs.Trusted.{trustedInsert, trustedDelete, TrustedOutcome, TrustedQuestioned};
+use crate::Criteria;
 use crate::making::permitted;
+use crate::querying::query_of;
 use crate::refusing::record_of;
 use crate::refusing::refuse_insert;
 use crate::refusing::refuse_question;
 use crate::refusing::refused;
 use candidates::Row;
-use geometry::points::slots_of;
 use lending::Answer;
-use lending::Candidates;
-use lending::Outcome;
 use lending::Tally;
 use lending::deliver;
 use pagestore::root_level;
-use search::Query;
 use search::search;
 use tree::find;
 
@@ -61,50 +56,55 @@ pub fn delete(index: &mut [u8], id: u32) -> u32
 }
 
 // What a question that is not refused returns: the rows and the count are the search's.
-fn answered(index: &[u8], point: &[i16], what: Query) -> Outcome
-    requires { ⌜ (1 ≤ length (now point)) × (length (now point) ≤ 16) × (inRange (now point) ≡ true) × (1 ≤ what .k) × (what .k ≤ 64) ⌝ }
-    ensures { λ o. ⌜ Answered (now (index .entry)) (now (point .entry)) (what .k) o ⌝ }
+fn answered(
+    index: &[u8],
+    point: &[i16],
+    what: Criteria,
+    distances: &mut [u64],
+    tags: &mut [u64],
+) -> Answer
+    requires { ⌜ Searchable (questionOf (now point) what) × Places (now distances) (now tags) ⌝ }
+    ensures { λ r. ⌜ Answered (now (index .entry)) (questionOf (now (point .entry)) what) (now (distances .exit)) (now (tags .exit)) r ⌝ }
 {
-    let slots = slots_of(point);
-    let n = point.len();
-    let found = search(index, &slots[..n], what);
-    let distances = found.distances;
-    let tags = found.tags;
-    Outcome {
-        answer: Answer {
-            code: 0,
-            count: found.rows,
-            leaves: found.leaves,
-        },
-        list: Candidates {
-            distances: distances,
-            tags: tags,
-            count: found.rows,
-        },
+    let seen = search(index, query_of(point, what), distances, tags);
+    Answer {
+        code: 0,
+        count: seen.rows,
+        leaves: seen.leaves,
     }
 }
 
-// A question by value, with some rows lent: for callers that hold no rows and no tally of their own.
-pub fn question_outcome(index: &[u8], point: &[i16], what: Query, lent: usize) -> Outcome
-    ensures { λ o. ⌜ TrustedOutcome (now (index .entry)) (now (point .entry)) (what .k) lent o ⌝ }
+// A question before it is handed over, with so many rows lent: its rows, as distances and tags, go to two arrays.
+pub fn question_outcome(
+    index: &[u8],
+    point: &[i16],
+    what: Criteria,
+    lent: usize,
+    distances: &mut [u64],
+    tags: &mut [u64],
+) -> Answer
+    requires { ⌜ Places (now distances) (now tags) ⌝ }
+    ensures { λ r. ⌜ TrustedOutcome (now (index .entry)) (questionOf (now (point .entry)) what) lent (now (distances .exit)) (now (tags .exit)) r ⌝ }
 {
-    let code = refuse_question(index, point, what.k, lent);
+    let code = refuse_question(index, point, what, lent);
     if code != 0 {
         return refused(code);
     }
-    answered(index, point, what)
+    answered(index, point, what, distances, tags)
 }
 
 // A question whose rows go to those lent, and which the caller's tally counts.
 pub fn question(
     index: &[u8],
     point: &[i16],
-    what: Query,
+    what: Criteria,
     rows: &mut [Row],
     tally: &mut Tally,
 ) -> Answer
-    ensures { λ r. ⌜ TrustedQuestioned (now (index .entry)) (now (point .entry)) (what .k) (now (rows .entry)) (now (tally .entry)) r (now (rows .exit)) (now (tally .exit)) ⌝ }
+    ensures { λ r. ⌜ TrustedQuestioned (now (index .entry)) (questionOf (now (point .entry)) what) (now (rows .entry)) (now (tally .entry)) r (now (rows .exit)) (now (tally .exit)) ⌝ }
 {
-    let o = question_outcome(index, point, what, rows.len());
-    deliver(rows, tally, o)
+    let mut distances = [0u64; 64];
+    let mut tags = [0u64; 64];
+    let answer = question_outcome(index, point, what, rows.len(), &mut distances, &mut tags);
+    deliver(rows, tally, answer, &distances, &tags)
 }

@@ -7,23 +7,22 @@ use lib.Dec.{eqb}
 use Rattle.lists.specs.Basics.{pick}
 use Rattle.candidates.specs.declared.Row.{Row}
 use Rattle.lending.specs.declared.Answer.{Answer}
-use Rattle.lending.specs.declared.Outcome.{Outcome}
 use Rattle.lending.specs.declared.Tally.{Tally}
 use Rattle.lending.specs.Filling.{filled}
 use Rattle.lending.specs.Tallies.{counted}
 
 -- success is 0
-abbrev pub carriedOut : Outcome → Bool
-carriedOut o = eqb (o .answer .code) 0
+abbrev pub carriedOut : Answer → Bool
+carriedOut a = eqb (a .code) 0
 
-abbrev pub rowsAfter : Outcome → List Row → List Row
-rowsAfter o old = pick (carriedOut o) (filled (o .list) old) old
+abbrev pub rowsAfter : Answer → List ℕ → List ℕ → List Row → List Row
+rowsAfter a distances tags old = pick (carriedOut a) (filled distances tags (a .count) old) old
 
-abbrev pub tallyAfter : Outcome → Tally → Tally
-tallyAfter o old = pick (carriedOut o) (counted old (o .answer .leaves)) old
+abbrev pub tallyAfter : Answer → Tally → Tally
+tallyAfter a old = pick (carriedOut a) (counted old (a .leaves)) old
 
--- the answer, the rows and the tally after the outcome o is handed over
-pub record Delivered (o : Outcome) (rows : List Row) (tally : Tally) (answer : Answer) (rows' : List Row) (tally' : Tally) : Type 0 where
-  pub same : answer ≡ o .answer
-  pub filling : rows' ≡ rowsAfter o rows
-  pub count : tally' ≡ tallyAfter o tally
+-- the answer, the rows and the tally after the answer a is handed over, with candidates in two arrays
+pub record Delivered (a : Answer) (distances tags : List ℕ) (rows : List Row) (tally : Tally) (answer : Answer) (rows' : List Row) (tally' : Tally) : Type 0 where
+  pub same : answer ≡ a
+  pub filling : rows' ≡ rowsAfter a distances tags rows
+  pub count : tally' ≡ tallyAfter a tally

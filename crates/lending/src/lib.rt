@@ -45,20 +45,13 @@ pub fn tally_question(t: &mut Tally, leaves: u32)
     *t = tallied(*t, leaves);
 }
 
-// The candidates that a question has found: the rows of the first `count` distances and tags.
-pub struct Candidates {
-    pub distances: [u64; 64],
-    pub tags: [u64; 64],
-    pub count: usize,
-}
-
 // The row of candidate i.
-fn row_at(list: Candidates, i: usize) -> Row
-    requires { ⌜ i < 64 ⌝ }
-    ensures { λ r. ⌜ r ≡ rowAt list i ⌝ }
+fn row_at(distances: &[u64], tags: &[u64], i: usize) -> Row
+    requires { ⌜ (i < length (now distances)) × (i < length (now tags)) ⌝ }
+    ensures { λ r. ⌜ r ≡ rowAt (now (distances .entry)) (now (tags .entry)) i ⌝ }
 {
-    let distance = list.distances[i];
-    let tag = list.tags[i];
+    let distance = distances[i];
+    let tag = tags[i];
     row_of(distance, tag)
 }
 
@@ -69,22 +62,23 @@ fn lesser(a: usize, b: usize) -> usize
     if a <= b { a } else { b }
 }
 
-// How many rows are written: the candidates, at most as many as there are places for them.
-fn fill_count(list: Candidates, lent: usize) -> usize
-    ensures { λ r. ⌜ r ≡ rowsLent list lent ⌝ }
+// How many rows are written: the candidates, at most as many as the arrays hold and as there are places for them.
+fn fill_count(distances: &[u64], tags: &[u64], count: usize, lent: usize) -> usize
+    ensures { λ r. ⌜ r ≡ rowsLent (now (distances .entry)) (now (tags .entry)) count lent ⌝ }
 {
-    let n = lesser(list.count, 64);
+    let held = lesser(distances.len(), tags.len());
+    let n = lesser(count, held);
     lesser(n, lent)
 }
 
-// Fills the rows lent with the candidates; rows past them keep their contents.
-pub fn fill_rows(rows: &mut [Row], list: Candidates)
-    ensures { λ _. ⌜ now (rows .exit) ≡ filled list (now (rows .entry)) ⌝ }
+// Fills the rows lent with the first `count` candidates, which two arrays hold; rows past them keep their contents.
+pub fn fill_rows(rows: &mut [Row], distances: &[u64], tags: &[u64], count: usize)
+    ensures { λ _. ⌜ now (rows .exit) ≡ filled (now (distances .entry)) (now (tags .entry)) count (now (rows .entry)) ⌝ }
 {
-    let n = fill_count(list, rows.len());
+    let n = fill_count(distances, tags, count, rows.len());
     let mut i: usize = 0;
     while i < n {
-        rows[i] = row_at(list, i);
+        rows[i] = row_at(distances, tags, i);
         i += 1;
     }
 }
@@ -97,19 +91,19 @@ pub struct Answer {
     pub leaves: u32,
 }
 
-// A question's answer with the candidates that it found.
-pub struct Outcome {
-    pub answer: Answer,
-    pub list: Candidates,
-}
-
-// Hands an outcome over: the rows are filled and the question is tallied; where it is refused both are left alone.
-pub fn deliver(rows: &mut [Row], tally: &mut Tally, o: Outcome) -> Answer
-    ensures { λ r. ⌜ Delivered o (now (rows .entry)) (now (tally .entry)) r (now (rows .exit)) (now (tally .exit)) ⌝ }
+// Hands an answer over: the rows are filled with the candidates and the question is tallied; where it is refused both are left alone.
+pub fn deliver(
+    rows: &mut [Row],
+    tally: &mut Tally,
+    answer: Answer,
+    distances: &[u64],
+    tags: &[u64],
+) -> Answer
+    ensures { λ r. ⌜ Delivered answer (now (distances .entry)) (now (tags .entry)) (now (rows .entry)) (now (tally .entry)) r (now (rows .exit)) (now (tally .exit)) ⌝ }
 {
-    if o.answer.code == 0 {
-        fill_rows(rows, o.list);
-        tally_question(tally, o.answer.leaves);
+    if answer.code == 0 {
+        fill_rows(rows, distances, tags, answer.count);
+        tally_question(tally, answer.leaves);
     }
-    o.answer
+    answer
 }

@@ -1,9 +1,9 @@
 -- Lists in the order of a test: elements that pass and how many, sums, insertion, sorting, the first k.
 use mathlib.Core.Path.{_≡_}
 use mathlib.Core.Bool.{Bool, true, false}
-use mathlib.Core.List.{List, [], _∷_, _++_}
+use mathlib.Core.List.{List, [], _∷_}
 use Prim.Native.Nat.{ℕ, _+_}
-use lib.ListN.{take, drop}
+use lib.ListN.{take}
 use Rattle.lists.specs.Basics.{pick, tick, All}
 
 -- the elements that pass, in their order
@@ -20,14 +20,6 @@ count p (x ∷ xs) = tick (p x) + count p xs
 unfoldable pub sum : {A : Type 0} → (A → ℕ) → List A → ℕ
 sum f [] = 0
 sum f (x ∷ xs) = f x + sum f xs
-
--- x put in at index p
-abbrev pub splice : {A : Type 0} → ℕ → A → List A → List A
-splice p x l = take p l ++ x ∷ drop p l
-
--- x put in at index p, those from there on one further, the one at index n lost
-abbrev pub putIn : {A : Type 0} → ℕ → ℕ → A → List A → List A
-putIn p n x l = take (n + 1) (splice p x l) ++ drop (n + 1) l
 
 -- `before` is a strict total order
 pub record Order {A : Type 0} (before : A → A → Bool) : Type 0 where

@@ -1,6 +1,6 @@
 -- The examples of 01 that are marked P: one list, in the definitions' own terms, and one proposition that covers it. Those that speak of leaves are
 -- of the index that 01 names: d = 1, the identifiers 1..17 at 1..17, inserted upward into a new index of 4 pages or more.
-use mathlib.Core.Path.{_≡_, sym}
+use mathlib.Core.Path.{_≡_, refl, sym}
 use mathlib.Core.Bool.{true}
 use mathlib.Core.List.{List, [], _∷_, _++_, map}
 use Prim.Native.Nat.{ℕ, _≤_}
@@ -19,8 +19,9 @@ use Rattle.trees.specs.Sound.{Permitted}
 use Rattle.search.specs.Examples as search
 use Rattle.search.specs.Examples.{recordNo}
 use Rattle.search.proofs.ExampleLaws as search-laws
+use Rattle.index.specs.Asking.{Question, nearestOf}
 use Rattle.index.specs.Refusals.{First, questionRules}
-use Rattle.index.specs.RefusalLaws.{none-fails}
+use Rattle.index.specs.RefusalLaws.{none-fails, Carried, carried-asked}
 use Rattle.index.specs.Outcomes.{foundWith}
 use Rattle.tree_laws.specs.UpwardExample.{upward, seventeen-sound, seventeen-features, seventeen-leaves}
 
@@ -29,10 +30,13 @@ pub data Example : Type 0 where
   figure : geometry.Example → Example
   asked : search.Example → Example
 
--- the question for the k nearest of a point on the index c, with k rows lent: it is carried out, the identifiers of its rows, in order, and the
--- number of leaves read
+-- the question for the k nearest of a point
+abbrev pub askedBy : search.Example → Question
+askedBy e = nearestOf (pos (e .point) ∷ []) (e .k)
+
+-- it, on the index c with k rows lent: it is carried out, the identifiers of its rows, in order, and the number of leaves read
 abbrev pub Gives : List ℕ → search.Example → Type 0
-Gives c e = First (questionRules c (pos (e .point) ∷ []) (e .k) (e .k)) 0 × (map (λ x. x .id) ((foundWith 0 c (pos (e .point) ∷ []) (e .k)) .rows) ≡ e .rows) × ((foundWith 0 c (pos (e .point) ∷ []) (e .k)) .leaves ≡ e .read)
+Gives c e = First (questionRules c (askedBy e) (e .k)) 0 × (map (λ x. x .id) (foundWith 0 c (askedBy e) .rows) ≡ e .rows) × (foundWith 0 c (askedBy e) .leaves ≡ e .read)
 
 -- what an example says
 abbrev pub Holds : Example → Type 0
@@ -64,8 +68,9 @@ upward-seventeen e (f, h) b lent four =
     let s = seventeen-sound b lent four in
     let d = seventeen-features b lent four in
     let r : inRange (pos (e .point) ∷ []) ≡ true = rw (le-leb (e .point) 1000 (f .0)) in
-    let w = h (upward b 17) s (record { d = d; first = 1; second = 2; leaves = seventeen-leaves b lent four }) in
-    (none-fails (questionRules (upward b 17) (pos (e .point) ∷ []) (e .k) (e .k)) (s .lent, (s, (sym d, (r, ((f .1, f .2), (le-refl (e .k), tt)))))), w .0, w .1)
+    let a = h (upward b 17) s (record { d = d; first = 1; second = 2; leaves = seventeen-leaves b lent four }) in
+    let c : Carried 1 (askedBy e) (e .k) = record { features = refl; ranges = r; some = f .1; most = f .2; lent = le-refl (e .k) } in
+    (none-fails (questionRules (upward b 17) (askedBy e) (e .k)) (s .lent, (s, (sym d, (r, carried-asked 1 (askedBy e) (e .k) c)))), a .0, a .1)
 
 -- p-examples: every example of the list holds
 pub p-examples : All Holds examples

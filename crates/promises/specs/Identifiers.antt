@@ -28,7 +28,7 @@ use Rattle.promises.specs.Series.{Stands, act-stands, new-stands, series
 abbrev pub timesBy : ℕ → Act → ℕ → ℕ
 timesBy i (insert j p) n = pick (eqb i j) 1 n
 timesBy i (delete j) n = pick (eqb i j) 0 n
-timesBy i (question p k m) n = n
+timesBy i (question w m) n = n
 timesBy i check n = n
 
 -- and after acts: a refused one changes nothing
@@ -74,8 +74,8 @@ module _ (d : ℕ) (rs : List Record) (b : List ℕ) (s : Stands d rs b) (i : �
       (λ e. let one : tick (eqb i j) ≡ 1 = ap tick e in rw e (omega arith))
       (λ e. let none : tick (eqb i j) ≡ 0 = ap tick e in rw e (omega arith))
   act-times (delete j) (suc n) f c h = refl
-  act-times (question p k m) zero f c h = refl
-  act-times (question p k m) (suc n) f c h = refl
+  act-times (question w m) zero f c h = refl
+  act-times (question w m) (suc n) f c h = refl
   act-times check zero f c h = refl
   act-times check (suc n) f c h = refl
 

@@ -19,6 +19,7 @@ use Rattle.tree_laws.specs.InsertPromises.{MayInsert, insert-sound, insert-live
 use Rattle.tree_laws.specs.DeletePromises.{delete-sound, delete-live, delete-features}
 use Rattle.tree_laws.specs.NewPromises.{new-sound, new-live, new-features}
 use Rattle.search.specs.Visit.{Answer as Found}
+use Rattle.index.specs.Asking.{Question}
 use Rattle.index.specs.Refusals.{First, insertRules, deleteRules, recordOf}
 use Rattle.index.specs.RefusalLaws.{all-hold}
 use Rattle.index.specs.Outcomes.{unlessRefused}
@@ -73,8 +74,8 @@ module _ (d : ℕ) (rs : List Record) (b : List ℕ) (s : Stands d rs b) where
   act-stands (insert i p) (suc n) f c h = same-stands c (h .2)
   act-stands (delete i) zero f c h = rw (h .1) (delete-stands i (h .0))
   act-stands (delete i) (suc n) f c h = same-stands c (h .1)
-  act-stands (question p k n) zero f c h = same-stands c (h .2)
-  act-stands (question p k n) (suc m) f c h = same-stands c (h .2)
+  act-stands (question w n) zero f c h = same-stands c (h .2)
+  act-stands (question w n) (suc m) f c h = same-stands c (h .2)
   act-stands check zero f c h = same-stands c (h .1)
   act-stands check (suc n) f c h = same-stands c (h .1)
 
@@ -109,13 +110,13 @@ reached b (x ∷ xs) o ys c (next {m = m} h t) =
     let r = reached m xs o ys c t in record { met = r .met; left = r .left; before = next h (r .before); done = r .done; after = r .after }
 
 -- a question as it is done when it is carried out
-abbrev pub asked : List ℤ → ℕ → ℕ → Found → Done
-asked p k n f = record { act = question p k n; code = 0; answer = f }
+abbrev pub asked : Question → ℕ → Found → Done
+asked w n f = record { act = question w n; code = 0; answer = f }
 
 module _ (b : List ℕ) (d : ℕ) (lent : Permitted (length b)) (low : 1 ≤ d) (high : d ≤ 16) where
   -- each question in a series returns the k nearest of the records inserted and not deleted before it, and reads the leaves of the exact set
-  pub series-question : (xs ys : List Done) (p : List ℤ) (k n : ℕ) (f : Found) (c : List ℕ) → Series (newIndex b d) (xs ++ (asked p k n f ∷ ys)) c
-      → (m : List ℕ) × (Series (newIndex b d) xs m × (Stands d (heldBy d xs []) m × Answers m p k f))
-  series-question xs ys p k n f c h =
-      let r = reached (newIndex b d) xs (asked p k n f) ys c h in
-      (r .met, (r .before, (series b d lent low high (r .before), subst (Answers (r .met) p k) (sym (r .done .1)) (question-answers (r .met) p k n (r .done .0)))))
+  pub series-question : (xs ys : List Done) (w : Question) (n : ℕ) (f : Found) (c : List ℕ) → Series (newIndex b d) (xs ++ (asked w n f ∷ ys)) c
+      → (m : List ℕ) × (Series (newIndex b d) xs m × (Stands d (heldBy d xs []) m × Answers m w f))
+  series-question xs ys w n f c h =
+      let r = reached (newIndex b d) xs (asked w n f) ys c h in
+      (r .met, (r .before, (series b d lent low high (r .before), subst (Answers (r .met) w) (sym (r .done .1)) (question-answers (r .met) w n (r .done .0)))))

@@ -1,22 +1,22 @@
 -- trusted-same: on a sound index a trusted act, which leaves out the check, is the act. So an application that holds its index alone checks
 -- it once: from a sound index on, any series of trusted acts is the series of the acts.
 use mathlib.Core.Path.{_≡_, refl, sym, ap, _∙_, subst}
-use mathlib.Core.List.{List, [], _∷_, map}
+use mathlib.Core.List.{List, [], _∷_}
 use Prim.Native.Nat.{ℕ, _^_, _≤_, _<_}
 use native.Mathlib.Omega.{arith}
-use lib.IntN.{ℤ}
-use lib.ListN.{length, length-map}
-use Rattle.geometry.specs.Stored.{stored}
+use lib.ListN.{length}
 use Rattle.pagestore.specs.declared.Record.{Record}
 use Rattle.pagestore.specs.Store.{View, viewOf, Field, fieldAt, features, level, newIndex}
 use Rattle.trees.specs.Trees.{live}
 use Rattle.trees.specs.Sound.{Permitted, SoundIndex}
 use Rattle.search.specs.Visit.{Answer as Found}
-use Rattle.search.specs.Questions.{unreadPages, AgreeBut}
+use Rattle.search.specs.Questions.{AgreeBut, unreadPages}
 use Rattle.search.proofs.SoundLaws.{tree-level}
-use Rattle.search.proofs.Promises.{agree-field, unread-header, unread-bytes}
+use Rattle.search.proofs.Promises.{agree-field}
+use Rattle.index.specs.Asking.{Question, sought}
+use Rattle.index.specs.AskingLaws.{header-read, unread-same}
 use Rattle.index.specs.Refusals.{First, insertRules, deleteRules, questionRules, checkRules}
-use Rattle.index.specs.RefusalLaws.{first-one, all-hold, none-fails}
+use Rattle.index.specs.RefusalLaws.{first-one, none-fails, Carried, carried-asked, question-sound, question-carried}
 use Rattle.index.specs.Outcomes.{insertedWith, deletedWith, foundWith}
 use Rattle.index.specs.Trusted.{Suits, trustedInsert, trustedDelete, trustedQuestion}
 use Rattle.index.specs.TrustedLaws.{insert-same, delete-same, question-same}
@@ -27,7 +27,7 @@ use Rattle.promises.specs.Series.{Stands, act-stands, new-stands, series
 abbrev pub trustedDoes : Act → List ℕ → ℕ → Found → List ℕ → Type 0
 trustedDoes (insert i p) b code answer c = (i < 2 ^ 32) × (First (trustedInsert b i p) code) × (c ≡ insertedWith code b i p)
 trustedDoes (delete i) b code answer c = (First (trustedDelete b i) code) × (c ≡ deletedWith code b i)
-trustedDoes (question p k n) b code answer c = (First (trustedQuestion b p k n) code) × (answer ≡ foundWith code b p k) × (c ≡ b)
+trustedDoes (question w n) b code answer c = (First (trustedQuestion b w n) code) × (answer ≡ foundWith code b w) × (c ≡ b)
 trustedDoes check b code answer c = does check b code answer c
 
 module _ (b : List ℕ) (s : SoundIndex b) where
@@ -35,20 +35,20 @@ module _ (b : List ℕ) (s : SoundIndex b) where
   pub trusted-same : (a : Act) (code : ℕ) (f : Found) (c : List ℕ) → trustedDoes a b code f c → does a b code f c
   trusted-same (insert i p) code f c h = (h .0, insert-same b s i p code (h .1), h .2)
   trusted-same (delete i) code f c h = (delete-same b s i code (h .0), h .1)
-  trusted-same (question p k n) code f c h = (question-same b s p k n code (h .0), h .1, h .2)
+  trusted-same (question w n) code f c h = (question-same b s w n code (h .0), h .1, h .2)
   trusted-same check code f c h = h
 
   -- an act has one number on an index, and leaves one index
   one-number : (a : Act) (m n : ℕ) (f g : Found) (c e : List ℕ) → does a b m f c → does a b n g e → m ≡ n
   one-number (insert i p) m n f g c e h k = first-one (insertRules b i p) m n (h .1) (k .1)
   one-number (delete i) m n f g c e h k = first-one (deleteRules b i) m n (h .0) (k .0)
-  one-number (question p j l) m n f g c e h k = first-one (questionRules b p j l) m n (h .0) (k .0)
+  one-number (question w l) m n f g c e h k = first-one (questionRules b w l) m n (h .0) (k .0)
   one-number check m n f g c e h k = first-one (checkRules b) m n (h .0) (k .0)
 
   one-index : (a : Act) (n : ℕ) (f g : Found) (c e : List ℕ) → does a b n f c → does a b n g e → c ≡ e
   one-index (insert i p) n f g c e h k = h .2 ∙ sym (k .2)
   one-index (delete i) n f g c e h k = h .1 ∙ sym (k .1)
-  one-index (question p j l) n f g c e h k = h .2 ∙ sym (k .2)
+  one-index (question w l) n f g c e h k = h .2 ∙ sym (k .2)
   one-index check n f g c e h k = h .1 ∙ sym (k .1)
 
   -- the results of a trusted act and of the act, side by side
@@ -58,8 +58,8 @@ module _ (b : List ℕ) (s : SoundIndex b) where
       let z = one-number a m n f g c e t k in
       (z, one-index a n f g c e (subst (λ (x : ℕ). does a b x f c) z t) k)
 
-  pub question-equal : (p : List ℤ) (j l m n : ℕ) (f g : Found) (c e : List ℕ) → trustedDoes (question p j l) b m f c → does (question p j l) b n g e → f ≡ g
-  question-equal p j l m n f g c e h k = h .1 ∙ ap (λ (x : ℕ). foundWith x b p j) (trusted-equal (question p j l) m n f g c e h k .0) ∙ sym (k .1)
+  pub question-equal : (w : Question) (l m n : ℕ) (f g : Found) (c e : List ℕ) → trustedDoes (question w l) b m f c → does (question w l) b n g e → f ≡ g
+  question-equal w l m n f g c e h k = h .1 ∙ ap (λ (x : ℕ). foundWith x b w) (trusted-equal (question w l) m n f g c e h k .0) ∙ sym (k .1)
 
   sound-after : (a : Act) (code : ℕ) (f : Found) (c : List ℕ) → does a b code f c → SoundIndex c
   sound-after a code f c h = act-stands (viewOf b .d) (live (viewOf b)) b (record { sound = s; features = refl; holds = refl }) a code f c h .sound
@@ -83,27 +83,35 @@ trusted-stands b d lent low high h = series b d lent low high (trusted-series (n
 
 -- Demand 3's last sentence for the trusted question: whatever bytes the pages of the unread leaves hold, it is carried out on them with the
 -- rows and the count of the question on the sound index.
-module _ (b : List ℕ) (p : List ℤ) (k n : ℕ) (h : First (questionRules b p k n) 0) (c : List ℕ) (agree : AgreeBut (unreadPages (viewOf b) (map stored p) k) b c) where
-  module _ (s : SoundIndex b) (same : length (map stored p) ≡ viewOf b .d) (one : 1 ≤ k) where
-    field-same : (f : Field) → fieldAt f c ≡ fieldAt f b
-    field-same = agree-field (unreadPages (viewOf b) (map stored p) k) b c agree (unread-header b s (map stored p) same k one)
+module _ (b : List ℕ) (w : Question) (n : ℕ) (h : First (questionRules b w n) 0) (c : List ℕ) (agree : AgreeBut (unreadPages (viewOf b) (sought w)) b c) where
+  carried : Carried (viewOf b .d) w n
+  carried = question-carried b w n h
 
-    features-same : viewOf c .d ≡ viewOf b .d
-    unfolding viewOf
-    features-same = field-same features
+  sound : SoundIndex b
+  sound = question-sound b w n h
 
-    level-low : fieldAt level c ≤ 4
-    unfolding viewOf
-    level-low = rw (field-same level) (tree-level b s)
+  field-same : (f : Field) → fieldAt f c ≡ fieldAt f b
+  field-same = agree-field (unreadPages (viewOf b) (sought w)) b c agree (header-read b sound w (carried .features) (carried .some))
 
-  pub trusted-unread : First (trustedQuestion c p k n) 0 × (foundWith 0 c p k ≡ foundWith 0 b p k)
+  features-same : viewOf c .d ≡ viewOf b .d
+  unfolding viewOf
+  features-same = field-same features
+
+  level-low : fieldAt level c ≤ 4
+  unfolding viewOf
+  level-low = rw (field-same level) (tree-level b sound)
+
+  permitted : Permitted (length c)
+  unfolding viewOf
+  permitted = subst Permitted (sym (agree .lent)) (sound .lent)
+
+  suits : Suits c (w .point)
+  suits =
+      let low : 1 ≤ viewOf b .d = sound .d .0 in
+      let high : viewOf b .d ≤ 16 = sound .d .1 in
+      let e : length (w .point) ≡ viewOf b .d = carried .features in
+      (omega arith, omega arith, e ∙ sym features-same)
+
+  pub trusted-unread : First (trustedQuestion c w n) 0 × (foundWith 0 c w ≡ foundWith 0 b w)
   trusted-unread =
-      let w = all-hold (questionRules b p k n) refl h in
-      let s = w .1 .0 in
-      let one : 1 ≤ k = w .1 .1 .1 .1 .0 .0 in
-      let as-many : length p ≡ viewOf b .d = w .1 .1 .0 in
-      let same : length (map stored p) ≡ viewOf b .d = length-map p stored ∙ as-many in
-      let low : 1 ≤ viewOf b .d = s .d .0 in
-      let high : viewOf b .d ≤ 16 = s .d .1 in
-      let suits : Suits c p = (omega arith, omega arith, as-many ∙ sym (features-same s same one)) in
-      (none-fails (trustedQuestion c p k n) (subst Permitted (sym (agree .lent)) (w .0), (level-low s same one, (suits, (w .1 .1 .1 .0, (w .1 .1 .1 .1 .0, (w .1 .1 .1 .1 .1 .0, tt)))))), unread-bytes b s (map stored p) same k one c agree)
+      (none-fails (trustedQuestion c w n) (permitted, (level-low, (suits, (carried .ranges, carried-asked (viewOf b .d) w n carried)))), unread-same b sound w (carried .features) (carried .some) c agree)

@@ -7,7 +7,8 @@ use native.Mathlib.Omega.{arith}
 use lib.Dec.{eqb, ltb}
 use borrow.Author.Tests.{eq-eqb, ne-eqb, ltb-false}
 use Rattle.pagestore.specs.Store.{total, level, fieldAt}
-use Rattle.search.specs.declared.Found.{Found}
+use Rattle.search.specs.declared.Seen.{Seen}
+use Rattle.search.specs.Asked.{Asked}
 use Rattle.search.specs.Visit.{answerOf, visited, readsNone, found}
 use Rattle.search.specs.Steps.{answerIn, Searched}
 use Rattle.search.proofs.Promises.{found-exact, unread-bytes}
@@ -29,14 +30,14 @@ level-low b e = by (eqb (fieldAt total b) 0) e
     by true e = absurd (let z : _≡_ {A = ℕ} 0 1 = cc in omega arith)
     by false e = ltb-false 4 (fieldAt level b) e
 
-pub answer-none : (b q : List ℕ) (k : ℕ) → readsNone b ≡ true → record { rows = []; leaves = 0 } ≡ found b q k
+pub answer-none : (b : List ℕ) (q : Asked) → readsNone b ≡ true → record { rows = []; leaves = 0 } ≡ found b q
 unfolding found
-answer-none b q k e = rw e
+answer-none b q e = rw e
 
-pub answer-some : (b q : List ℕ) (k : ℕ) → readsNone b ≡ false → answerOf (visited b q k) ≡ found b q k
+pub answer-some : (b : List ℕ) (q : Asked) → readsNone b ≡ false → answerOf (visited b q) ≡ found b q
 unfolding found
-answer-some b q k e = rw e
+answer-some b q e = rw e
 
-pub searched : (b q : List ℕ) (k : ℕ) (r : Found) → 1 ≤ k → r .rows ≤ k → answerIn r ≡ found b q k → Searched b q k r
-searched b q k r one few e =
-    record { answer = e; few = few; sound = λ c s same agree. e ∙ unread-bytes c s q same k one b agree ∙ found-exact c s q same k one }
+pub searched : (b : List ℕ) (q : Asked) (distances tags : List ℕ) (r : Seen) → 1 ≤ q .k → r .rows ≤ q .k → answerIn distances tags r ≡ found b q → Searched b q distances tags r
+searched b q distances tags r one few e =
+    record { answer = e; few = few; sound = λ c s suits agree. e ∙ unread-bytes c s q suits one b agree ∙ found-exact c s q suits one }

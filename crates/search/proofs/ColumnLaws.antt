@@ -16,13 +16,13 @@ use Rattle.lists.specs.Runs.{all-at}
 use Rattle.lists.specs.Sorting.{count}
 use Rattle.lists.specs.SortingLaws.{count-append}
 use Rattle.lists.specs.Tests.{cases, decide}
-use Rattle.geometry.specs.Points.{distBy, square, distance}
+use Rattle.geometry.specs.Points.{distance}
 use Rattle.geometry.specs.Stored.{pointOf}
 use Rattle.geometry.proofs.LoopLaws.{dist-more, dist-end}
 use Rattle.pagestore.specs.Fits.{RecordFits}
 use Rattle.pagestore.specs.Layout.{leafOf}
 use Rattle.pagestore.specs.LayoutLaws.{noRecord, leaf-fits, leaf-slots}
-use Rattle.search.specs.Steps.{Asked}
+use Rattle.search.specs.Steps.{AskedPoint}
 use Rattle.search.specs.Columns.{coordsAt, costFrom, gapSquare, mostCost, Sized, Sums, costSpan, quartersLeft, Quarters, notPast, BehindPast}
 
 -- the square of a gap below 2,048
@@ -170,7 +170,7 @@ quarters-end page q s m n sums h w =
     }
 
 -- before the first column
-pub sums-start : (page q : List ℕ) (n : ℕ) → length page ≡ 1024 → Asked q → n ≤ 16 → Sums page q 0 n (replicate 16 0)
+pub sums-start : (page q : List ℕ) (n : ℕ) → length page ≡ 1024 → AskedPoint q → n ≤ 16 → Sums page q 0 n (replicate 16 0)
 sums-start page q n l a f = record {
   sized = record { bytes = l; most = a .most; ranges = all-map (λ c (h : c ≤ 2000). omega arith) (a .ranges); few = f };
   within = omega arith;

@@ -5,9 +5,9 @@ use mathlib.Core.List.{List, [], _∷_, map}
 use Prim.Native.Nat.{ℕ, zero, suc, _+_, _*_, _-_, _≤_, _<_}
 use native.Mathlib.Omega.{arith}
 use native.Mathlib.Nat.{le-refl}
-use lib.ListN.{length, length-map}
+use lib.ListN.{length, length-append, length-map}
 use borrow.Author.Tests.{lt-ltb, le-ltb, lt-leb}
-use Rattle.lists.specs.Basics.{All, none, also}
+use Rattle.lists.specs.Basics.{All, none, also, flat}
 use Rattle.lists.specs.Tests.{three, false-true}
 use Rattle.lists.specs.Sorting.{Order, sort, ins}
 use Rattle.lists.specs.Orders.{by, byHigher, lower, higher, by-lower, by-equal, by-higher, by-weak, by-same, byHigher-weak, byHigher-same, lower-weak, lower-same, lex-last, weak-order}
@@ -17,7 +17,8 @@ use Rattle.bestfirst.specs.FrontierLaws.{seek-end, seek-read, seek-root}
 use Rattle.bestfirst.specs.VisitLaws.{visit-read}
 use Rattle.candidates.specs.declared.Row.{Row}
 use Rattle.trees.specs.Trees.{Item, leaves}
-use Rattle.search.specs.Branches.{Branch, tied, before, isLeaf, opened, kids, rowsAt}
+use Rattle.search.specs.Asked.{Asked, Askable}
+use Rattle.search.specs.Branches.{Branch, lastPlace, tied, before, isLeaf, opened, kids, rowsAt}
 use Rattle.search.specs.Visit.{ranking, answerOf, placed}
 use Rattle.search.specs.Questions.{leafBound, leafBranch}
 use Rattle.search.proofs.FrameLaws.{Frame, Branching, inner, itemBranch, itemBranches, leafBranches, opened-is, under-inner, Ordered, ordered-kids, leaves-floor}
@@ -61,13 +62,13 @@ behind x y b p l =
     (λ g. by-higher placeOf higherFirst y x g))
     (λ h. by-higher boundOf tied y x h)
 
-leaves-behind : (q : List ℕ) (d : ℕ) (x : Branch) (n : ℕ) (ts : List (Item 1)) → x .place ≤ n → 0 < x .level → All (λ u. x .bound ≤ leafBound d q u) ts
+leaves-behind : (q : Asked) (d : ℕ) (x : Branch) (n : ℕ) (ts : List (Item 1)) → x .place ≤ n → 0 < x .level → All (λ u. x .bound ≤ leafBound d q u) ts
     → All (λ y. before y x ≡ false) (leafBranches q d n ts)
 unfolding leafBranches leafBranch
 leaves-behind q d x n [] p l none = none
 leaves-behind q d x n (t ∷ ts) p l (also h a) = also (behind x (leafBranch q d n t) h p l) (leaves-behind q d x (suc n) ts (omega arith) l a)
 
-length-branches : (q : List ℕ) (d p l : ℕ) (ts : List (Item (suc l))) → length (itemBranches q d p l ts) ≡ length ts
+length-branches : (q : Asked) (d p l : ℕ) (ts : List (Item (suc l))) → length (itemBranches q d p l ts) ≡ length ts
 unfolding itemBranches
 length-branches q d p l [] = refl
 length-branches q d p l (t ∷ ts) = ap suc (length-branches q d (p + length (leaves l t)) l ts)
@@ -81,31 +82,35 @@ shown-answer o u e =
     let n : length (o .read) ≡ length (u .read) = sym (length-map (o .read) placed) ∙ ap (λ (x : List Row × List (ℕ × ℕ)). length (x .1)) e ∙ length-map (u .read) placed in
     λ i. record { rows = e i .0; leaves = n i }
 
-module _ (c q : List ℕ) (d : ℕ) (low : 1 ≤ d) (high : d ≤ 16) (same : length q ≡ d) where
+module _ (c : List ℕ) (q : Asked) (d : ℕ) (low : 1 ≤ d) (high : d ≤ 16) (suits : Askable d q) where
   abbrev Down : ℕ → Branch → Type 0
   Down l x = Descends isLeaf (kids c q) before l x
 
-  down-list : (l p : ℕ) (ts : List (Item (suc l))) → ((n : ℕ) (t : Item (suc l)) → Frame c d l t → Ordered d l t → Down l (itemBranch q d n l t))
-      → All (Frame c d l) ts → All (Ordered d l) ts → All (Down l) (itemBranches q d p l ts)
-  unfolding itemBranches
-  down-list l p [] h none none = none
-  down-list l p (t ∷ ts) h (also f a) (also o b) = also (h p t f o) (down-list l (p + length (leaves l t)) ts h a b)
+  -- where there are positions for the leaves under a page
+  abbrev Downward : (l : ℕ) → Type 0
+  Downward l = (p : ℕ) (t : Item (suc l)) → p + length (leaves l t) ≤ lastPlace → Frame c d l t → Ordered d l t → Down l (itemBranch q d p l t)
+
+  down-list : (l p : ℕ) (ts : List (Item (suc l))) → p + length (flat (leaves l) ts) ≤ lastPlace → Downward l → All (Frame c d l) ts → All (Ordered d l) ts → All (Down l) (itemBranches q d p l ts)
+  unfolding itemBranches flat
+  down-list l p [] m h none none = none
+  down-list l p (t ∷ ts) m h (also f a) (also o b) =
+      let n = length-append (leaves l t) (flat (leaves l) ts) in also (h p t (omega arith) f o) (down-list l (p + length (leaves l t)) ts (omega arith) h a b)
 
   -- a page of the tree, whatever its bound, if it is at most that of each leaf under it
-  down-inner : (l B p : ℕ) (t : Item (suc (suc l))) → ((n : ℕ) (u : Item (suc l)) → Frame c d l u → Ordered d l u → Down l (itemBranch q d n l u))
+  down-inner : (l B p : ℕ) (t : Item (suc (suc l))) → p + length (leaves (suc l) t) ≤ lastPlace → Downward l
       → Frame c d (suc l) t → Ordered d (suc l) t → All (λ u. B ≤ leafBound d q u) (leaves (suc l) t) → Down (suc l) (inner B p l t)
-  unfolding Descends Frame Branching
-  down-inner l B p t h f o b = λ e.
-      let k = opened-is c q d p l t f in (
+  unfolding Descends Frame Branching leaves
+  down-inner l B p t m h f o b = λ e.
+      let k = opened-is c q d p l t m f in (
         rw (k, length-branches q d p l (t .1)) (o .some .0),
-        rw (under-inner c q d l B p t f) (leaves-behind q d (inner B p l t) p (leaves (suc l) t) (le-refl p) (omega arith) b),
-        rw k (down-list l p (t .1) h (f .2) (ordered-kids d l t o)),
+        rw (under-inner c q d l B p t m f) (leaves-behind q d (inner B p l t) p (leaves (suc l) t) (le-refl p) (omega arith) b),
+        rw k (down-list l p (t .1) m h (f .2) (ordered-kids d l t o)),
       )
 
-  pub down : (l p : ℕ) (t : Item (suc l)) → Frame c d l t → Ordered d l t → Down l (itemBranch q d p l t)
+  pub down : (l : ℕ) → Downward l
   unfolding Descends itemBranch
-  down zero p t f o = refl
-  down (suc l) p t f o = down-inner l _ p t (down l) f o (leaves-floor d low high q same (suc l) t o)
+  down zero p t m f o = refl
+  down (suc l) p t m f o = down-inner l _ p t m (down l) f o (leaves-floor d low high q suits (suc l) t o)
 
   -- ---- THE SEARCH
 
@@ -119,14 +124,14 @@ module _ (c q : List ℕ) (d : ℕ) (low : 1 ≤ d) (high : d ≤ 16) (same : le
     abbrev visitAll : List (Item 1) → Outcome Row Branch
     visitAll ts = bestFirst ranking boundIn (rowsAt c q) k tied (leafBranches q d 0 ts)
 
-    inner-root : (l : ℕ) (t : Item (suc (suc l))) → Frame c d (suc l) t → Ordered d (suc l) t → length (leaves (suc l) t) ≤ room → 2 * length (leaves (suc l) t) ≤ n
+    inner-root : (l : ℕ) (t : Item (suc (suc l))) → length (leaves (suc l) t) ≤ lastPlace → Frame c d (suc l) t → Ordered d (suc l) t → length (leaves (suc l) t) ≤ room → 2 * length (leaves (suc l) t) ≤ n
         → seekFrom (inner 0 0 l t) ≡ visitAll (leaves (suc l) t)
     unfolding bestFirst leafBranches
-    inner-root l t f o r s =
-        let e = under-inner c q d l 0 0 t f in
+    inner-root l t m f o r s =
+        let e = under-inner c q d l 0 0 t (omega arith) f in
         let g : length (leavesUnder isLeaf (kids c q) (suc l) (inner 0 0 l t)) ≡ length (leaves (suc l) t) = ap length e ∙ length-leaves 0 (leaves (suc l) t) in
         seek-root ranking boundIn (rowsAt c q) before isLeaf (kids c q) k room branch-order branch-floor (suc l) n (inner 0 0 l t) one
-        (down-inner l 0 0 t (down l) f o (zeros (leaves (suc l) t))) (omega arith) (omega arith)
+        (down-inner l 0 0 t (omega arith) (down l) f o (zeros (leaves (suc l) t))) (omega arith) (omega arith)
         ∙ ap (λ (ls : List Branch). visit ranking boundIn (rowsAt c q) k (sort before ls) []) e
       where
         zeros : (ts : List (Item 1)) → All (λ u. 0 ≤ leafBound d q u) ts
@@ -154,9 +159,9 @@ module _ (c q : List ℕ) (d : ℕ) (low : 1 ≤ d) (high : d ≤ 16) (same : le
       ∙ sym (ap shown (visit-read ranking boundIn (rowsAt c q) k y [] [] (none-exceeds k (leafBound d q t) one)))
 
   -- the search from the root of a tree gives what the visit of its leaves gives
-  pub seek-is : (k room n : ℕ) (one : 1 ≤ k) (l : ℕ) (t : Item (suc l)) → Frame c d l t → Ordered d l t → length (leaves l t) ≤ room → 2 * length (leaves l t) ≤ n
+  pub seek-is : (k room n : ℕ) (one : 1 ≤ k) (l : ℕ) (t : Item (suc l)) → length (leaves l t) ≤ lastPlace → Frame c d l t → Ordered d l t → length (leaves l t) ≤ room → 2 * length (leaves l t) ≤ n
       → shown (seekFrom k room n one (record { bound = 0; place = 0; level = l; page = t .0 })) ≡ shown (visitAll k room n one (leaves l t))
   unfolding leaves
-  seek-is k room zero one zero t f o r s = absurd (omega arith)
-  seek-is k room (suc m) one zero t f o r s = leaf-root k room m one t
-  seek-is k room n one (suc l) t f o r s = ap shown (inner-root k room n one l t f o r s)
+  seek-is k room zero one zero t p f o r s = absurd (omega arith)
+  seek-is k room (suc m) one zero t p f o r s = leaf-root k room m one t
+  seek-is k room n one (suc l) t p f o r s = ap shown (inner-root k room n one l t p f o r s)

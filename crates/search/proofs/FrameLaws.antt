@@ -2,7 +2,7 @@
 use mathlib.Core.Path.{_≡_, refl, sym, ap, ap₂, _∙_}
 use mathlib.Core.Bool.{true, false}
 use mathlib.Core.List.{List, [], _∷_, _++_, map}
-use Prim.Native.Nat.{ℕ, zero, suc, _+_, _-_, _≤_, _<_}
+use Prim.Native.Nat.{ℕ, zero, suc, min, _+_, _-_, _≤_, _<_}
 use native.Mathlib.Omega.{arith}
 use native.Mathlib.Nat.{le-refl, le-trans}
 use lib.Dec.{eqb}
@@ -17,7 +17,8 @@ use Rattle.pagestore.specs.declared.Record.{Record}
 use Rattle.pagestore.specs.Store.{inRange, innerAt, entriesIn}
 use Rattle.trees.specs.Trees.{Item, noRecord, rankOf, firstKey, lastKey, records, leaves, entryOf}
 use Rattle.tree.specs.Lookup.{leafCount}
-use Rattle.search.specs.Branches.{Branch, isLeaf, spanBound, pageIn, branches, opened, kids}
+use Rattle.search.specs.Asked.{Asked, spanBound, Askable}
+use Rattle.search.specs.Branches.{Branch, lastPlace, isLeaf, pageIn, branches, opened, kids}
 use Rattle.search.specs.Questions.{leafBound, leafBranch}
 use Rattle.search.proofs.RecordLaws.{Right, from-first, to-last, span-part}
 
@@ -71,7 +72,7 @@ module _ (c : List ℕ) (d : ℕ) where
   count-leaves zero t f = refl
   count-leaves (suc l) t f = rw (f .1) (count-list l (t .1) (all-map (count-leaves l) (f .2)))
 
-module _ (q : List ℕ) (d : ℕ) where
+module _ (q : Asked) (d : ℕ) where
   -- the branch of a page with its items, the first leaf under it at position p
   unfoldable pub itemBranch : ℕ → (l : ℕ) → Item (suc l) → Branch
   itemBranch p l t = record { bound = spanBound q (firstKey d (records (suc l) t)) (lastKey d (records (suc l) t)); place = p; level = l; page = t .0 }
@@ -101,34 +102,41 @@ module _ (q : List ℕ) (d : ℕ) where
 abbrev pub inner : ℕ → ℕ → (l : ℕ) → Item (suc (suc l)) → Branch
 inner B p l t = record { bound = B; place = p; level = suc l; page = t .0 }
 
-module _ (c q : List ℕ) (d : ℕ) where
-  -- what an inner page gives when it is opened
-  pub kids-are : (p l : ℕ) (ts : List (Item (suc l))) → All (Frame c d l) ts → branches c q l p (map (entryOf d l) ts) ≡ itemBranches q d p l ts
-  unfolding branches itemBranches itemBranch entryOf pageIn
-  kids-are p l [] none = refl
-  kids-are p l (t ∷ ts) (also f a) = rw (frame-range c d l t f, count-leaves c d l t f, kids-are (p + length (leaves l t)) l ts a)
+module _ (c : List ℕ) (q : Asked) (d : ℕ) where
+  -- what an inner page gives when it is opened, where there are positions for the leaves under it
+  pub kids-are : (p l : ℕ) (ts : List (Item (suc l))) → p + length (flat (leaves l) ts) ≤ lastPlace → All (Frame c d l) ts → branches c q l p (map (entryOf d l) ts) ≡ itemBranches q d p l ts
+  unfolding branches itemBranches itemBranch entryOf pageIn flat
+  kids-are p l [] m none = refl
+  kids-are p l (t ∷ ts) m (also f a) =
+      let n = length-append (leaves l t) (flat (leaves l) ts) in
+      let e : min p lastPlace ≡ p = omega arith in
+      rw (e, frame-range c d l t f, count-leaves c d l t f, kids-are (p + length (leaves l t)) l ts (omega arith) a)
 
-  pub opened-is : (p l : ℕ) (t : Item (suc (suc l))) → Frame c d (suc l) t → opened c q (suc l) p (t .0) ≡ itemBranches q d p l (t .1)
-  unfolding opened Frame
-  opened-is p l t f = ap (branches c q l p) (f .1) ∙ kids-are p l (t .1) (f .2)
+  pub opened-is : (p l : ℕ) (t : Item (suc (suc l))) → p + length (leaves (suc l) t) ≤ lastPlace → Frame c d (suc l) t → opened c q (suc l) p (t .0) ≡ itemBranches q d p l (t .1)
+  unfolding opened Frame leaves
+  opened-is p l t m f = ap (branches c q l p) (f .1) ∙ kids-are p l (t .1) m (f .2)
 
-  under-list : (l p : ℕ) (ts : List (Item (suc l))) → ((n : ℕ) (t : Item (suc l)) → Frame c d l t → leavesUnder isLeaf (kids c q) l (itemBranch q d n l t) ≡ leafBranches q d n (leaves l t))
+  -- the leaves under a branch are these
+  abbrev Under : (l p : ℕ) → Item (suc l) → Type 0
+  Under l p t = leavesUnder isLeaf (kids c q) l (itemBranch q d p l t) ≡ leafBranches q d p (leaves l t)
+
+  under-list : (l p : ℕ) (ts : List (Item (suc l))) → p + length (flat (leaves l) ts) ≤ lastPlace → ((n : ℕ) (t : Item (suc l)) → n + length (leaves l t) ≤ lastPlace → Frame c d l t → Under l n t)
       → All (Frame c d l) ts → flat (leavesUnder isLeaf (kids c q) l) (itemBranches q d p l ts) ≡ leafBranches q d p (flat (leaves l) ts)
   unfolding flat itemBranches leafBranches
-  under-list l p [] h none = refl
-  under-list l p (t ∷ ts) h (also f a) =
-      ap₂ (λ (x y : List Branch). x ++ y) (h p t f) (under-list l (p + length (leaves l t)) ts h a) ∙ sym (leaf-append q d p (leaves l t) (flat (leaves l) ts))
+  under-list l p [] m h none = refl
+  under-list l p (t ∷ ts) m h (also f a) =
+      let n = length-append (leaves l t) (flat (leaves l) ts) in
+      ap₂ (λ (x y : List Branch). x ++ y) (h p t (omega arith) f) (under-list l (p + length (leaves l t)) ts (omega arith) h a) ∙ sym (leaf-append q d p (leaves l t) (flat (leaves l) ts))
 
-  -- the leaves under a branch
-  pub under-is : (l p : ℕ) (t : Item (suc l)) → Frame c d l t → leavesUnder isLeaf (kids c q) l (itemBranch q d p l t) ≡ leafBranches q d p (leaves l t)
+  pub under-is : (l p : ℕ) (t : Item (suc l)) → p + length (leaves l t) ≤ lastPlace → Frame c d l t → Under l p t
   unfolding leavesUnder leaves leafBranches itemBranch Frame
-  under-is zero p t f = ap (λ (x : Branch). x ∷ []) (leaf-branch q d p t)
-  under-is (suc l) p t f = rw (not-leaf l, opened-is p l t f) (under-list l p (t .1) (under-is l) (f .2))
+  under-is zero p t m f = ap (λ (x : Branch). x ∷ []) (leaf-branch q d p t)
+  under-is (suc l) p t m f = rw (not-leaf l, opened-is p l t m f) (under-list l p (t .1) m (under-is l) (f .2))
 
   -- whatever the bound of an inner branch is
-  pub under-inner : (l B p : ℕ) (t : Item (suc (suc l))) → Frame c d (suc l) t → leavesUnder isLeaf (kids c q) (suc l) (inner B p l t) ≡ leafBranches q d p (leaves (suc l) t)
+  pub under-inner : (l B p : ℕ) (t : Item (suc (suc l))) → p + length (leaves (suc l) t) ≤ lastPlace → Frame c d (suc l) t → leavesUnder isLeaf (kids c q) (suc l) (inner B p l t) ≡ leafBranches q d p (leaves (suc l) t)
   unfolding leavesUnder leaves Frame
-  under-inner l B p t f = rw (not-leaf l, opened-is p l t f) (under-list l p (t .1) (under-is l) (f .2))
+  under-inner l B p t m f = rw (not-leaf l, opened-is p l t m f) (under-list l p (t .1) m (under-is l) (f .2))
 
 -- ---- ORDER AND RANGES, FROM A PAGE TO THE PAGES UNDER IT
 
@@ -156,7 +164,7 @@ ordered-kids d l t o =
     all-map (λ u h. record { up = h .0; right = h .1 .0; some = h .1 .1 })
     (all-both (parts-up (rankOf d) (records (suc l)) (t .1) (o .up)) (all-both (parts-right (records (suc l)) (t .1) (o .right)) (o .some .1)))
 
-module _ (d : ℕ) (low : 1 ≤ d) (high : d ≤ 16) (q : List ℕ) (same : length q ≡ d) where
+module _ (d : ℕ) (low : 1 ≤ d) (high : d ≤ 16) (q : Asked) (suits : Askable d q) where
   abbrev spanOf : (l : ℕ) → Item (suc l) → ℕ
   spanOf l t = spanBound q (firstKey d (records (suc l) t)) (lastKey d (records (suc l) t))
 
@@ -165,7 +173,7 @@ module _ (d : ℕ) (low : 1 ≤ d) (high : d ≤ 16) (q : List ℕ) (same : leng
   unfolding records
   kids-floor l t o =
       all-map
-      (λ u h. span-part d low high q same (records (suc (suc l)) t) (records-some (suc l) t (o .some)) (o .up) (o .right)
+      (λ u h. span-part d low high q suits (records (suc (suc l)) t) (records-some (suc l) t (o .some)) (o .up) (o .right)
       (records (suc l) u) (records-some l u (h .0 .some)) (h .0 .up) (h .0 .right) (h .1 .0) (h .1 .1))
       (all-both (ordered-kids d l t o)
       (all-both

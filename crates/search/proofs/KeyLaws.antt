@@ -2,26 +2,25 @@
 use mathlib.Core.Path.{_≡_, refl, sym, ap, _∙_}
 use mathlib.Core.Bool.{Bool, true, false}
 use mathlib.Core.List.{List, [], _∷_, map}
-use Prim.Native.Nat.{ℕ, _+_, _*_, _-_, _/_, _%_, _^_, _≤_, _<_}
+use Prim.Native.Nat.{ℕ, _+_, _*_, _-_, _/_, _%_, _≤_, _<_}
 use native.Mathlib.Omega.{arith}
 use lib.Dec.{ltb}
 use borrow.Author.Tests.{lt-ltb, le-ltb}
-use Rattle.lists.specs.Basics.{All, none, also}
 use Rattle.lists.specs.Tests.{three, cases}
 use Rattle.lists.specs.Sorting.{ins}
 use Rattle.lists.specs.Orders.{by, byHigher, lower, higher, by-lower, by-equal, by-higher, lex-first, lex-second, lex-last}
 use Rattle.search.specs.Branches.{Branch, tied, before}
-use Rattle.search.specs.Keys.{keyOf, boundIn, placeIn, levelIn, numberIn, branchIn, Good}
+use Rattle.search.specs.Keys.{keyOf, boundIn, placeIn, levelIn, numberIn, branchIn}
 
 -- the number of a branch in the frontier's heap
-module _ (x : Branch) (place : x .place < 65536) (level : x .level ≤ 4) (page : x .page < 16384) where
-  upper : keyOf x / 16384 ≡ (x .bound * 65536 + x .place) * 8 + (4 - x .level)
+module _ (x : Branch) (place : x .place < 8192) (level : x .level ≤ 4) (page : x .page < 16384) where
+  upper : keyOf x / 16384 ≡ (x .bound * 8192 + x .place) * 5 + (4 - x .level)
   upper = omega arith
 
-  middle : keyOf x / 16384 / 8 ≡ x .bound * 65536 + x .place
+  middle : keyOf x / 16384 / 5 ≡ x .bound * 8192 + x .place
   middle = let u = upper in omega arith
 
-  pub key-level : keyOf x / 16384 % 8 ≡ 4 - x .level
+  pub key-level : keyOf x / 16384 % 5 ≡ 4 - x .level
   key-level = let u = upper in omega arith
 
   pub key-place : placeIn (keyOf x) ≡ x .place
@@ -38,9 +37,6 @@ module _ (x : Branch) (place : x .place < 65536) (level : x .level ≤ 4) (page 
       let p = key-place in
       let l = key-levels in
       λ i. record { bound = b i; place = p i; level = l i; page = g i }
-
-  pub key-good : x .place + 16 ^ (x .level) ≤ 65536 → Good (keyOf x)
-  key-good r = record { level = let l = key-level in omega arith; room = rw (key-place, key-levels) r }
 
 abbrev boundOf : Branch → ℕ
 boundOf x = x .bound
@@ -59,31 +55,33 @@ higherFirst = byHigher levelOf (lower pageOf)
 
 -- a number from its digits
 abbrev parts : ℕ → ℕ → ℕ → ℕ → ℕ
-parts b p l g = ((b * 65536 + p) * 8 + l) * 16384 + g
+parts b p l g = ((b * 8192 + p) * 5 + l) * 16384 + g
 
-key-parts : (a : ℕ) → a ≡ parts (boundIn a) (placeIn a) (a / 16384 % 8) (numberIn a)
+key-parts : (a : ℕ) → a ≡ parts (boundIn a) (placeIn a) (a / 16384 % 5) (numberIn a)
 key-parts a =
     let u : a ≡ a / 16384 * 16384 + a % 16384 = omega arith in
-    let v : a / 16384 ≡ a / 16384 / 8 * 8 + a / 16384 % 8 = omega arith in
-    let w : a / 16384 / 8 ≡ a / 16384 / 8 / 65536 * 65536 + a / 16384 / 8 % 65536 = omega arith in
+    let v : a / 16384 ≡ a / 16384 / 5 * 5 + a / 16384 % 5 = omega arith in
+    let w : a / 16384 / 5 ≡ a / 16384 / 5 / 8192 * 8192 + a / 16384 / 5 % 8192 = omega arith in
     omega arith
 
-pub key-order : (a b : ℕ) → a / 16384 % 8 ≤ 4 → b / 16384 % 8 ≤ 4 → ltb a b ≡ before (branchIn a) (branchIn b)
+pub key-order : (a b : ℕ) → ltb a b ≡ before (branchIn a) (branchIn b)
 unfolding branchIn
-key-order a b la lb =
+key-order a b =
     let x = branchIn a in
     let y = branchIn b in
     let ea = key-parts a in
     let eb = key-parts b in
-    let pa : placeIn a < 65536 = omega arith in
-    let pb : placeIn b < 65536 = omega arith in
+    let la : a / 16384 % 5 < 5 = omega arith in
+    let lb : b / 16384 % 5 < 5 = omega arith in
+    let pa : placeIn a < 8192 = omega arith in
+    let pb : placeIn b < 8192 = omega arith in
     let na : numberIn a < 16384 = omega arith in
     let nb : numberIn b < 16384 = omega arith in
     three (boundIn a) (boundIn b)
     (λ h. lt-ltb a b (omega arith) ∙ sym (by-lower boundOf tied x y h))
     (λ h. three (placeIn a) (placeIn b)
     (λ g. lt-ltb a b (omega arith) ∙ sym (by-equal boundOf tied x y h ∙ by-lower placeOf higherFirst x y g))
-    (λ g. three (a / 16384 % 8) (b / 16384 % 8)
+    (λ g. three (a / 16384 % 5) (b / 16384 % 5)
     (λ e. lt-ltb a b (omega arith) ∙ sym (by-equal boundOf tied x y h ∙ by-equal placeOf higherFirst x y g ∙ lex-first (higher levelOf) (lower pageOf) x y (lt-ltb (levelIn b) (levelIn a) (omega arith))))
     (λ e. three (numberIn a) (numberIn b)
     (λ f. lt-ltb a b (omega arith) ∙ sym (by-equal boundOf tied x y h ∙ by-equal placeOf higherFirst x y g
@@ -98,11 +96,11 @@ key-order a b la lb =
     (λ h. le-ltb a b (omega arith) ∙ sym (by-higher boundOf tied x y h))
 
 -- a key put in is its branch put in
-pub branches-ins : (x : ℕ) (s : List ℕ) → Good x → All Good s → map branchIn (ins ltb x s) ≡ ins before (branchIn x) (map branchIn s)
+pub branches-ins : (x : ℕ) (s : List ℕ) → map branchIn (ins ltb x s) ≡ ins before (branchIn x) (map branchIn s)
 unfolding ins
-branches-ins x [] g none = refl
-branches-ins x (y ∷ ys) g (also h a) =
-    let e = key-order y x (h .level) (g .level) in
+branches-ins x [] = refl
+branches-ins x (y ∷ ys) =
+    let e = key-order y x in
     cases (ltb y x)
-    (λ t. let u : before (branchIn y) (branchIn x) ≡ true = sym e ∙ t in rw (t, u) (ap (λ (l : List Branch). branchIn y ∷ l) (branches-ins x ys g a)))
+    (λ t. let u : before (branchIn y) (branchIn x) ≡ true = sym e ∙ t in rw (t, u) (ap (λ (l : List Branch). branchIn y ∷ l) (branches-ins x ys)))
     (λ t. let u : before (branchIn y) (branchIn x) ≡ false = sym e ∙ t in rw (t, u))

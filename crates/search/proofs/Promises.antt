@@ -11,11 +11,9 @@ use Rattle.lists.specs.Basics.{All, none, also, all-map, flat, upFrom}
 use Rattle.lists.specs.Tests.{cases, false-true}
 use Rattle.lists.specs.Sorting.{keep, count, sort, Order}
 use Rattle.lists.specs.Orders.{by, lower, by-weak, by-same, lower-weak, lower-same, weak-order}
-use Rattle.lists.specs.SortingLaws.{keep-first, keep-past, keep-sort, count-append}
+use Rattle.lists.specs.SortingLaws.{keep-first, keep-past, keep-sort, all-keep, count-append}
 use Rattle.lists.specs.FlatLaws.{all-both, all-every, all-mapped, map-append}
 use Rattle.lists.specs.Counts.{mult, mult-self, mult-more, mult-append, all-of-mult}
-use Rattle.geometry.specs.Points.{distance}
-use Rattle.geometry.specs.Stored.{pointOf}
 use Rattle.bestfirst.specs.Nearest.{Outcome, nearest, candidates, inSet, Floor, bestFirst}
 use Rattle.bestfirst.specs.Frontier.{seek}
 use Rattle.bestfirst.specs.Promises as flatly
@@ -27,9 +25,10 @@ use Rattle.pagestore.specs.declared.Leaf.{Leaf}
 use Rattle.pagestore.specs.Store.{Field, level, total, root, View, viewOf, inRange, pagesIn, leafAt, recordsIn, entriesIn, fieldAt}
 use Rattle.pagestore.specs.Store.PageLaws.{SamePage, bytes-page, bytes-field}
 use Rattle.pagestore.specs.Store.RangeLaws.{pages-same, range-same}
-use Rattle.trees.specs.Trees.{Item, pointIn, leaves, pages, treeOf, leavesOf, identOf, live}
+use Rattle.trees.specs.Trees.{Item, leaves, pages, treeOf, leavesOf, identOf, live}
 use Rattle.trees.specs.Sound.{SoundIndex}
-use Rattle.search.specs.Branches.{Branch, tied, before, isLeaf, pageIn, kids, rootBranch, rowOf, rowsAt}
+use Rattle.search.specs.Asked.{Asked, distanceTo, candidate, Askable}
+use Rattle.search.specs.Branches.{Branch, lastPlace, tied, before, isLeaf, pageIn, kids, rootBranch, rowOf, rowsAmong, rowsAt}
 use Rattle.search.specs.Visit.{ranking, Answer, answerOf, room, visited, readsNone, found, placed, leavesRead}
 use Rattle.search.specs.Questions.{rowsFrom, rowsOf, leafBound, leafBranch, toRead, setFrom, readingOrder, unreadPages, Kept, Exchanged, end, next, AgreeBut}
 use Rattle.search.proofs.RecordLaws.{span-floor}
@@ -44,33 +43,38 @@ boundIn x = x .bound
 -- ---- LEAVES BY POSITION
 
 -- what the rows of a leaf cost at least
-abbrev LeafFloor : ℕ → List ℕ → Item 1 → Type 0
-LeafFloor d q u = All (λ r. leafBound d q u ≤ distance (pointOf q) (pointIn (length q) r)) (u .1)
+abbrev LeafFloor : ℕ → Asked → Item 1 → Type 0
+LeafFloor d q u = All (λ r. leafBound d q u ≤ distanceTo q r) (u .1)
 
-module _ (b q : List ℕ) (d : ℕ) where
+-- so the rows of its candidates
+among-floor : (q : Asked) (B p : ℕ) (rs : List Record) → All (λ r. B ≤ distanceTo q r) rs → All (λ x. B ≤ x .distance) (rowsAmong q p rs)
+unfolding rowsAmong rowOf
+among-floor q B p rs a = all-mapped (rowOf q p) (keep (candidate q) rs) (all-keep (candidate q) rs a)
+
+module _ (b : List ℕ) (q : Asked) (d : ℕ) where
   flat-rows : (p : ℕ) (us : List (Item 1)) → All (λ u. recordsIn (leafAt b (u .0)) ≡ u .1) us → flat (rowsAt b q) (leafBranches q d p us) ≡ rowsFrom q p us
   unfolding flat leafBranches leafBranch rowsFrom
   flat-rows p [] none = refl
-  flat-rows p (u ∷ us) (also e a) = ap₂ (λ (x y : List Row). x ++ y) (ap (map (rowOf q p)) e) (flat-rows (suc p) us a)
+  flat-rows p (u ∷ us) (also e a) = ap₂ (λ (x y : List Row). x ++ y) (ap (rowsAmong q p) e) (flat-rows (suc p) us a)
 
   row-floors : (p : ℕ) (us : List (Item 1)) → All (λ u. recordsIn (leafAt b (u .0)) ≡ u .1) us → All (LeafFloor d q) us → All (Floor ranking boundIn (rowsAt b q)) (leafBranches q d p us)
-  unfolding leafBranches leafBranch rowOf
+  unfolding leafBranches leafBranch
   row-floors p [] none none = none
-  row-floors p (u ∷ us) (also e a) (also f h) = also {x = leafBranch q d p u} (rw e (all-mapped (rowOf q p) (u .1) f)) (row-floors (suc p) us a h)
+  row-floors p (u ∷ us) (also e a) (also f h) = also {x = leafBranch q d p u} (rw e (among-floor q (leafBound d q u) p (u .1) f)) (row-floors (suc p) us a h)
 
-count-set : (v : View) (q : List ℕ) (k p : ℕ) (us : List (Item 1)) → All (λ u. 0 < length (u .1)) us
-    → count (λ x. inSet ranking k (rowsOf v q) (x .bound)) (leafBranches q (v .d) p us) ≡ count (toRead v q k) us
+count-set : (v : View) (q : Asked) (p : ℕ) (us : List (Item 1)) → All (λ u. 0 < length (u .1)) us
+    → count (λ x. inSet ranking (q .k) (rowsOf v q) (x .bound)) (leafBranches q (v .d) p us) ≡ count (toRead v q) us
 unfolding count leafBranches leafBranch toRead
-count-set v q k p [] none = refl
-count-set v q k p (u ∷ us) (also h a) = rw (lt-ltb 0 (length (u .1)) h, count-set v q k (suc p) us a)
+count-set v q p [] none = refl
+count-set v q p (u ∷ us) (also h a) = rw (lt-ltb 0 (length (u .1)) h, count-set v q (suc p) us a)
 
-none-set : (v : View) (q : List ℕ) (k : ℕ) (us : List (Item 1)) → All (λ u. u .1 ≡ []) us → count (toRead v q k) us ≡ 0
+none-set : (v : View) (q : Asked) (us : List (Item 1)) → All (λ u. u .1 ≡ []) us → count (toRead v q) us ≡ 0
 unfolding count toRead
-none-set v q k [] none = refl
-none-set v q k (u ∷ us) (also e a) = rw (e, none-set v q k us a)
+none-set v q [] none = refl
+none-set v q (u ∷ us) (also e a) = rw (e, none-set v q us a)
 
-none-rows : (q : List ℕ) (p : ℕ) (us : List (Item 1)) → All (λ u. u .1 ≡ []) us → rowsFrom q p us ≡ []
-unfolding rowsFrom
+none-rows : (q : Asked) (p : ℕ) (us : List (Item 1)) → All (λ u. u .1 ≡ []) us → rowsFrom q p us ≡ []
+unfolding rowsFrom rowsAmong keep
 none-rows q p [] none = refl
 none-rows q p (u ∷ us) (also e a) = rw (e, none-rows q (suc p) us a)
 
@@ -79,10 +83,10 @@ unfolding nearest candidates sort keep
 nearest-none zero = refl
 nearest-none (suc k) = refl
 
-none-floor : (d : ℕ) (q : List ℕ) (u : Item 1) → u .1 ≡ [] → LeafFloor d q u
+none-floor : (d : ℕ) (q : Asked) (u : Item 1) → u .1 ≡ [] → LeafFloor d q u
 none-floor d q u e = rw e none
 
-module _ (b : List ℕ) (s : SoundIndex b) (q : List ℕ) (same : length q ≡ viewOf b .d) (k : ℕ) (one : 1 ≤ k) where
+module _ (b : List ℕ) (s : SoundIndex b) (q : Asked) (suits : Askable (viewOf b .d) q) (one : 1 ≤ q .k) where
   abbrev v : View
   v = viewOf b
 
@@ -111,7 +115,7 @@ module _ (b : List ℕ) (s : SoundIndex b) (q : List ℕ) (same : length q ≡ v
       let w : ltb 4 (fieldAt level c) ≡ false = le-ltb 4 (fieldAt level c) (omega (arith, h .level, tree-level b s)) in rw (z, w)
 
   -- the visit from the root is that of all leaves by (bound, position)
-  visited-like : (c : List ℕ) → Like c → 0 < v .total → shown (visited c q k) ≡ shown (bestFirst ranking boundIn (rowsAt c q) k tied ls)
+  visited-like : (c : List ℕ) → Like c → 0 < v .total → shown (visited c q) ≡ shown (bestFirst ranking boundIn (rowsAt c q) (q .k) tied ls)
   unfolding visited leavesOf pageIn
   visited-like c h t =
       let g : fieldAt root c ≡ treeOf v .0 = h .root ∙ sym (tree-root b s) in
@@ -120,12 +124,13 @@ module _ (b : List ℕ) (s : SoundIndex b) (q : List ℕ) (same : length q ≡ v
       let few : length (leaves (v .level) (treeOf v)) ≤ room c = room-enough c (length (leaves (v .level) (treeOf v))) (λ n g w. tree-leaves b s n g (omega (arith, h .total))) (omega (arith, h .total, s .most)) in
       let enough : length (leaves (v .level) (treeOf v)) ≤ pagesIn b = tree-pages b s in
       let n : pagesIn c ≡ pagesIn b = h .pages in
-      ap (λ (x : Branch). shown (seek ranking boundIn (rowsAt c q) before isLeaf (kids c q) k (room c) (2 * pagesIn c) (x ∷ []) [])) r
-      ∙ seek-is c q (v .d) (s .d .0) (s .d .1) same k (room c) (2 * pagesIn c) one (v .level) (treeOf v) (h .frame) (tree-ordered b s t) few (omega arith)
+      let places : length (leaves (v .level) (treeOf v)) ≤ lastPlace = omega (arith, tree-leaves b s 65535 (omega arith) (s .most)) in
+      ap (λ (x : Branch). shown (seek ranking boundIn (rowsAt c q) before isLeaf (kids c q) (q .k) (room c) (2 * pagesIn c) (x ∷ []) [])) r
+      ∙ seek-is c q (v .d) (s .d .0) (s .d .1) suits (q .k) (room c) (2 * pagesIn c) one (v .level) (treeOf v) places (h .frame) (tree-ordered b s t) few (omega arith)
 
-  found-like : (c : List ℕ) → Like c → 0 < v .total → found c q k ≡ answerOf (bestFirst ranking boundIn (rowsAt c q) k tied ls)
+  found-like : (c : List ℕ) → Like c → 0 < v .total → found c q ≡ answerOf (bestFirst ranking boundIn (rowsAt c q) (q .k) tied ls)
   unfolding found
-  found-like c h t = rw (reads-some c h t) (shown-answer (visited c q k) (bestFirst ranking boundIn (rowsAt c q) k tied ls) (visited-like c h t))
+  found-like c h t = rw (reads-some c h t) (shown-answer (visited c q) (bestFirst ranking boundIn (rowsAt c q) (q .k) tied ls) (visited-like c h t))
 
   -- ---- THE ROWS AND THE LEAVES
 
@@ -140,8 +145,7 @@ module _ (b : List ℕ) (s : SoundIndex b) (q : List ℕ) (same : length q ≡ v
       cases (ltb 0 (v .total))
       (λ e. all-map
       (λ u (o : Ordered (v .d) 0 u).
-      rw same
-      (span-floor (v .d) (s .d .0) (s .d .1) q same (u .1) (o .some) (rw (leaf-records u) at (o .up)) (rw (leaf-records u) at (o .right))))
+      (span-floor (v .d) (s .d .0) (s .d .1) q suits (u .1) (o .some) (rw (leaf-records u) at (o .up)) (rw (leaf-records u) at (o .right))))
       (leaves-ordered (v .d) (v .level) (treeOf v) (tree-ordered b s (ltb-true 0 (v .total) e))))
       (λ e. all-map (none-floor (v .d) q) (none-held b s (omega (arith, ltb-false 0 (v .total) e))))
 
@@ -154,78 +158,78 @@ module _ (b : List ℕ) (s : SoundIndex b) (q : List ℕ) (same : length q ≡ v
 
   -- what the search gives
   abbrev pub asked : Answer
-  asked = record { rows = nearest ranking k (rowsOf v q); leaves = count (toRead v q k) us }
+  asked = record { rows = nearest ranking (q .k) (rowsOf v q); leaves = count (toRead v q) us }
 
-  exact-some : 0 < v .total → found b q k ≡ asked
+  exact-some : 0 < v .total → found b q ≡ asked
   exact-some t =
-      let o : Outcome Row Branch = bestFirst ranking boundIn (rowsAt b q) k tied ls in
-      let r : o .rows ≡ nearest ranking k (rowsOf v q) = flatly.rows-nearest ranking row-order boundIn tied branch-order ls (rowsAt b q) floors k one ∙ ap (nearest ranking k) rows-all in
-      let n : length (o .read) ≡ count (toRead v q k) us =
-      flatly.leaves-count ranking row-order boundIn tied branch-order ls (rowsAt b q) floors k one
-      ∙ ap (λ (xs : List Row). count (λ x. inSet ranking k xs (x .bound)) ls) rows-all ∙ count-set v q k 0 us (leaves-some t) in
+      let o : Outcome Row Branch = bestFirst ranking boundIn (rowsAt b q) (q .k) tied ls in
+      let r : o .rows ≡ nearest ranking (q .k) (rowsOf v q) = flatly.rows-nearest ranking row-order boundIn tied branch-order ls (rowsAt b q) floors (q .k) one ∙ ap (nearest ranking (q .k)) rows-all in
+      let n : length (o .read) ≡ count (toRead v q) us =
+      flatly.leaves-count ranking row-order boundIn tied branch-order ls (rowsAt b q) floors (q .k) one
+      ∙ ap (λ (xs : List Row). count (λ x. inSet ranking (q .k) xs (x .bound)) ls) rows-all ∙ count-set v q 0 us (leaves-some t) in
       found-like b like-self t ∙ (λ i. record { rows = r i; leaves = n i })
 
-  found-none : (c : List ℕ) → fieldAt total c ≡ 0 → found c q k ≡ record { rows = []; leaves = 0 }
+  found-none : (c : List ℕ) → fieldAt total c ≡ 0 → found c q ≡ record { rows = []; leaves = 0 }
   unfolding found readsNone
   found-none c e = rw (e)
 
-  exact-none : v .total ≡ 0 → found b q k ≡ asked
+  exact-none : v .total ≡ 0 → found b q ≡ asked
   unfolding viewOf rowsOf
   exact-none e =
       let h = none-held b s e in
-      found-none b e ∙ sym (rw (none-rows q 0 us h, none-set v q k us h, nearest-none k))
+      found-none b e ∙ sym (rw (none-rows q 0 us h, none-set v q us h, nearest-none (q .k)))
 
-  pub found-exact : found b q k ≡ asked
+  pub found-exact : found b q ≡ asked
   found-exact = cases (ltb 0 (v .total)) (λ e. exact-some (ltb-true 0 (v .total) e)) (λ e. exact-none (omega (arith, ltb-false 0 (v .total) e)))
 
-  -- rows-nearest: the rows are the k nearest of the live records, by distance and then by identifier, or all if fewer live
-  pub rows-nearest : (found b q k) .rows ≡ nearest ranking k (rowsOf v q)
+  -- rows-nearest: the rows are the k nearest of the live candidates, by distance and then by identifier, or all if fewer live
+  pub rows-nearest : (found b q) .rows ≡ nearest ranking (q .k) (rowsOf v q)
   rows-nearest = ap (λ (f : Answer). f .rows) found-exact
 
   -- leaves-exact: the count is the number of leaves in demand 3's set
-  pub leaves-exact : (found b q k) .leaves ≡ count (toRead v q k) (leavesOf v)
+  pub leaves-exact : (found b q) .leaves ≡ count (toRead v q) (leavesOf v)
   leaves-exact = ap (λ (f : Answer). f .leaves) found-exact
 
   -- ---- WHICH LEAVES ARE READ
 
   -- the branches of the leaves of the set
-  set-branches : (p : ℕ) (ts : List (Item 1)) → All (λ u. 0 < length (u .1)) ts → keep (λ x. inSet ranking k (rowsOf v q) (x .bound)) (leafBranches q (v .d) p ts) ≡ setFrom v q k p ts
+  set-branches : (p : ℕ) (ts : List (Item 1)) → All (λ u. 0 < length (u .1)) ts → keep (λ x. inSet ranking (q .k) (rowsOf v q) (x .bound)) (leafBranches q (v .d) p ts) ≡ setFrom v q p ts
   unfolding keep leafBranches leafBranch setFrom toRead
   set-branches p [] none = refl
   set-branches p (u ∷ ts) (also h a) = rw (lt-ltb 0 (length (u .1)) h, set-branches (suc p) ts a)
 
-  read-some : 0 < v .total → leavesRead b q k ≡ readingOrder v q k
+  read-some : 0 < v .total → leavesRead b q ≡ readingOrder v q
   unfolding leavesRead readingOrder
   read-some t =
       rw (reads-some b like-self t)
       (ap (λ (x : List Row × List (ℕ × ℕ)). x .1) (visited-like b like-self t)
       ∙ ap (map placed)
-      (flatly.leaves-exact ranking row-order boundIn tied branch-order ls (rowsAt b q) floors k one
-      ∙ ap (λ (xs : List Row). keep (λ x. inSet ranking k xs (x .bound)) (sort before ls)) rows-all
-      ∙ keep-sort before branch-order (λ x. inSet ranking k (rowsOf v q) (x .bound)) ls
+      (flatly.leaves-exact ranking row-order boundIn tied branch-order ls (rowsAt b q) floors (q .k) one
+      ∙ ap (λ (xs : List Row). keep (λ x. inSet ranking (q .k) xs (x .bound)) (sort before ls)) rows-all
+      ∙ keep-sort before branch-order (λ x. inSet ranking (q .k) (rowsOf v q) (x .bound)) ls
       ∙ ap (sort before) (set-branches 0 us (leaves-some t))))
 
-  read-nothing : (c : List ℕ) → fieldAt total c ≡ 0 → leavesRead c q k ≡ []
+  read-nothing : (c : List ℕ) → fieldAt total c ≡ 0 → leavesRead c q ≡ []
   unfolding leavesRead readsNone
   read-nothing c e = rw (e)
 
-  set-none : (p : ℕ) (ts : List (Item 1)) → All (λ u. u .1 ≡ []) ts → setFrom v q k p ts ≡ []
+  set-none : (p : ℕ) (ts : List (Item 1)) → All (λ u. u .1 ≡ []) ts → setFrom v q p ts ≡ []
   unfolding setFrom toRead
   set-none p [] none = refl
   set-none p (u ∷ ts) (also h a) = rw (h, set-none (suc p) ts a)
 
-  read-none : v .total ≡ 0 → leavesRead b q k ≡ readingOrder v q k
+  read-none : v .total ≡ 0 → leavesRead b q ≡ readingOrder v q
   unfolding viewOf readingOrder sort
   read-none e = read-nothing b e ∙ sym (ap (λ (xs : List Branch). map placed (sort before xs)) (set-none 0 us (none-held b s e)))
 
   -- leaves-read: which leaves are read, and in which order: those of the set, by (bound, position)
-  pub leaves-read : leavesRead b q k ≡ readingOrder v q k
+  pub leaves-read : leavesRead b q ≡ readingOrder v q
   leaves-read = cases (ltb 0 (v .total)) (λ e. read-some (ltb-true 0 (v .total) e)) (λ e. read-none (omega (arith, ltb-false 0 (v .total) e)))
 
 -- the count that is returned is that of the leaves read, on any bytes
-pub leaves-counted : (b q : List ℕ) (k : ℕ) → (found b q k) .leaves ≡ length (leavesRead b q k)
+pub leaves-counted : (b : List ℕ) (q : Asked) → (found b q) .leaves ≡ length (leavesRead b q)
 unfolding found leavesRead
-leaves-counted b q k = cases (readsNone b) (λ e. rw e) (λ e. rw (e, length-map (visited b q k .read) placed))
+leaves-counted b q = cases (readsNone b) (λ e. rw e) (λ e. rw (e, length-map (visited b q .read) placed))
 
 -- ---- PAGES OF THE TREE
 
@@ -286,31 +290,31 @@ frame-same b c d r zero t a f = r (t .0) ∙ f
 frame-same b c d r (suc l) t (also h a) f =
     (r (t .0) ∙ f .0, ap entriesIn (h .inner) ∙ f .1, all-map (λ u g. frame-same b c d r l u (g .0) (g .1)) (all-both (parts-right (innerPages l) (t .1) a) (f .2)))
 
-module _ (b : List ℕ) (s : SoundIndex b) (q : List ℕ) (same : length q ≡ viewOf b .d) (k : ℕ) (one : 1 ≤ k) where
+module _ (b : List ℕ) (s : SoundIndex b) (q : Asked) (suits : Askable (viewOf b .d) q) (one : 1 ≤ q .k) where
   abbrev unread : List ℕ
-  unread = unreadPages (viewOf b) q k
+  unread = unreadPages (viewOf b) q
 
   unread-inner : All (λ p. mult p unread ≡ 0) (innerPages (viewOf b .level) (treeOf (viewOf b)))
   unfolding unreadPages leavesOf
   unread-inner =
       all-of-mult (innerPages (viewOf b .level) (treeOf (viewOf b)))
-      (λ p h. omega (arith, tree-once b s p, pages-split p (viewOf b .level) (treeOf (viewOf b)), keep-split (toRead (viewOf b) q k) p (leavesOf (viewOf b))))
+      (λ p h. omega (arith, tree-once b s p, pages-split p (viewOf b .level) (treeOf (viewOf b)), keep-split (toRead (viewOf b) q) p (leavesOf (viewOf b))))
 
-  unread-read : All (λ u. toRead (viewOf b) q k u ≡ true → mult (u .0) unread ≡ 0) (leavesOf (viewOf b))
+  unread-read : All (λ u. toRead (viewOf b) q u ≡ true → mult (u .0) unread ≡ 0) (leavesOf (viewOf b))
   unfolding unreadPages leavesOf
   unread-read =
       all-map
-      (λ u (h : toRead (viewOf b) q k u ≡ true → 0 < mult (u .0) (map pageOf (keep (toRead (viewOf b) q k) (leavesOf (viewOf b))))) w.
+      (λ u (h : toRead (viewOf b) q u ≡ true → 0 < mult (u .0) (map pageOf (keep (toRead (viewOf b) q) (leavesOf (viewOf b))))) w.
       let g = h w in
-      omega (arith, tree-once b s (u .0), pages-split (u .0) (viewOf b .level) (treeOf (viewOf b)), keep-split (toRead (viewOf b) q k) (u .0) (leavesOf (viewOf b))))
-      (keep-there (toRead (viewOf b) q k) (leavesOf (viewOf b)))
+      omega (arith, tree-once b s (u .0), pages-split (u .0) (viewOf b .level) (treeOf (viewOf b)), keep-split (toRead (viewOf b) q) (u .0) (leavesOf (viewOf b))))
+      (keep-there (toRead (viewOf b) q) (leavesOf (viewOf b)))
 
   pub unread-header : mult 0 unread ≡ 0
   unfolding unreadPages leavesOf
-  unread-header = omega (arith, tree-header b s, pages-split 0 (viewOf b .level) (treeOf (viewOf b)), keep-split (toRead (viewOf b) q k) 0 (leavesOf (viewOf b)))
+  unread-header = omega (arith, tree-header b s, pages-split 0 (viewOf b .level) (treeOf (viewOf b)), keep-split (toRead (viewOf b) q) 0 (leavesOf (viewOf b)))
 
   module _ (c : List ℕ) (h : AgreeBut unread b c) where
-    like-rest : Like b s q same k one c
+    like-rest : Like b s q suits one c
     unfolding viewOf
     like-rest =
         record {
@@ -321,27 +325,27 @@ module _ (b : List ℕ) (s : SoundIndex b) (q : List ℕ) (same : length q ≡ v
           frame = frame-same b c (viewOf b .d) (λ p. range-same b c p (h .lent)) (viewOf b .level) (treeOf (viewOf b)) (all-map (agree-page unread b c h) unread-inner) (tree-frame b s);
         }
 
-    rows-same : (p : ℕ) (us : List (Item 1)) → All (λ u. toRead (viewOf b) q k u ≡ true → mult (u .0) unread ≡ 0) us → All (λ u. 0 < length (u .1)) us
-        → All (λ x. inSet ranking k (rowsOf (viewOf b) q) (x .bound) ≡ true → rowsAt c q x ≡ rowsAt b q x) (leafBranches q (viewOf b .d) p us)
+    rows-same : (p : ℕ) (us : List (Item 1)) → All (λ u. toRead (viewOf b) q u ≡ true → mult (u .0) unread ≡ 0) us → All (λ u. 0 < length (u .1)) us
+        → All (λ x. inSet ranking (q .k) (rowsOf (viewOf b) q) (x .bound) ≡ true → rowsAt c q x ≡ rowsAt b q x) (leafBranches q (viewOf b .d) p us)
     unfolding leafBranches leafBranch toRead
     rows-same p [] none none = none
     rows-same p (u ∷ us) (also g a) (also l m) =
         also {x = leafBranch q (viewOf b .d) p u}
         (λ w. let z : mult (u .0) unread ≡ 0 = g (rw (lt-ltb 0 (length (u .1)) l) w) in
-        ap (λ (f : Leaf). map (rowOf q p) (recordsIn f)) (agree-page unread b c h (u .0) z .leaf))
+        ap (λ (f : Leaf). rowsAmong q p (recordsIn f)) (agree-page unread b c h (u .0) z .leaf))
         (rows-same (suc p) us a m)
 
     -- unread-bytes: whatever bytes the pages of the leaves left unread hold, the search gives the rows and the count of the sound index
-    pub unread-bytes : found c q k ≡ found b q k
+    pub unread-bytes : found c q ≡ found b q
     unread-bytes =
         cases (ltb 0 (viewOf b .total))
         (λ e. let t : 0 < viewOf b .total = ltb-true 0 (viewOf b .total) e in
-        found-like b s q same k one c like-rest t
-        ∙ ap answerOf (flatly.unread-anything ranking row-order boundIn tied branch-order (ls b s q same k one) (rowsAt b q) (floors b s q same k one) k one (rowsAt c q)
-        (rw (rows-all b s q same k one) (rows-same 0 (leavesOf (viewOf b)) unread-read (leaves-some b s q same k one t))))
-        ∙ sym (found-like b s q same k one b (like-self b s q same k one) t))
+        found-like b s q suits one c like-rest t
+        ∙ ap answerOf (flatly.unread-anything ranking row-order boundIn tied branch-order (ls b s q suits one) (rowsAt b q) (floors b s q suits one) (q .k) one (rowsAt c q)
+        (rw (rows-all b s q suits one) (rows-same 0 (leavesOf (viewOf b)) unread-read (leaves-some b s q suits one t))))
+        ∙ sym (found-like b s q suits one b (like-self b s q suits one) t))
         (λ e. let z : viewOf b .total ≡ 0 = omega (arith, ltb-false 0 (viewOf b .total) e) in
-        found-none b s q same k one c (like-rest .total ∙ z) ∙ sym (found-none b s q same k one b (like-self b s q same k one .total ∙ z)))
+        found-none b s q suits one c (like-rest .total ∙ z) ∙ sym (found-none b s q suits one b (like-self b s q suits one .total ∙ z)))
 
 -- ---- EXCHANGE
 
@@ -349,18 +353,18 @@ module _ (b : List ℕ) (s : SoundIndex b) (q : List ℕ) (same : length q ≡ v
 abbrev leafNo : List (Item 1) → ℕ → Item 1
 leafNo ts p = getD ts p (0, [])
 
-abbrev rowsNo : List ℕ → List (Item 1) → ℕ → List Row
-rowsNo q ts p = map (rowOf q p) (leafNo ts p .1)
+abbrev rowsNo : Asked → List (Item 1) → ℕ → List Row
+rowsNo q ts p = rowsAmong q p (leafNo ts p .1)
 
-rows-from : (q : List ℕ) (all : List (Item 1)) (n : ℕ) (ts : List (Item 1)) → ((i : ℕ) → leafNo all (n + i) ≡ leafNo ts i) → flat (rowsNo q all) (upFrom n (length ts)) ≡ rowsFrom q n ts
+rows-from : (q : Asked) (all : List (Item 1)) (n : ℕ) (ts : List (Item 1)) → ((i : ℕ) → leafNo all (n + i) ≡ leafNo ts i) → flat (rowsNo q all) (upFrom n (length ts)) ≡ rowsFrom q n ts
 unfolding flat upFrom rowsFrom
 rows-from q all n [] h = refl
 rows-from q all n (t ∷ ts) h =
     let e : leafNo all n ≡ t = ap (leafNo all) (omega arith) ∙ h 0 in
-    ap₂ (λ (x y : List Row). x ++ y) (ap (λ (u : Item 1). map (rowOf q n) (u .1)) e)
+    ap₂ (λ (x y : List Row). x ++ y) (ap (λ (u : Item 1). rowsAmong q n (u .1)) e)
     (rows-from q all (suc n) ts (λ i. ap (leafNo all) (omega arith) ∙ h (suc i)))
 
-rows-no : (q : List ℕ) (ts : List (Item 1)) → flat (rowsNo q ts) (upFrom 0 (length ts)) ≡ rowsFrom q 0 ts
+rows-no : (q : Asked) (ts : List (Item 1)) → flat (rowsNo q ts) (upFrom 0 (length ts)) ≡ rowsFrom q 0 ts
 rows-no q ts = rows-from q ts 0 ts (λ i. ap (leafNo ts) (omega arith))
 
 kept-no : {d : ℕ} {read : Item 1 → Bool} {ts us : List (Item 1)} → Exchanged d read ts us → (p : ℕ) → Kept d (read (leafNo ts p)) (leafNo ts p) (leafNo us p)
@@ -372,13 +376,13 @@ exchanged-length : {d : ℕ} {read : Item 1 → Bool} {ts us : List (Item 1)} �
 exchanged-length end = refl
 exchanged-length (next h x) = ap suc (exchanged-length x)
 
-floor-no : (d : ℕ) (q : List ℕ) {ts : List (Item 1)} → All (LeafFloor d q) ts → (p : ℕ) → LeafFloor d q (leafNo ts p)
+floor-no : (d : ℕ) (q : Asked) {ts : List (Item 1)} → All (LeafFloor d q) ts → (p : ℕ) → LeafFloor d q (leafNo ts p)
 floor-no d q none p = none
 floor-no d q (also h a) zero = h
 floor-no d q (also h a) (suc p) = floor-no d q a p
 
-module _ (b c : List ℕ) (sb : SoundIndex b) (sc : SoundIndex c) (q : List ℕ) (same : length q ≡ viewOf b .d) (alike : viewOf c .d ≡ viewOf b .d) (k : ℕ) (one : 1 ≤ k)
-    (x : Exchanged (viewOf b .d) (toRead (viewOf b) q k) (leavesOf (viewOf b)) (leavesOf (viewOf c))) where
+module _ (b c : List ℕ) (sb : SoundIndex b) (sc : SoundIndex c) (q : Asked) (suits : Askable (viewOf b .d) q) (alike : viewOf c .d ≡ viewOf b .d) (one : 1 ≤ q .k)
+    (x : Exchanged (viewOf b .d) (toRead (viewOf b) q) (leavesOf (viewOf b)) (leavesOf (viewOf c))) where
   abbrev d : ℕ
   d = viewOf b .d
 
@@ -402,8 +406,8 @@ module _ (b c : List ℕ) (sb : SoundIndex b) (sc : SoundIndex c) (q : List ℕ)
       weak-order (by-weak boundNo (lower (λ p. p)) (lower-weak (λ p. p)))
       (λ m n e f. let w = by-same boundNo (lower (λ p. p)) m n e f in lower-same (λ p. p) m n (w .1) (w .2))
 
-  same-c : length q ≡ viewOf c .d
-  same-c = same ∙ sym alike
+  suits-c : Askable (viewOf c .d) q
+  suits-c = rw alike suits
 
   -- the bounds are the same
   bound-kept : (t u : Item 1) (r : Bool) → Kept d r t u → leafBound d q u ≡ leafBound d q t
@@ -411,14 +415,12 @@ module _ (b c : List ℕ) (sb : SoundIndex b) (sc : SoundIndex c) (q : List ℕ)
   bound-kept t u r h = rw (h .first, h .last)
 
   floors-first : All (Floor ranking boundNo (rowsNo q ts)) positions
-  unfolding rowOf
-  floors-first = all-every (λ p. all-mapped (rowOf q p) (leafNo ts p .1) (floor-no d q (leaf-floors b sb q same k one) p)) positions
+  floors-first = all-every (λ p. among-floor q (boundNo p) p (leafNo ts p .1) (floor-no d q (leaf-floors b sb q suits one) p)) positions
 
   floors-second : All (Floor ranking boundNo (rowsNo q zs)) positions
-  unfolding rowOf
   floors-second =
-      all-every (λ p. all-mapped (rowOf q p) (leafNo zs p .1)
-      (rw (bound-kept (leafNo ts p) (leafNo zs p) _ (kept-no x p)) at (floor-no d q (subst (λ (n : ℕ). All (LeafFloor n q) zs) alike (leaf-floors c sc q same-c k one)) p))) positions
+      all-every (λ p. among-floor q (boundNo p) p (leafNo zs p .1)
+      (rw (bound-kept (leafNo ts p) (leafNo zs p) _ (kept-no x p)) at (floor-no d q (subst (λ (n : ℕ). All (LeafFloor n q) zs) alike (leaf-floors c sc q suits-c one)) p))) positions
 
   rows-first : flat (rowsNo q ts) positions ≡ rowsOf (viewOf b) q
   unfolding rowsOf
@@ -428,10 +430,10 @@ module _ (b c : List ℕ) (sb : SoundIndex b) (sc : SoundIndex c) (q : List ℕ)
   unfolding rowsOf
   rows-second = ap (λ (n : ℕ). flat (rowsNo q zs) (upFrom 0 n)) (sym (exchanged-length x)) ∙ rows-no q zs
 
-  kept-rows : (p : ℕ) (t u : Item 1) → Kept d (toRead (viewOf b) q k t) t u → inSet ranking k (rowsOf (viewOf b) q) (leafBound d q t) ≡ true → map (rowOf q p) (u .1) ≡ map (rowOf q p) (t .1)
+  kept-rows : (p : ℕ) (t u : Item 1) → Kept d (toRead (viewOf b) q t) t u → inSet ranking (q .k) (rowsOf (viewOf b) q) (leafBound d q t) ≡ true → rowsAmong q p (u .1) ≡ rowsAmong q p (t .1)
   unfolding toRead
   kept-rows p t u h w =
-      ap (map (rowOf q p))
+      ap (rowsAmong q p)
       (cases (ltb 0 (length (t .1)))
       (λ e. h .same (rw e w))
       (λ e. let z : length (t .1) ≡ 0 = omega (arith, ltb-false 0 (length (t .1)) e) in empty (u .1) (h .number ∙ z) ∙ sym (empty (t .1) z)))
@@ -440,52 +442,58 @@ module _ (b c : List ℕ) (sb : SoundIndex b) (sc : SoundIndex c) (q : List ℕ)
       empty [] g = refl
       empty (r ∷ rs) g = absurd (omega arith)
 
-  nearest-kept : nearest ranking k (rowsOf (viewOf c) q) ≡ nearest ranking k (rowsOf (viewOf b) q)
+  nearest-kept : nearest ranking (q .k) (rowsOf (viewOf c) q) ≡ nearest ranking (q .k) (rowsOf (viewOf b) q)
   nearest-kept =
       rw (← rows-first, ← rows-second)
-      (flatly.exchange-rows ranking row-order boundNo (lower (λ p. p)) place-order positions (rowsNo q ts) floors-first k one (rowsNo q zs) floors-second
+      (flatly.exchange-rows ranking row-order boundNo (lower (λ p. p)) place-order positions (rowsNo q ts) floors-first (q .k) one (rowsNo q zs) floors-second
       (all-every (λ p w. kept-rows p (leafNo ts p) (leafNo zs p) (kept-no x p) (rw rows-first at w)) positions))
 
-  set-kept : (t u : Item 1) (r : Bool) → Kept d r t u → toRead (viewOf c) q k u ≡ toRead (viewOf b) q k t
+  set-kept : (t u : Item 1) (r : Bool) → Kept d r t u → toRead (viewOf c) q u ≡ toRead (viewOf b) q t
   unfolding toRead inSet
   set-kept t u r h = rw (nearest-kept, alike, h .number, bound-kept t u r h)
 
-  count-kept : (r : Item 1 → Bool) {us ws : List (Item 1)} → Exchanged d r us ws → count (toRead (viewOf c) q k) ws ≡ count (toRead (viewOf b) q k) us
+  count-kept : (r : Item 1 → Bool) {us ws : List (Item 1)} → Exchanged d r us ws → count (toRead (viewOf c) q) ws ≡ count (toRead (viewOf b) q) us
   unfolding count
   count-kept r end = refl
   count-kept r (next {t = t} {u = u} h y) = rw (set-kept t u (r t) h, count-kept r y)
 
   -- exchange: neither rows nor count change, and the rows are the k nearest of the records now held too
-  pub exchange : (found c q k ≡ found b q k) × ((found b q k) .rows ≡ nearest ranking k (rowsOf (viewOf c) q))
+  pub exchange : (found c q ≡ found b q) × ((found b q) .rows ≡ nearest ranking (q .k) (rowsOf (viewOf c) q))
   exchange =
-      let n = count-kept (toRead (viewOf b) q k) x in
-      let e : found c q k ≡ found b q k = found-exact c sc q same-c k one ∙ (λ i. record { rows = nearest-kept i; leaves = n i }) ∙ sym (found-exact b sb q same k one) in
-      (e, ap (λ (f : Answer). f .rows) (sym e) ∙ rows-nearest c sc q same-c k one)
+      let n = count-kept (toRead (viewOf b) q) x in
+      let e : found c q ≡ found b q = found-exact c sc q suits-c one ∙ (λ i. record { rows = nearest-kept i; leaves = n i }) ∙ sym (found-exact b sb q suits one) in
+      (e, ap (λ (f : Answer). f .rows) (sym e) ∙ rows-nearest c sc q suits-c one)
 
 -- ---- THE ORDER OF THE ROWS
 
 -- rows of identifier n
-count-idents : (n : ℕ) (q : List ℕ) (p : ℕ) (rs : List Record) → count (ofId n) (map (rowOf q p) rs) ≡ mult n (map identOf rs)
+count-idents : (n : ℕ) (q : Asked) (p : ℕ) (rs : List Record) → count (ofId n) (map (rowOf q p) rs) ≡ mult n (map identOf rs)
 unfolding count mult rowOf
 count-idents n q p [] = refl
 count-idents n q p (r ∷ rs) = let h = count-idents n q p rs in cases (eqb (r .id) n)
     (λ e. let f : eqb n (r .id) ≡ true = eq-eqb n (r .id) (sym (eqb-true (r .id) n e)) in rw (e, f) (omega arith))
     (λ e. let f : eqb n (r .id) ≡ false = ne-eqb n (r .id) (λ w. eqb-false (r .id) n e (sym w)) in rw (e, f) (omega arith))
 
-count-rows : (n : ℕ) (q : List ℕ) (p : ℕ) (us : List (Item 1)) → count (ofId n) (rowsFrom q p us) ≡ mult n (map identOf (flat leafItems us))
-unfolding rowsFrom flat count mult
-count-rows n q p [] = refl
+-- no more candidates have an identifier than records do
+kept-idents : (n : ℕ) (f : Record → Bool) (rs : List Record) → mult n (map identOf (keep f rs)) ≤ mult n (map identOf rs)
+unfolding keep mult
+kept-idents n f [] = omega arith
+kept-idents n f (r ∷ rs) = let h = kept-idents n f rs in cases (f r) (λ e. rw e (omega arith)) (λ e. rw e (omega arith))
+
+count-rows : (n : ℕ) (q : Asked) (p : ℕ) (us : List (Item 1)) → count (ofId n) (rowsFrom q p us) ≤ mult n (map identOf (flat leafItems us))
+unfolding rowsFrom rowsAmong flat count mult
+count-rows n q p [] = omega arith
 count-rows n q p (u ∷ us) =
-    let h = count-rows n q (suc p) us in let g = count-idents n q p (u .1) in
-    rw (count-append (ofId n) (map (rowOf q p) (u .1)) (rowsFrom q (suc p) us), map-append identOf (u .1) (flat leafItems us), mult-append n (map identOf (u .1)) (map identOf (flat leafItems us))) (omega arith)
+    let h = count-rows n q (suc p) us in let g = count-idents n q p (keep (candidate q) (u .1)) in let k = kept-idents n (candidate q) (u .1) in
+    rw (count-append (ofId n) (map (rowOf q p) (keep (candidate q) (u .1))) (rowsFrom q (suc p) us), map-append identOf (u .1) (flat leafItems us), mult-append n (map identOf (u .1)) (map identOf (flat leafItems us))) (omega arith)
 
 -- identifiers are distinct, so the rows go by distance and then by identifier: position never decides
-pub rows-distinct : (b : List ℕ) → SoundIndex b → (q : List ℕ) → Distinct (rowsOf (viewOf b) q)
+pub rows-distinct : (b : List ℕ) → SoundIndex b → (q : Asked) → Distinct (rowsOf (viewOf b) q)
 unfolding rowsOf leavesOf live
 rows-distinct b s q n =
     let e = count-rows n q 0 (leavesOf (viewOf b)) in
     let f = ap (λ (rs : List Record). mult n (map identOf rs)) (records-leaves (viewOf b .level) (treeOf (viewOf b))) in
     let d = s .distinct n in omega arith
 
-pub rows-by-identifier : (b : List ℕ) → SoundIndex b → (q : List ℕ) → Strict past (candidates ranking (rowsOf (viewOf b) q))
+pub rows-by-identifier : (b : List ℕ) → SoundIndex b → (q : Asked) → Strict past (candidates ranking (rowsOf (viewOf b) q))
 rows-by-identifier b s q = candidates-strict (λ x. true) (rowsOf (viewOf b) q) (rows-distinct b s q)

@@ -12,19 +12,20 @@ use Rattle.lists.specs.Tests.{three}
 use Rattle.lists.specs.Parts.{head-of, last-of}
 use Rattle.lists.specs.Ascending.{headOr, lastOr, Ascending}
 use Rattle.lists.specs.Ascending as asc
-use Rattle.geometry.specs.Points.{InRange, heightOf, pyramidOf, PairLe, distBy, square}
+use Rattle.geometry.specs.Points.{InRange, heightOf, pyramidOf, PairLe}
+use Rattle.geometry.specs.Features.{distTo, plain}
 use Rattle.geometry.specs.Slices.{Real, boundOf}
 use Rattle.geometry.specs.Stored.{pointOf}
 use Rattle.geometry.specs.Keys.{keyNumber}
 use Rattle.geometry.proofs.StoredLaws.{coord-magnitude, length-point}
-use Rattle.geometry.proofs.ConvexLaws.{square-cost}
+use Rattle.geometry.proofs.SliceLaws.{plain-length}
 use Rattle.geometry.proofs.SpanLaws.{pair-real}
 use Rattle.geometry.proofs.BoundLaws.{bound-below, bound-within}
 use Rattle.pagestore.specs.declared.Record.{Record}
 use Rattle.pagestore.specs.Fits.{RecordFits}
 use Rattle.trees.specs.Trees.{pointIn, keyOf, rankOf, noRecord, firstKey, lastKey}
 use Rattle.trees.specs.Sound.{RecordOk}
-use Rattle.search.specs.Branches.{spanBound}
+use Rattle.search.specs.Asked.{Asked, distanceTo, spanBound, Askable}
 
 module _ {A : Type 0} (f : A → ℕ) where
   -- in an ascending list none is below the first, and none above the last
@@ -57,10 +58,10 @@ abbrev pub heightIn : ℕ → Record → ℕ
 heightIn d r = heightOf (pointIn d r)
 
 -- the bound of the span from record r to record s
-abbrev pub boundBetween : ℕ → List ℕ → Record → Record → ℕ
-boundBetween d q r s = boundOf square (pointOf q) (pyramidIn d r) (heightIn d r) (pyramidIn d s) (heightIn d s)
+abbrev pub boundBetween : ℕ → Asked → Record → Record → ℕ
+boundBetween d q r s = boundOf (q .features) (pyramidIn d r) (heightIn d r) (pyramidIn d s) (heightIn d s)
 
-pub span-between : (d : ℕ) (q : List ℕ) (rs : List Record) → spanBound q (firstKey d rs) (lastKey d rs) ≡ boundBetween d q (headOr noRecord rs) (lastOr noRecord rs)
+pub span-between : (d : ℕ) (q : Asked) (rs : List Record) → spanBound q (firstKey d rs) (lastKey d rs) ≡ boundBetween d q (headOr noRecord rs) (lastOr noRecord rs)
 unfolding spanBound firstKey lastKey keyOf
 span-between d q rs = refl
 
@@ -70,8 +71,8 @@ module _ (d : ℕ) (low : 1 ≤ d) (high : d ≤ 16) where
 
   pub real : (r : Record) → Right d r → Real d (pyramidIn d r) (heightIn d r)
   real r g =
-      let e = point-length r g in
-      rw e at (pair-real square (square-cost .mono) (pointIn d r) (pointIn d r) refl (omega arith) (in-range (g .ok .coords)))
+      let e : length (plain (pointIn d r)) ≡ d = plain-length (pointIn d r) ∙ point-length r g in
+      rw e at (pair-real (plain (pointIn d r)) (pointIn d r) (sym (plain-length (pointIn d r))) (omega arith) (in-range (g .ok .coords)))
 
   pub ordered : (r s : Record) → Right d r → Right d s → rankOf d r ≤ rankOf d s → PairLe (pyramidIn d r) (heightIn d r) (pyramidIn d s) (heightIn d s)
   unfolding rankOf keyOf keyNumber
@@ -85,25 +86,24 @@ module _ (d : ℕ) (low : 1 ≤ d) (high : d ≤ 16) where
       (λ x. inr (x, omega arith))
       (λ x. absurd (omega arith))
 
-  module _ (q : List ℕ) (same : length q ≡ d) where
-    q-length : length (pointOf q) ≡ d
-    q-length = length-point q ∙ same
-
-    real-for : (r : Record) → Right d r → Real (length (pointOf q)) (pyramidIn d r) (heightIn d r)
-    real-for r g = rw q-length (real r g)
+  module _ (q : Asked) (suits : Askable d q) where
+    real-for : (r : Record) → Right d r → Real (length (q .features)) (pyramidIn d r) (heightIn d r)
+    real-for r g = rw (suits .same) (real r g)
 
     -- no record of a span is nearer than its bound
     pub record-below : (a z r : Record) → Right d a → Right d z → Right d r → rankOf d a ≤ rankOf d r → rankOf d r ≤ rankOf d z
-        → boundBetween d q a z ≤ distBy square 0 (pointOf q) (pointIn d r)
+        → boundBetween d q a z ≤ distanceTo q r
+    unfolding distanceTo
     record-below a z r ga gz gr l m =
-        bound-below square square-cost (pointOf q) (pyramidIn d a) (heightIn d a) (pyramidIn d z) (heightIn d z) (omega (arith, q-length)) (real-for a ga) (real-for z gz)
-        (ordered a z ga gz (le-trans l m)) (pointIn d r) (point-length r gr ∙ sym q-length) (in-range (gr .ok .coords)) (ordered a r ga gr l) (ordered r z gr gz m)
+        bound-below (q .features) (pyramidIn d a) (heightIn d a) (pyramidIn d z) (heightIn d z) (omega (arith, suits .same)) (suits .ordered) (real-for a ga) (real-for z gz)
+        (ordered a z ga gz (le-trans l m)) (pointIn (length (q .features)) r)
+        (rw (suits .same) (record { same = point-length r gr; grid = in-range (gr .ok .coords); after = ordered a r ga gr l; before = ordered r z gr gz m }))
 
     -- a span within another has no smaller bound
     pub span-within : (a z x y : Record) → Right d a → Right d z → Right d x → Right d y → rankOf d a ≤ rankOf d x → rankOf d x ≤ rankOf d y → rankOf d y ≤ rankOf d z
         → boundBetween d q a z ≤ boundBetween d q x y
     span-within a z x y ga gz gx gy l m n =
-        bound-within square square-cost (pointOf q) (pyramidIn d a) (heightIn d a) (pyramidIn d z) (heightIn d z) (omega (arith, q-length)) (real-for a ga) (real-for z gz)
+        bound-within (q .features) (pyramidIn d a) (heightIn d a) (pyramidIn d z) (heightIn d z) (omega (arith, suits .same)) (suits .ordered) (real-for a ga) (real-for z gz)
         (ordered a z ga gz (le-trans l (le-trans m n))) (pyramidIn d x) (heightIn d x) (pyramidIn d y) (heightIn d y) (real-for x gx) (real-for y gy)
         (ordered x y gx gy m) (ordered a x ga gx l) (ordered y z gy gz n)
 
@@ -115,13 +115,13 @@ module _ (d : ℕ) (low : 1 ≤ d) (high : d ≤ 16) where
       last = lastOr noRecord rs
 
       -- the bound of the records' span is at most the distance of each of them
-      pub span-floor : All (λ r. spanBound q (firstKey d rs) (lastKey d rs) ≤ distBy square 0 (pointOf q) (pointIn d r)) rs
+      pub span-floor : All (λ r. spanBound q (firstKey d rs) (lastKey d rs) ≤ distanceTo q r) rs
       span-floor =
           rw (span-between d q rs)
           (floor rs right (from-first (rankOf d) noRecord rs up) (to-last (rankOf d) noRecord rs up))
         where
           floor : (xs : List Record) → All (Right d) xs → All (λ x. rankOf d first ≤ rankOf d x) xs → All (λ x. rankOf d x ≤ rankOf d last) xs
-              → All (λ r. boundBetween d q first last ≤ distBy square 0 (pointOf q) (pointIn d r)) xs
+              → All (λ r. boundBetween d q first last ≤ distanceTo q r) xs
           floor xs none none none = none
           floor xs (also {x = x} g a) (also l b) (also m c) =
               also (record-below first last x (head-of noRecord some right) (last-of noRecord some right) g l m) (floor _ a b c)

@@ -13,15 +13,12 @@ use borrow.Author.Tests.{ltb-true, ltb-false, lt-ltb, le-ltb, leb-true, leb-fals
 use Rattle.lists.specs.Basics.{All, none, also, all-map, flat}
 use Rattle.lists.specs.Tests.{cases, false-true}
 use Rattle.lists.specs.Sorting.{keep, sort}
-use Rattle.lists.specs.SortingLaws.{length-sort, keep-all}
+use Rattle.lists.specs.SortingLaws.{length-sort, keep-all, keep-append}
 use Rattle.lists.specs.FlatLaws.{all-every}
 use Rattle.lists.specs.Parts.{head-of, last-of}
 use Rattle.lists.specs.Ascending.{headOr, lastOr}
-use Rattle.geometry.specs.Points.{square, IsBound}
+use Rattle.geometry.specs.Features.{IsBound}
 use Rattle.geometry.specs.Slices.{boundOf}
-use Rattle.geometry.specs.Stored.{pointOf}
-use Rattle.geometry.proofs.StoredLaws.{length-point}
-use Rattle.geometry.proofs.ConvexLaws.{square-cost}
 use Rattle.geometry.proofs.BoundLaws.{bound-exact}
 use Rattle.bestfirst.specs.Nearest.{candidates, nearest, inSet}
 use Rattle.candidates.specs.declared.Row.{Row}
@@ -30,40 +27,42 @@ use Rattle.pagestore.specs.declared.Record.{Record}
 use Rattle.pagestore.specs.Store.{View, viewOf}
 use Rattle.trees.specs.Trees.{Item, noRecord, firstKey, lastKey, rankOf, keyOf, treeOf, live, leavesOf}
 use Rattle.trees.specs.Sound.{SoundIndex}
-use Rattle.search.specs.Branches.{spanBound, rowOf}
+use Rattle.search.specs.Asked.{Asked, candidate, spanBound, Askable}
+use Rattle.search.specs.Branches.{rowOf, rowsAmong}
 use Rattle.search.specs.Visit.{ranking}
-use Rattle.search.specs.Questions.{rowsFrom, rowsOf, leafBound, toRead, Near, lastDistance, Called}
+use Rattle.search.specs.Questions.{rowsFrom, rowsOf, leafBound, liveCandidates, toRead, Near, lastDistance, Called}
 use Rattle.search.proofs.RecordLaws.{Right, from-first, pyramidIn, heightIn, real, ordered}
 use Rattle.search.proofs.FrameLaws.{Ordered, Branching, leaf-records}
 use Rattle.search.proofs.SoundLaws.{leafItems, records-leaves, tree-ordered, leaves-ordered, none-held}
 
 -- ---- HOW MANY ROWS THERE ARE
 
-rows-length : (q : List ℕ) (p : ℕ) (us : List (Item 1)) → length (rowsFrom q p us) ≡ length (flat leafItems us)
-unfolding rowsFrom flat
+rows-length : (q : Asked) (p : ℕ) (us : List (Item 1)) → length (rowsFrom q p us) ≡ length (keep (candidate q) (flat leafItems us))
+unfolding rowsFrom rowsAmong flat keep
 rows-length q p [] = refl
 rows-length q p (u ∷ us) =
     let h = rows-length q (suc p) us in
-    rw (length-append (map (rowOf q p) (u .1)) (rowsFrom q (suc p) us), length-append (u .1) (flat leafItems us), length-map (u .1) (rowOf q p)) (omega arith)
+    rw (length-append (map (rowOf q p) (keep (candidate q) (u .1))) (rowsFrom q (suc p) us), keep-append (candidate q) (u .1) (flat leafItems us), length-append (keep (candidate q) (u .1)) (keep (candidate q) (flat leafItems us)), length-map (keep (candidate q) (u .1)) (rowOf q p)) (omega arith)
 
-nearest-length : (v : View) (q : List ℕ) (k : ℕ) → (length (nearest ranking k (rowsOf v q)) < k → length (live v) < k) × (length (live v) < k → length (nearest ranking k (rowsOf v q)) < k)
+nearest-length : (v : View) (q : Asked)
+    → (length (nearest ranking (q .k) (rowsOf v q)) < q .k → length (liveCandidates v q) < q .k) × (length (liveCandidates v q) < q .k → length (nearest ranking (q .k) (rowsOf v q)) < q .k)
 unfolding nearest candidates rowsOf leavesOf live
-nearest-length v q k =
-    let c : length (candidates ranking (rowsOf v q)) ≡ length (live v) =
+nearest-length v q =
+    let c : length (candidates ranking (rowsOf v q)) ≡ length (liveCandidates v q) =
     ap (λ (xs : List Row). length (sort rowOrder xs)) (keep-all (λ x. true) (rowsOf v q) (all-every (λ x. refl) (rowsOf v q))) ∙ length-sort rowOrder (rowsOf v q) ∙ rows-length q 0 (leavesOf v)
-    ∙ ap length (sym (records-leaves (v .level) (treeOf v))) in
-    let t = length-take k (candidates ranking (rowsOf v q)) in
+    ∙ ap (λ (rs : List Record). length (keep (candidate q) rs)) (sym (records-leaves (v .level) (treeOf v))) in
+    let t = length-take (q .k) (candidates ranking (rowsOf v q)) in
     (λ h. omega (arith, t, c), λ h. omega (arith, t, c))
 
 -- ---- THE SET
 
-module _ (b : List ℕ) (s : SoundIndex b) (q : List ℕ) (same : length q ≡ viewOf b .d) (k : ℕ) where
+module _ (b : List ℕ) (s : SoundIndex b) (q : Asked) (suits : Askable (viewOf b .d) q) where
   abbrev v : View
   v = viewOf b
 
   -- the bound of a leaf that holds records is the bound of its span (01)
   leaf-bound : (t : Item 1) → Ordered (v .d) 0 t → 0 < length (t .1)
-      → IsBound square (pointOf q) (firstKey (v .d) (t .1) .pyramid .0) (firstKey (v .d) (t .1) .height .0) (lastKey (v .d) (t .1) .pyramid .0) (lastKey (v .d) (t .1) .height .0) (leafBound (v .d) q t)
+      → IsBound (q .features) (firstKey (v .d) (t .1) .pyramid .0) (firstKey (v .d) (t .1) .height .0) (lastKey (v .d) (t .1) .pyramid .0) (lastKey (v .d) (t .1) .height .0) (leafBound (v .d) q t)
   unfolding leafBound spanBound firstKey lastKey keyOf
   leaf-bound t o some =
       let d = v .d in
@@ -73,39 +72,39 @@ module _ (b : List ℕ) (s : SoundIndex b) (q : List ℕ) (same : length q ≡ v
       let right = rw (leaf-records t) at (o .right) in
       let ga : Right d a = head-of noRecord some right in
       let gz : Right d z = last-of noRecord some right in
-      let len : length (pointOf q) ≡ d = length-point q ∙ same in
+      let len = suits .same in
       let l : rankOf d a ≤ rankOf d z = last-of noRecord some (from-first (rankOf d) noRecord (t .1) up) in
-      bound-exact square square-cost (pointOf q) (pyramidIn d a) (heightIn d a) (pyramidIn d z) (heightIn d z) (omega (arith, len, s .d .0))
+      bound-exact (q .features) (pyramidIn d a) (heightIn d a) (pyramidIn d z) (heightIn d z) (omega (arith, len, s .d .0)) (suits .ordered)
       (rw len (real d (s .d .0) (s .d .1) a ga)) (rw len (real d (s .d .0) (s .d .1) z gz)) (ordered d (s .d .0) (s .d .1) a z ga gz l)
 
-  set-leaf : (t : Item 1) → Ordered (v .d) 0 t → 0 < length (t .1) → (toRead v q k t ≡ true → Called v q k t) × (Called v q k t → toRead v q k t ≡ true)
+  set-leaf : (t : Item 1) → Ordered (v .d) 0 t → 0 < length (t .1) → (toRead v q t ≡ true → Called v q t) × (Called v q t → toRead v q t ≡ true)
   unfolding toRead inSet
   set-leaf t o some =
       let w = leaf-bound t o some in
-      let n = length (nearest ranking k (rowsOf v q)) in
+      let n = length (nearest ranking (q .k) (rowsOf v q)) in
       let e : ltb 0 (length (t .1)) ≡ true = lt-ltb 0 (length (t .1)) some in
       rw e
-      (cases (ltb n k)
-      (λ f. rw f (λ g. record { some = some; reach = inl (nearest-length v q k .0 (ltb-true n k f)) }, λ g. refl))
+      (cases (ltb n (q .k))
+      (λ f. rw f (λ g. record { some = some; reach = inl (nearest-length v q .0 (ltb-true n (q .k) f)) }, λ g. refl))
       (λ f. rw f (
         λ g. record {
           some = some;
-          reach = inr (record { point = w .point; features = w .same; grid = w .grid; after = w .after; upto = w .before; near = le-trans (le-of-eq (w .reached)) (leb-true _ _ g) });
+          reach = inr (record { point = w .point; inside = w .inside; near = le-trans (le-of-eq (w .reached)) (leb-true _ _ g) });
         },
-        λ g. back (ltb-false n k f) (g .reach),
+        λ g. back (ltb-false n (q .k) f) (g .reach),
       )))
     where
-      back : k ≤ length (nearest ranking k (rowsOf v q)) → (length (live v) < k) ⊎ Near (v .d) (pointOf q) (t .1) (lastDistance v q k) → leb (leafBound (v .d) q t) (lastDistance v q k) ≡ true
-      back f (inl g) = let h = nearest-length v q k .1 g in absurd (omega arith)
-      back f (inr g) = le-leb _ _ (le-trans (leaf-bound t o some .least (g .point) (g .features) (g .grid) (g .after) (g .upto)) (g .near))
+      back : q .k ≤ length (nearest ranking (q .k) (rowsOf v q)) → (length (liveCandidates v q) < q .k) ⊎ Near (v .d) (q .features) (t .1) (lastDistance v q) → leb (leafBound (v .d) q t) (lastDistance v q) ≡ true
+      back f (inl g) = let h = nearest-length v q .1 g in absurd (omega arith)
+      back f (inr g) = le-leb _ _ (le-trans (leaf-bound t o some .least (g .point) (g .inside)) (g .near))
 
   -- leaves-bound: so for all leaves of the index: `leafBound` is reached by a grid point of the span and is least
-  pub leaves-bound : 0 < v .total → All (λ t. IsBound square (pointOf q) (firstKey (v .d) (t .1) .pyramid .0) (firstKey (v .d) (t .1) .height .0) (lastKey (v .d) (t .1) .pyramid .0) (lastKey (v .d) (t .1) .height .0) (leafBound (v .d) q t)) (leavesOf v)
+  pub leaves-bound : 0 < v .total → All (λ t. IsBound (q .features) (firstKey (v .d) (t .1) .pyramid .0) (firstKey (v .d) (t .1) .height .0) (lastKey (v .d) (t .1) .pyramid .0) (lastKey (v .d) (t .1) .height .0) (leafBound (v .d) q t)) (leavesOf v)
   unfolding leavesOf Branching
   leaves-bound h = all-map (λ t (o : Ordered (v .d) 0 t). leaf-bound t o (o .some)) (leaves-ordered (v .d) (v .level) (treeOf v) (tree-ordered b s h))
 
-  -- set-points: a leaf is in the set just if it holds records, and fewer than k points live or its span has a grid point no farther than the last row
-  pub set-points : All (λ t. (toRead v q k t ≡ true → Called v q k t) × (Called v q k t → toRead v q k t ≡ true)) (leavesOf v)
+  -- set-points: a leaf is in the set just if it holds records, and fewer than k candidates live or its span has a grid point no farther than the last row
+  pub set-points : All (λ t. (toRead v q t ≡ true → Called v q t) × (Called v q t → toRead v q t ≡ true)) (leavesOf v)
   unfolding leavesOf Branching toRead
   set-points =
       cases (ltb 0 (v .total))

@@ -2,13 +2,12 @@
 use mathlib.Core.Path.{_≡_, refl, sym, ap, _∙_}
 use mathlib.Core.Bool.{Bool, true, false}
 use mathlib.Core.List.{List, [], _∷_, map}
-use Prim.Native.Nat.{ℕ, zero, suc, _+_, _*_, _-_, _^_, _≤_, _<_, min}
+use Prim.Native.Nat.{ℕ, zero, suc, _+_, _*_, _-_, _≤_, _<_, min}
 use native.Mathlib.Omega.{arith}
-use native.Mathlib.Nat.{pow-le-pow-right, zero-add}
+use native.Mathlib.Nat.{zero-add}
 use lib.ListN.{length, take, set, length-set, length-take, length-map}
 use lib.Dec.{ltb}
 use borrow.Author.Tests.{eq-eqb, ne-eqb}
-use Rattle.lists.specs.Basics.{All, none, also, all-head, all-tail}
 use Rattle.lists.specs.FlatLaws.{all-every}
 use Rattle.lists.specs.Sorting.{keep, ins, sort, insAll, offerAll}
 use Rattle.lists.specs.Sorting as sorting
@@ -25,40 +24,39 @@ use Rattle.bestfirst.specs.FrontierLaws.{seek-end, seek-stop, seek-read, seek-o
 use Rattle.candidates.specs.declared.Row.{Row}
 use Rattle.candidates.specs.Rows.{rowOrder}
 use Rattle.candidates.specs.Held.{rowsIn, Held, Stops}
-use Rattle.search.specs.Branches.{Branch, before, isLeaf, branches, opened, kids, rootBranch, rowOf, rowsAt, pageIn}
-use Rattle.search.specs.Keys.{keyOf, boundIn, placeIn, levelIn, numberIn, branchIn, Good, frontier}
+use Rattle.search.specs.Asked.{Asked, asking}
+use Rattle.search.specs.Branches.{Branch, before, isLeaf, branches, opened, kids, rootBranch, rowsAmong, rowsAt, pageIn}
+use Rattle.search.specs.Keys.{keyOf, boundIn, placeIn, levelIn, numberIn, branchIn, frontier}
 use Rattle.search.specs.Visit.{ranking, Answer, answerOf, room, visited}
-use Rattle.search.specs.Steps.{Asked, Heights, OfferedAll, Opens, Opened, Visits, Visited}
+use Rattle.search.specs.Steps.{Tabled, OfferedAll, Opens, Opened, Visits, Visited}
 use Rattle.tree.proofs.CountLaws.{items-length}
 use Rattle.search.proofs.LeafLaws.{page-small}
-use Rattle.search.proofs.KeyLaws.{key-back, key-good}
+use Rattle.search.proofs.KeyLaws.{key-back}
 use Rattle.search.proofs.RoomLaws.{room-some}
 
 abbrev boundOf : Branch → ℕ
 boundOf x = x .bound
 
 -- the search from a frontier and rows on, n steps at most
-abbrev seekOn : List ℕ → List ℕ → ℕ → ℕ → List Branch → List Row → Outcome Row Branch
-seekOn index q k n f s = seek ranking boundOf (rowsAt index q) before isLeaf (kids index q) k (room index) n f s
+abbrev seekOn : List ℕ → Asked → ℕ → List Branch → List Row → Outcome Row Branch
+seekOn index q n f s = seek ranking boundOf (rowsAt index q) before isLeaf (kids index q) (q .k) (room index) n f s
 
 -- an outcome where m leaves have been read before
 abbrev after : ℕ → Outcome Row Branch → Answer
 after m o = record { rows = o .rows; leaves = m + length (o .read) }
 
 -- n branches are in the heap, `rows` rows are held, `leaves` leaves have been read; `steps` steps are left
-pub record Visiting (index q heights : List ℕ) (k : ℕ) (slots₀ distances₀ tags₀ slots distances tags : List ℕ) (n rows leaves steps : ℕ) : Type 0 where
-  pub asked : Asked q
-  pub ready : Heights q heights
+pub record Visiting (index asked near whole : List ℕ) (k : ℕ) (slots₀ distances₀ tags₀ slots distances tags : List ℕ) (n rows leaves steps : ℕ) : Type 0 where
+  pub tables : Tabled asked near whole
   pub one : 1 ≤ k
-  pub whole : length slots ≡ room index
+  pub size : length slots ≡ room index
   pub lengths : length slots ≡ length slots₀
   pub lengthsD : length distances ≡ length distances₀
   pub lengthsT : length tags ≡ length tags₀
   pub heap : Heap n slots
-  pub good : All Good (held n slots)
   pub holds : Held distances tags rows k
   pub few : leaves + steps ≤ 32768
-  pub answer : after leaves (seekOn index q k steps (frontier n slots) (rowsIn distances tags rows)) ≡ answerOf (visited index q k)
+  pub answer : after leaves (seekOn index (asking asked k) steps (frontier n slots) (rowsIn distances tags rows)) ≡ answerOf (visited index (asking asked k))
 
 -- ---- THE START
 
@@ -73,29 +71,26 @@ unfolding sort ins
 one-held [] x h = absurd (omega arith)
 one-held (y ∷ ys) x h = refl
 
-pub visiting-start : (index q heights : List ℕ) (k : ℕ) (slots distances tags : List ℕ) (key m : ℕ) → Visits index q heights k slots distances tags → key ≡ keyOf (rootBranch index) → m ≡ pagesIn index
-    → Visiting index q heights k (set slots 0 key) distances tags (set slots 0 key) distances tags 1 0 0 (2 * m)
+pub visiting-start : (index asked near whole : List ℕ) (k : ℕ) (slots distances tags : List ℕ) (key m : ℕ) → Visits index asked near whole k slots distances tags → key ≡ keyOf (rootBranch index) → m ≡ pagesIn index
+    → Visiting index asked near whole k (set slots 0 key) distances tags (set slots 0 key) distances tags 1 0 0 (2 * m)
 unfolding visited
-visiting-start index q heights k slots distances tags key m v e g =
-    let w : 16 ^ (fieldAt level index) ≤ 16 ^ 4 = pow-le-pow-right (omega arith) (v .low) in
+visiting-start index asked near whole k slots distances tags key m v e g =
+    let q = asking asked k in
     let s : 1 ≤ length slots = omega (arith, v .room, room-some index) in
     let o : held 1 (set slots 0 key) ≡ key ∷ [] = one-held slots key s in
     let l : length (set slots 0 key) ≡ length slots = length-set slots 0 key in
     let b : branchIn key ≡ rootBranch index = ap branchIn e ∙ key-back (rootBranch index) (omega arith) (v .low) (page-small index (fieldAt root index)) in
-    let r : Good key = rw e (key-good (rootBranch index) (omega arith) (v .low) (page-small index (fieldAt root index)) (omega arith)) in
     record {
-      asked = v .asked;
-      ready = v .ready;
+      tables = v .tables;
       one = v .one;
-      whole = l ∙ v .room;
+      size = l ∙ v .room;
       lengths = refl;
       lengthsD = refl;
       lengthsT = refl;
       heap = one-heap slots key s;
-      good = rw o (also r none);
       holds = record { few = omega arith; room = v .rows; roomTags = v .tags; sorted = sorting.end };
       few = omega (arith, pages-few index);
-      answer = rw (o, b, g) (λ i. record { rows = visited index q k .rows; leaves = zero-add (length (visited index q k .read)) i });
+      answer = rw (o, b, g) (λ i. record { rows = visited index q .rows; leaves = zero-add (length (visited index q .read)) i });
     }
 
 -- ---- THE TURNS
@@ -103,84 +98,79 @@ visiting-start index q heights k slots distances tags key m v e g =
 length-held : (n : ℕ) (slots : List ℕ) → Heap n slots → length (frontier n slots) ≡ n
 length-held n slots h = length-map (held n slots) branchIn ∙ length-sort ltb (take n slots) ∙ (let f = h .fits in let t = length-take n slots in omega arith)
 
-length-branches : (b q : List ℕ) (l p : ℕ) (es : List Entry) → length (branches b q l p es) ≡ length es
+length-branches : (b : List ℕ) (q : Asked) (l p : ℕ) (es : List Entry) → length (branches b q l p es) ≡ length es
 unfolding branches
 length-branches b q l p [] = refl
 length-branches b q l p (e ∷ es) = ap suc (length-branches b q l (p + leafCount l b (e .child)) es)
 
 -- no further leaf is read
-ended : (index q : List ℕ) (k : ℕ) (distances tags : List ℕ) (rows leaves : ℕ) (o : Outcome Row Branch) → o ≡ record { rows = rowsIn distances tags rows; read = [] } → Held distances tags rows k
-    → after leaves o ≡ answerOf (visited index q k) → Visited index q k distances tags (record { rows = rows; leaves = leaves })
-ended index q k distances tags rows leaves o e h a =
+ended : (index : List ℕ) (q : Asked) (distances tags : List ℕ) (rows leaves : ℕ) (o : Outcome Row Branch) → o ≡ record { rows = rowsIn distances tags rows; read = [] } → Held distances tags rows (q .k)
+    → after leaves o ≡ answerOf (visited index q) → Visited index q distances tags (record { rows = rows; leaves = leaves })
+ended index q distances tags rows leaves o e h a =
     let z : leaves + 0 ≡ leaves = omega arith in
     record { held = h; answer = (λ i. record { rows = rowsIn distances tags rows; leaves = sym z i }) ∙ sym (ap (after leaves) e) ∙ a }
 
-module _ (index q heights : List ℕ) (k : ℕ) (slots₀ distances₀ tags₀ slots distances tags : List ℕ) (n rows leaves steps : ℕ)
-    (v : Visiting index q heights k slots₀ distances₀ tags₀ slots distances tags n rows leaves steps) where
+module _ (index asked near whole : List ℕ) (k : ℕ) (slots₀ distances₀ tags₀ slots distances tags : List ℕ) (n rows leaves steps : ℕ)
+    (v : Visiting index asked near whole k slots₀ distances₀ tags₀ slots distances tags n rows leaves steps) where
+  abbrev q : Asked
+  q = asking asked k
+
   abbrev here : List Row
   here = rowsIn distances tags rows
 
   -- the steps are used up, or no branch is left
-  pub visiting-out : steps ≤ 0 → Visited index q k distances tags (record { rows = rows; leaves = leaves })
+  pub visiting-out : steps ≤ 0 → Visited index q distances tags (record { rows = rows; leaves = leaves })
   unfolding seek
   visiting-out h =
       let z : steps ≡ 0 = omega arith in
-      ended index q k distances tags rows leaves (seekOn index q k steps (frontier n slots) here) (rw z) (v .holds) (v .answer)
+      ended index q distances tags rows leaves (seekOn index q steps (frontier n slots) here) (rw z) (v .holds) (v .answer)
 
-  pub visiting-empty : n ≡ 0 → Visited index q k distances tags (record { rows = rows; leaves = leaves })
+  pub visiting-empty : n ≡ 0 → Visited index q distances tags (record { rows = rows; leaves = leaves })
   unfolding sort
   visiting-empty z =
-      ended index q k distances tags rows leaves (seekOn index q k steps (frontier n slots) here)
-      (rw z (seek-end ranking boundOf (rowsAt index q) before isLeaf (kids index q) k (room index) steps here)) (v .holds) (v .answer)
+      ended index q distances tags rows leaves (seekOn index q steps (frontier n slots) here)
+      (rw z (seek-end ranking boundOf (rowsAt index q) before isLeaf (kids index q) (q .k) (room index) steps here)) (v .holds) (v .answer)
 
   -- the first branch is taken
   module _ (key : ℕ) (slots' : List ℕ) (p : Popped n slots key slots') (more : 0 < steps) where
-    goods : All Good (key ∷ held (n - 1) slots')
-    goods = rw (p .least) at (v .good)
-
-    pub taken-good : Good key
-    taken-good = all-head goods
-
     abbrev rest : List Branch
     rest = frontier (n - 1) slots'
 
-    taken : after leaves (seekOn index q k (suc (steps - 1)) (branchIn key ∷ rest) here) ≡ answerOf (visited index q k)
+    taken : after leaves (seekOn index q (suc (steps - 1)) (branchIn key ∷ rest) here) ≡ answerOf (visited index q)
     taken =
         let s : steps ≡ suc (steps - 1) = omega arith in
         rw (← s) (rw (p .least) at (v .answer))
 
-    pub visiting-stop : exceeds ranking k (boundIn key) here ≡ true → Visited index q k distances tags (record { rows = rows; leaves = leaves })
+    pub visiting-stop : exceeds ranking k (boundIn key) here ≡ true → Visited index q distances tags (record { rows = rows; leaves = leaves })
     unfolding branchIn
     visiting-stop x =
-        ended index q k distances tags rows leaves (seekOn index q k (suc (steps - 1)) (branchIn key ∷ rest) here)
-        (seek-stop ranking boundOf (rowsAt index q) before isLeaf (kids index q) k (room index) (steps - 1) (branchIn key) rest here x) (v .holds) taken
+        ended index q distances tags rows leaves (seekOn index q (suc (steps - 1)) (branchIn key ∷ rest) here)
+        (seek-stop ranking boundOf (rowsAt index q) before isLeaf (kids index q) (q .k) (room index) (steps - 1) (branchIn key) rest here x) (v .holds) taken
 
     module _ (goes : exceeds ranking k (boundIn key) here ≡ false) (kept : length slots' ≡ length slots) where
       -- a leaf is read
       pub visiting-leaf : (distances' tags' : List ℕ) (level place page r : ℕ) → level ≡ levelIn key → place ≡ placeIn key → page ≡ numberIn key → level ≡ 0
-          → OfferedAll distances tags rows k (map (rowOf q place) (recordsIn (leafAt index page))) r distances' tags'
+          → OfferedAll distances tags rows k (rowsAmong q place (recordsIn (leafAt index page))) r distances' tags'
           → length distances' ≡ length distances → length tags' ≡ length tags
-          → Visiting index q heights k slots₀ distances₀ tags₀ slots' distances' tags' (n - 1) r (leaves + 1) (steps - 1)
+          → Visiting index asked near whole k slots₀ distances₀ tags₀ slots' distances' tags' (n - 1) r (leaves + 1) (steps - 1)
       unfolding branchIn
       visiting-leaf distances' tags' l place page r sl sp sg z offers ld lt =
           let x : Branch = branchIn key in
           let o = rw (sp, sg) at offers in
           let t : isLeaf x ≡ true = eq-eqb (levelIn key) 0 (sym sl ∙ z) in
-          let e = seek-read ranking boundOf (rowsAt index q) before isLeaf (kids index q) k (room index) (steps - 1) x rest here goes t in
+          let e = seek-read ranking boundOf (rowsAt index q) before isLeaf (kids index q) (q .k) (room index) (steps - 1) x rest here goes t in
           let a : keep (λ y. true) (rowsAt index q x) ≡ rowsAt index q x = keep-all (λ y. true) (rowsAt index q x) (all-every (λ y. refl) (rowsAt index q x)) in
-          let w : offered ranking boundOf (rowsAt index q) k x here ≡ rowsIn distances' tags' r = ap (λ (ys : List Row). offerAll rowOrder k ys here) a ∙ sym (o .rows) in
-          let out = seekOn index q k (steps - 1) rest (rowsIn distances' tags' r) in
+          let w : offered ranking boundOf (rowsAt index q) (q .k) x here ≡ rowsIn distances' tags' r = ap (λ (ys : List Row). offerAll rowOrder k ys here) a ∙ sym (o .rows) in
+          let out = seekOn index q (steps - 1) rest (rowsIn distances' tags' r) in
           let c : leaves + length (x ∷ out .read) ≡ leaves + 1 + length (out .read) = omega arith in
           record {
-            asked = v .asked;
-            ready = v .ready;
+            tables = v .tables;
             one = v .one;
-            whole = kept ∙ v .whole;
+            size = kept ∙ v .size;
             lengths = kept ∙ v .lengths;
             lengthsD = ld ∙ v .lengthsD;
             lengthsT = lt ∙ v .lengthsT;
             heap = p .heap;
-            good = all-tail goods;
             holds = o .held;
             few = let f = v .few in omega arith;
             answer = (λ i. record { rows = out .rows; leaves = sym c i }) ∙ sym (ap (after leaves) (rw w at e)) ∙ taken;
@@ -208,47 +198,36 @@ module _ (index q heights : List ℕ) (k : ℕ) (slots₀ distances₀ tags₀ s
         kids-room = let a = ap length kids-are in let b = length-branches index q (level - 1) place entries in let c = length-held (n - 1) slots' (p .heap) in omega arith
 
         -- there is no room for the branches of an inner page
-        pub visiting-full : (m : ℕ) → m ≡ length entries → length slots' < m + (n - 1) → Visited index q k distances tags (record { rows = rows; leaves = leaves })
+        pub visiting-full : (m : ℕ) → m ≡ length entries → length slots' < m + (n - 1) → Visited index q distances tags (record { rows = rows; leaves = leaves })
         unfolding branchIn
         visiting-full m e h =
-            ended index q k distances tags rows leaves (seekOn index q k (suc (steps - 1)) (branchIn key ∷ rest) here)
-            (seek-full ranking boundOf (rowsAt index q) before isLeaf (kids index q) k (room index) (steps - 1) (branchIn key) rest here goes not-leaf
-            (let r = kids-room in let w = v .whole in omega arith)) (v .holds) taken
+            ended index q distances tags rows leaves (seekOn index q (suc (steps - 1)) (branchIn key ∷ rest) here)
+            (seek-full ranking boundOf (rowsAt index q) before isLeaf (kids index q) (q .k) (room index) (steps - 1) (branchIn key) rest here goes not-leaf
+            (let r = kids-room in let w = v .size in omega arith)) (v .holds) taken
 
         -- an inner page can be opened
-        pub visiting-opens : (m : ℕ) → m ≡ length entries → m + (n - 1) ≤ length slots' → Opens slots' (n - 1) index q heights (level - 1) place page
+        pub visiting-opens : (m : ℕ) → m ≡ length entries → m + (n - 1) ≤ length slots' → Opens slots' (n - 1) index asked near whole (level - 1) place page
         visiting-opens m c h =
-            let e : level - 1 + 1 ≡ levelIn key = let f = sl in omega (arith, inner) in
             let f = sl in
-            record {
-              asked = v .asked;
-              ready = v .ready;
-              low = omega arith;
-              places = rw (e, sp) (taken-good .room);
-              heap = p .heap;
-              good = all-tail goods;
-              room = omega arith;
-            }
+            record { tables = v .tables; low = omega arith; first = omega (arith, sp); heap = p .heap; room = omega arith }
 
         -- an inner page has been opened
         pub visiting-open : (slots'' : List ℕ) (r m : ℕ) → m ≡ length entries → m + (n - 1) ≤ length slots' → Opened slots' (n - 1) index q (level - 1) place page r slots'' → length slots'' ≡ length slots'
-            → Visiting index q heights k slots₀ distances₀ tags₀ slots'' distances tags r rows leaves (steps - 1)
+            → Visiting index asked near whole k slots₀ distances₀ tags₀ slots'' distances tags r rows leaves (steps - 1)
         unfolding branchIn
         visiting-open slots'' r m c h o l =
-            let e = seek-open ranking boundOf (rowsAt index q) before isLeaf (kids index q) k (room index) (steps - 1) (branchIn key) rest here goes not-leaf (let r = kids-room in let w = v .whole in omega arith) in
+            let e = seek-open ranking boundOf (rowsAt index q) before isLeaf (kids index q) (q .k) (room index) (steps - 1) (branchIn key) rest here goes not-leaf (let r = kids-room in let w = v .size in omega arith) in
             record {
-              asked = v .asked;
-              ready = v .ready;
+              tables = v .tables;
               one = v .one;
-              whole = l ∙ kept ∙ v .whole;
+              size = l ∙ kept ∙ v .size;
               lengths = l ∙ kept ∙ v .lengths;
               lengthsD = v .lengthsD;
               lengthsT = v .lengthsT;
               heap = o .heap;
-              good = o .good;
               holds = v .holds;
               few = let f = v .few in omega arith;
-              answer = ap (λ (f : List Branch). after leaves (seekOn index q k (steps - 1) f here)) (o .branches ∙ ap (λ (ys : List Branch). insAll before ys rest) (sym kids-are)) ∙ sym (ap (after leaves) e) ∙ taken;
+              answer = ap (λ (f : List Branch). after leaves (seekOn index q (steps - 1) f here)) (o .branches ∙ ap (λ (ys : List Branch). insAll before ys rest) (sym kids-are)) ∙ sym (ap (after leaves) e) ∙ taken;
             }
 
 -- ---- WHAT THE CALLS RETURN

@@ -1,22 +1,18 @@
 -- Branches of the tree of an index, as the search meets them from the root on. Nothing is assumed of the bytes.
--- q: the coordinates of the asked point, as stored.
+-- q: what is asked.
 use mathlib.Core.Bool.{Bool}
 use mathlib.Core.List.{List, [], _∷_, map}
-use Prim.Native.Nat.{ℕ, zero, suc, _+_}
+use Prim.Native.Nat.{ℕ, zero, suc, min, _+_}
 use lib.Dec.{eqb}
-use lib.ListN.{length}
 use Rattle.lists.specs.Basics.{pick}
 use Rattle.lists.specs.Orders.{by, byHigher, lower}
-use Rattle.geometry.specs.declared.Key.{Key}
-use Rattle.geometry.specs.Points.{square, distance}
-use Rattle.geometry.specs.Slices.{boundOf}
-use Rattle.geometry.specs.Stored.{pointOf}
+use Rattle.lists.specs.Sorting.{keep}
 use Rattle.pagestore.specs.declared.Record.{Record}
 use Rattle.pagestore.specs.declared.Entry.{Entry}
 use Rattle.pagestore.specs.Store.{root, level, inRange, leafAt, innerAt, recordsIn, entriesIn, fieldAt}
-use Rattle.trees.specs.Trees.{pointIn}
 use Rattle.tree.specs.Lookup.{leafCount}
 use Rattle.candidates.specs.declared.Row.{Row}
+use Rattle.search.specs.Asked.{Asked, distanceTo, candidate, spanBound}
 
 -- a page that the search may go to, with its level; the bound of its span, and the position of the first leaf under it
 pub record Branch : Type 0 where
@@ -35,31 +31,31 @@ before = by (λ x. x .bound) tied
 abbrev pub isLeaf : Branch → Bool
 isLeaf x = eqb (x .level) 0
 
--- the bound (01) of the span from a first to a last key
-unfoldable pub spanBound : List ℕ → Key → Key → ℕ
-spanBound q f l = boundOf square (pointOf q) (f .pyramid .0) (f .height .0) (l .pyramid .0) (l .height .0)
-
 -- a number that is no page's is read as 0: no page either, and it holds nothing
 unfoldable pub pageIn : List ℕ → ℕ → ℕ
 pageIn b p = pick (inRange b p) p 0
 
+-- the greatest position that a key holds: a sound index has at most 8,191 leaves. On other bytes a position above it is read as this one.
+abbrev pub lastPlace : ℕ
+lastPlace = 8191
+
 -- the branch of an entry whose child has level l, its first leaf at position p
-abbrev pub branchOf : List ℕ → List ℕ → ℕ → ℕ → Entry → Branch
-branchOf b q l p e = record { bound = spanBound q (e .first) (e .last); place = p; level = l; page = pageIn b (e .child) }
+abbrev pub branchOf : List ℕ → Asked → ℕ → ℕ → Entry → Branch
+branchOf b q l p e = record { bound = spanBound q (e .first) (e .last); place = min p lastPlace; level = l; page = pageIn b (e .child) }
 
 -- the branches of entries, one after the other
-unfoldable pub branches : List ℕ → List ℕ → ℕ → ℕ → List Entry → List Branch
+unfoldable pub branches : List ℕ → Asked → ℕ → ℕ → List Entry → List Branch
 unfolding spanBound pageIn leafCount
 branches b q l p [] = []
 branches b q l p (e ∷ es) = branchOf b q l p e ∷ branches b q l (p + leafCount l b (e .child)) es
 
 -- the branches that page g of a level gives when it is opened, its first leaf at position p
-unfoldable pub opened : List ℕ → List ℕ → ℕ → ℕ → ℕ → List Branch
+unfoldable pub opened : List ℕ → Asked → ℕ → ℕ → ℕ → List Branch
 unfolding branches
 opened b q zero p g = []
 opened b q (suc l) p g = branches b q l p (entriesIn (innerAt b g))
 
-abbrev pub kids : List ℕ → List ℕ → Branch → List Branch
+abbrev pub kids : List ℕ → Asked → Branch → List Branch
 kids b q x = opened b q (x .level) (x .place) (x .page)
 
 -- the root needs no bound
@@ -67,9 +63,15 @@ abbrev pub rootBranch : List ℕ → Branch
 rootBranch b = record { bound = 0; place = 0; level = fieldAt level b; page = pageIn b (fieldAt root b) }
 
 -- the row (01) of a record in the leaf at position p
-unfoldable pub rowOf : List ℕ → ℕ → Record → Row
-rowOf q p r = record { distance = distance (pointOf q) (pointIn (length q) r); id = r .id; position = p }
+unfoldable pub rowOf : Asked → ℕ → Record → Row
+unfolding distanceTo
+rowOf q p r = record { distance = distanceTo q r; id = r .id; position = p }
+
+-- the rows of records of that leaf: those of the candidates among them
+unfoldable pub rowsAmong : Asked → ℕ → List Record → List Row
+unfolding rowOf keep
+rowsAmong q p rs = map (rowOf q p) (keep (candidate q) rs)
 
 -- the rows of the leaf of a branch
-abbrev pub rowsAt : List ℕ → List ℕ → Branch → List Row
-rowsAt b q x = map (rowOf q (x .place)) (recordsIn (leafAt b (x .page)))
+abbrev pub rowsAt : List ℕ → Asked → Branch → List Row
+rowsAt b q x = rowsAmong q (x .place) (recordsIn (leafAt b (x .page)))

@@ -6,21 +6,25 @@ use Prim.Native.Nat.{ℕ, zero, suc, _+_, _-_, _*_, _≤_, _<_}
 use lib.Dec.{ltb}
 use lib.ListN.{length, getD, drop}
 use Rattle.lists.specs.Basics.{All}
-use Rattle.geometry.specs.Points.{distBy, square}
+use Rattle.geometry.specs.Points.{distance}
 use Rattle.geometry.specs.Stored.{pointOf}
+use Rattle.pagestore.specs.declared.Record.{Record}
 use Rattle.pagestore.specs.Layout.{leafOf}
 use Rattle.pagestore.specs.LayoutLaws.{noRecord}
 use Rattle.candidates.specs.declared.Row.{Row}
 use Rattle.candidates.specs.Held.{behindAll}
 
--- the coordinates of record r of a leaf page, as stored
+-- the record in slot r of a leaf page, and its coordinates, as stored
+abbrev pub recordIn : List ℕ → ℕ → Record
+recordIn page r = getD (leafOf page .records) r noRecord
+
 abbrev pub coordsAt : List ℕ → ℕ → List ℕ
-coordsAt page r = getD (leafOf page .records) r noRecord .coords
+coordsAt page r = recordIn page r .coords
 
 -- what the coordinates from m on add to the squared distance of record r from the asked point
 unfoldable pub costFrom : List ℕ → List ℕ → ℕ → ℕ → ℕ
-unfolding distBy pointOf
-costFrom page q m r = distBy square m (drop m (pointOf q)) (drop m (pointOf (coordsAt page r)))
+unfolding distance pointOf
+costFrom page q m r = distance (drop m (pointOf q)) (drop m (pointOf (coordsAt page r)))
 
 -- the square of the gap of two stored coordinates; of two below 2,048 it is at most `mostCost`
 abbrev pub gapSquare : ℕ → ℕ → ℕ
@@ -66,7 +70,7 @@ pub record Quarters (page q : List ℕ) (s m n : ℕ) (sums : List ℕ) : Type 0
 
 -- a row of record i of a leaf page at a position
 abbrev pub rowAt : List ℕ → ℕ → ℕ → ℕ → Row
-rowAt page i distance position = record { distance = distance; id = getD (leafOf page .records) i noRecord .id; position = position }
+rowAt page i distance position = record { distance = distance; id = recordIn page i .id; position = position }
 
 -- a sum that is not beyond a limit
 abbrev pub notPast : ℕ → ℕ → Bool

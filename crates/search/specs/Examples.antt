@@ -4,11 +4,12 @@ use mathlib.Core.List.{List, [], _∷_, map}
 use Prim.Native.Nat.{ℕ}
 use lib.IntN.{pos}
 use Rattle.lists.specs.Basics.{upFrom}
-use Rattle.geometry.specs.Stored.{stored, slotsOf}
+use Rattle.geometry.specs.Stored.{slotsOf}
 use Rattle.pagestore.specs.declared.Record.{Record}
 use Rattle.pagestore.specs.Store.{View, viewOf}
 use Rattle.trees.specs.Trees.{leavesOf}
 use Rattle.trees.specs.Sound.{SoundIndex}
+use Rattle.search.specs.Asked.{Asked, plainly}
 use Rattle.search.specs.Visit.{found}
 
 -- identifier n at n
@@ -29,11 +30,14 @@ pub record Example : Type 0 where
   pub rows : List ℕ
   pub read : ℕ
 
+abbrev pub asked : Example → Asked
+asked e = plainly (pos (e .point) ∷ []) (e .k)
+
 -- what an example says of every sound index with these leaves
 abbrev pub Holds : Example → Type 0
 Holds e =
     (b : List ℕ) → SoundIndex b → Seventeen (viewOf b)
-    → (map (λ x. x .id) ((found b (stored (pos (e .point)) ∷ []) (e .k)) .rows) ≡ e .rows) × ((found b (stored (pos (e .point)) ∷ []) (e .k)) .leaves ≡ e .read)
+    → (map (λ x. x .id) (found b (asked e) .rows) ≡ e .rows) × (found b (asked e) .leaves ≡ e .read)
 
 abbrev pub examples : List Example
 examples =

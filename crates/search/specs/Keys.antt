@@ -1,33 +1,40 @@
 -- A branch as one number, as the frontier's heap holds it.
 use mathlib.Core.List.{List, map}
-use Prim.Native.Nat.{ℕ, _+_, _*_, _-_, _/_, _%_, _^_, _≤_}
+use Prim.Native.Nat.{ℕ, _+_, _*_, _-_, _/_, _%_, _≤_, _<_}
 use Rattle.heap.specs.Heap.{held}
 use Rattle.search.specs.Branches.{Branch}
 
--- 14 bits of page, 3 of level (the highest first), 16 of position, and the bound above them
+-- Mixed radix: 16,384 pages, 5 levels (the highest first), 8,192 positions, and the bound above them. So a bound of weighted features
+-- (`mostBound`) leaves the key in 64 bits.
 abbrev pub keyOf : Branch → ℕ
-keyOf x = ((x .bound * 65536 + x .place) * 8 + (4 - x .level)) * 16384 + x .page
+keyOf x = ((x .bound * 8192 + x .place) * 5 + (4 - x .level)) * 16384 + x .page
+
+-- no bound of 16 features of weights up to 1,000 is above this (`bound-small`)
+abbrev pub mostBound : ℕ
+mostBound = 19030015000
+
+-- the fields of a branch fit a key
+pub record Fits (x : Branch) : Type 0 where
+  pub bound : x .bound ≤ mostBound
+  pub place : x .place < 8192
+  pub level : x .level ≤ 4
+  pub page : x .page < 16384
 
 -- and back, field by field
 abbrev pub boundIn : ℕ → ℕ
-boundIn key = key / 16384 / 8 / 65536
+boundIn key = key / 16384 / 5 / 8192
 
 abbrev pub placeIn : ℕ → ℕ
-placeIn key = key / 16384 / 8 % 65536
+placeIn key = key / 16384 / 5 % 8192
 
 abbrev pub levelIn : ℕ → ℕ
-levelIn key = 4 - key / 16384 % 8
+levelIn key = 4 - key / 16384 % 5
 
 abbrev pub numberIn : ℕ → ℕ
 numberIn key = key % 16384
 
 unfoldable pub branchIn : ℕ → Branch
 branchIn key = record { bound = boundIn key; place = placeIn key; level = levelIn key; page = numberIn key }
-
--- a key of a branch of level 0 to 4, with room for the positions of 16 leaves a page under it
-pub record Good (key : ℕ) : Type 0 where
-  pub level : key / 16384 % 8 ≤ 4
-  pub room : placeIn key + 16 ^ levelIn key ≤ 65536
 
 -- the branches of the first n keys of a heap, in order
 abbrev pub frontier : ℕ → List ℕ → List Branch

@@ -10,77 +10,78 @@ use lib.ListN.{length, getD}
 use Rattle.lists.specs.Basics.{pick}
 use Rattle.lists.specs.Counts.{mult}
 use Rattle.lists.specs.Sorting.{keep, sort}
-use Rattle.geometry.specs.Points.{InRange, heightOf, pyramidOf, PairLe, distance}
-use Rattle.geometry.specs.Stored.{pointOf}
+use Rattle.geometry.specs.Features.{Feature, distTo, InSpan}
 use Rattle.bestfirst.specs.Nearest.{nearest, lastCost, inSet}
 use Rattle.candidates.specs.declared.Row.{Row}
 use Rattle.pagestore.specs.declared.Record.{Record}
 use Rattle.pagestore.specs.Store.{View}
 use Rattle.trees.specs.Trees.{Item, firstKey, lastKey, live, leavesOf}
-use Rattle.search.specs.Branches.{Branch, before, spanBound, rowOf}
+use Rattle.search.specs.Asked.{Asked, candidate, spanBound}
+use Rattle.search.specs.Branches.{Branch, before, rowsAmong}
 use Rattle.search.specs.Visit.{ranking, placed}
 
 -- the rows of leaves, the first of them at position p
-unfoldable pub rowsFrom : List ℕ → ℕ → List (Item 1) → List Row
-unfolding rowOf
+unfoldable pub rowsFrom : Asked → ℕ → List (Item 1) → List Row
+unfolding rowsAmong
 rowsFrom q p [] = []
-rowsFrom q p (t ∷ ts) = map (rowOf q p) (t .1) ++ rowsFrom q (suc p) ts
+rowsFrom q p (t ∷ ts) = rowsAmong q p (t .1) ++ rowsFrom q (suc p) ts
 
--- the rows of all live records, each with the position of its leaf
-unfoldable pub rowsOf : View → List ℕ → List Row
+-- the rows of all live candidates, each with the position of its leaf
+unfoldable pub rowsOf : View → Asked → List Row
 unfolding rowsFrom
 rowsOf v q = rowsFrom q 0 (leavesOf v)
 
 -- the bound (01) of a leaf: that of the span from its first record's pair to its last's
-unfoldable pub leafBound : ℕ → List ℕ → Item 1 → ℕ
+unfoldable pub leafBound : ℕ → Asked → Item 1 → ℕ
 unfolding spanBound
 leafBound d q t = spanBound q (firstKey d (t .1)) (lastKey d (t .1))
 
+-- the live records that are looked for
+abbrev pub liveCandidates : View → Asked → List Record
+liveCandidates v q = keep (candidate q) (live v)
+
 -- Demand 3's set: the leaves holding records whose bound is at most the distance of the last row that demand 2 calls for, or
--- all of these when fewer than k records live.
-unfoldable pub toRead : View → List ℕ → ℕ → Item 1 → Bool
+-- all of these when fewer than k candidates live.
+unfoldable pub toRead : View → Asked → Item 1 → Bool
 unfolding rowsOf leafBound
-toRead v q k t = ltb 0 (length (t .1)) && inSet ranking k (rowsOf v q) (leafBound (v .d) q t)
+toRead v q t = ltb 0 (length (t .1)) && inSet ranking (q .k) (rowsOf v q) (leafBound (v .d) q t)
 
 -- The same set in the letter's own words (`set-points`). The span of the records rs has a whole-number point, within the coordinate range, no farther
--- from the asked point a than m:
-pub record Near (d : ℕ) (a : List ℤ) (rs : List Record) (m : ℕ) : Type 0 where
+-- from what is asked than m:
+pub record Near (d : ℕ) (fs : List Feature) (rs : List Record) (m : ℕ) : Type 0 where
   pub point : List ℤ
-  pub features : length point ≡ length a
-  pub grid : InRange point
-  pub after : PairLe (firstKey d rs .pyramid .0) (firstKey d rs .height .0) (pyramidOf point) (heightOf point)
-  pub upto : PairLe (pyramidOf point) (heightOf point) (lastKey d rs .pyramid .0) (lastKey d rs .height .0)
-  pub near : distance a point ≤ m
+  pub inside : InSpan (length fs) (firstKey d rs .pyramid .0) (firstKey d rs .height .0) (lastKey d rs .pyramid .0) (lastKey d rs .height .0) point
+  pub near : distTo fs point ≤ m
 
 -- the distance of the last row that demand 2 calls for
-abbrev pub lastDistance : View → List ℕ → ℕ → ℕ
-lastDistance v q k = lastCost ranking (nearest ranking k (rowsOf v q))
+abbrev pub lastDistance : View → Asked → ℕ
+lastDistance v q = lastCost ranking (nearest ranking (q .k) (rowsOf v q))
 
--- a leaf that demand 3 calls for: it holds records, and fewer than k points live or its span has such a point
-pub record Called (v : View) (q : List ℕ) (k : ℕ) (t : Item 1) : Type 0 where
+-- a leaf that demand 3 calls for: it holds records, and fewer than k candidates live or its span has such a point
+pub record Called (v : View) (q : Asked) (t : Item 1) : Type 0 where
   pub some : 0 < length (t .1)
-  pub reach : (length (live v) < k) ⊎ Near (v .d) (pointOf q) (t .1) (lastDistance v q k)
+  pub reach : (length (liveCandidates v q) < q .k) ⊎ Near (v .d) (q .features) (t .1) (lastDistance v q)
 
 -- the leaf at position p as the search takes it, by (bound, position)
-unfoldable pub leafBranch : List ℕ → ℕ → ℕ → Item 1 → Branch
+unfoldable pub leafBranch : Asked → ℕ → ℕ → Item 1 → Branch
 unfolding leafBound
 leafBranch q d p t = record { bound = leafBound d q t; place = p; level = 0; page = t .0 }
 
 -- those of the set, the first leaf at position p
-unfoldable pub setFrom : View → List ℕ → ℕ → ℕ → List (Item 1) → List Branch
+unfoldable pub setFrom : View → Asked → ℕ → List (Item 1) → List Branch
 unfolding toRead leafBranch
-setFrom v q k p [] = []
-setFrom v q k p (t ∷ ts) = pick (toRead v q k t) (leafBranch q (v .d) p t ∷ setFrom v q k (suc p) ts) (setFrom v q k (suc p) ts)
+setFrom v q p [] = []
+setFrom v q p (t ∷ ts) = pick (toRead v q t) (leafBranch q (v .d) p t ∷ setFrom v q (suc p) ts) (setFrom v q (suc p) ts)
 
 -- the leaves of the set in the order in which they are read, each by its position and its page
-unfoldable pub readingOrder : View → List ℕ → ℕ → List (ℕ × ℕ)
+unfoldable pub readingOrder : View → Asked → List (ℕ × ℕ)
 unfolding setFrom sort
-readingOrder v q k = map placed (sort before (setFrom v q k 0 (leavesOf v)))
+readingOrder v q = map placed (sort before (setFrom v q 0 (leavesOf v)))
 
 -- the pages of the leaves left unread
-unfoldable pub unreadPages : View → List ℕ → ℕ → List ℕ
+unfoldable pub unreadPages : View → Asked → List ℕ
 unfolding toRead keep
-unreadPages v q k = map (λ t. t .0) (keep (λ t. not (toRead v q k t)) (leavesOf v))
+unreadPages v q = map (λ t. t .0) (keep (λ t. not (toRead v q t)) (leavesOf v))
 
 -- Demand 3's exchange, leaf by leaf: a leaf of the set keeps its records, any other one their number, its first key and its last key
 pub record Kept (d : ℕ) (read : Bool) (t u : Item 1) : Type 0 where

@@ -11,9 +11,10 @@ use Rattle.bestfirst.specs.Nearest.{Ranking, Outcome, exceeds}
 use Rattle.bestfirst.specs.Frontier.{seek}
 use Rattle.candidates.specs.declared.Row.{Row}
 use Rattle.candidates.specs.Rows.{byDistance}
-use Rattle.search.specs.Branches.{Branch, before, isLeaf, spanBound, pageIn, branches, opened, kids, rootBranch, rowOf, rowsAt}
+use Rattle.search.specs.Asked.{Asked, spanBound}
+use Rattle.search.specs.Branches.{Branch, before, isLeaf, pageIn, branches, opened, kids, rootBranch, rowsAmong, rowsAt}
 
--- rows go by distance, then by identifier; every record is a candidate
+-- rows go by distance, then by identifier; all rows are candidates'
 abbrev pub ranking : Ranking Row
 ranking = byDistance (λ x. true)
 
@@ -27,27 +28,27 @@ answerOf o = record { rows = o .rows; leaves = length (o .read) }
 
 -- How many branches the frontier has room for: no more than there are leaves, and a leaf but the root has 8 records or more.
 unfoldable pub room : List ℕ → ℕ
-room b = pick (ltb 4096 (fieldAt total b)) 8192 512
+room b = pick (ltb 4096 (fieldAt total b)) 8192 (pick (ltb 1024 (fieldAt total b)) 512 128)
 
 -- The visit from the root on. As many steps are taken at most as twice the pages: in a sound index they and the room are enough.
-unfoldable pub visited : List ℕ → List ℕ → ℕ → Outcome Row Branch
-unfolding seek exceeds keep insAll offerAll spanBound pageIn branches opened rowOf room
-visited b q k = seek ranking (λ x. x .bound) (rowsAt b q) before isLeaf (kids b q) k (room b) (2 * pagesIn b) (rootBranch b ∷ []) []
+unfoldable pub visited : List ℕ → Asked → Outcome Row Branch
+unfolding seek exceeds keep insAll offerAll spanBound pageIn branches opened rowsAmong room
+visited b q = seek ranking (λ x. x .bound) (rowsAt b q) before isLeaf (kids b q) (q .k) (room b) (2 * pagesIn b) (rootBranch b ∷ []) []
 
 -- nothing is read where the header's total is 0 (01), or where the root's level is above 4: no sound index has such a root
 unfoldable pub readsNone : List ℕ → Bool
 readsNone b = eqb (fieldAt total b) 0 || ltb 4 (fieldAt level b)
 
--- the k nearest of the index b to the point that is stored as q
-unfoldable pub found : List ℕ → List ℕ → ℕ → Answer
+-- what the search finds in the index b of what is asked
+unfoldable pub found : List ℕ → Asked → Answer
 unfolding visited readsNone
-found b q k = pick (readsNone b) (record { rows = []; leaves = 0 }) (answerOf (visited b q k))
+found b q = pick (readsNone b) (record { rows = []; leaves = 0 }) (answerOf (visited b q))
 
 -- a leaf by its position and its page
 abbrev pub placed : Branch → ℕ × ℕ
 placed x = (x .place, x .page)
 
 -- the leaves that are read for it, in the order of reading
-unfoldable pub leavesRead : List ℕ → List ℕ → ℕ → List (ℕ × ℕ)
+unfoldable pub leavesRead : List ℕ → Asked → List (ℕ × ℕ)
 unfolding visited readsNone
-leavesRead b q k = pick (readsNone b) [] (map placed (visited b q k .read))
+leavesRead b q = pick (readsNone b) [] (map placed (visited b q .read))

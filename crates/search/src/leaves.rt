@@ -1,16 +1,12 @@
 // Leaves: the one function that reads leaf pages.
 ghost use mathlib.Core.Path.{_≡_};
-ghost use mathlib.Core.List.{map};
 ghost use Prim.Native.Nat.{_≤_, _<_, min};
 ghost use lib.ListN.{length, take};
 ghost use Rattle.lists.specs.Basics.{tick};
 ghost use Rattle.lists.specs.Sorting.{count};
-ghost use Rattle.pagestore.specs.Store.{leafAt, recordsIn};
-ghost use Rattle.pagestore.specs.Layout.{leafOf};
-ghost use Rattle.candidates.specs.Held.{Held, Offered};
-ghost use Rattle.search.specs.Branches.{rowOf};
-ghost use Rattle.search.specs.Columns.{rowAt, notPast, BehindPast};
-ghost use Rattle.search.specs.Steps.{Asked, OfferedAll};
+ghost use Rattle.candidates.specs.Held.{Held};
+ghost use Rattle.search.specs.Columns.{notPast, BehindPast};
+ghost use Rattle.search.specs.Steps.{AskedPoint, Seekable, Tells, OfferedRecord, OfferedPart, OfferedLeaf};
 use crate::columns::add_columns;
 use candidates::Row;
 use candidates::behind;
@@ -72,7 +68,15 @@ fn within(sums: &[u32], n: usize, limit: u32) -> u32
     near
 }
 
-// Offers the record in slot i of a leaf page, whose squared distance is told. Its identifier is read only where a row is taken.
+// Whether the record in slot i of a leaf page is a candidate of what is asked: each one is.
+fn is_candidate(page: &[u8], i: usize) -> bool
+    ensures { λ r. ⌜ Tells (now (page .entry)) i r ⌝ }
+{
+    true
+}
+
+// Offers the record in slot i of a leaf page, whose squared distance is told, if it is a candidate. Its identifier is read only
+// where a row is taken.
 fn offer_record(
     page: &[u8],
     i: usize,
@@ -84,9 +88,12 @@ fn offer_record(
     k: usize,
 ) -> usize
     requires { ⌜ (length (now page) ≡ 1024) × (i < 16) × Held (now distances) (now tags) n k ⌝ }
-    ensures { λ r. ⌜ Offered (now (distances .entry)) (now (tags .entry)) n k (rowAt (now (page .entry)) i distance position) r (now (distances .exit)) (now (tags .exit)) ⌝ }
+    ensures { λ r. ⌜ OfferedRecord (now (page .entry)) i distance position (now (distances .entry)) (now (tags .entry)) n k r (now (distances .exit)) (now (tags .exit)) ⌝ }
 {
     if behind(distances, n, k, distance) {
+        return n;
+    }
+    if !is_candidate(page, i) {
         return n;
     }
     let row = Row {
@@ -109,8 +116,8 @@ fn offer_leaf(
     n: usize,
     k: usize,
 ) -> usize
-    requires { ⌜ (length (now page) ≡ 1024) × Asked (now q) × Held (now distances) (now tags) n k ⌝ }
-    ensures { λ r. ⌜ OfferedAll (now (distances .entry)) (now (tags .entry)) n k (map (rowOf (now (q .entry)) position) (recordsIn (leafOf (now (page .entry))))) r (now (distances .exit)) (now (tags .exit)) ⌝ }
+    requires { ⌜ (length (now page) ≡ 1024) × AskedPoint (now q) × Held (now distances) (now tags) n k ⌝ }
+    ensures { λ r. ⌜ OfferedPart (now (page .entry)) (now (q .entry)) position (now (distances .entry)) (now (tags .entry)) n k r (now (distances .exit)) (now (tags .exit)) ⌝ }
 {
     let count = filled(read_count(page));
     let full = lanes(count);
@@ -133,20 +140,29 @@ fn offer_leaf(
 pub fn visit_leaf(
     index: &[u8],
     page: u32,
-    q: &[u16],
+    asked: &[u16],
     position: u32,
     distances: &mut [u64],
     tags: &mut [u64],
     n: usize,
     k: usize,
 ) -> usize
-    requires { ⌜ Asked (now q) × Held (now distances) (now tags) n k ⌝ }
-    ensures { λ r. ⌜ OfferedAll (now (distances .entry)) (now (tags .entry)) n k (map (rowOf (now (q .entry)) position) (recordsIn (leafAt (now (index .entry)) page))) r (now (distances .exit)) (now (tags .exit)) ⌝ }
+    requires { ⌜ Seekable (now asked) × Held (now distances) (now tags) n k ⌝ }
+    ensures { λ r. ⌜ OfferedLeaf (now (index .entry)) page (now (asked .entry)) position (now (distances .entry)) (now (tags .entry)) n k r (now (distances .exit)) (now (tags .exit)) ⌝ }
 {
     if in_range(index, page) {
         let at = page as usize * 1024;
         let end = at + 1024;
-        offer_leaf(&index[at..end], q, position, distances, tags, n, k)
+        let d = asked.len() - 48;
+        offer_leaf(
+            &index[at..end],
+            &asked[..d],
+            position,
+            distances,
+            tags,
+            n,
+            k,
+        )
     } else {
         n
     }

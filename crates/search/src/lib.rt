@@ -3,11 +3,11 @@
 // Best first (01, "A question"): a heap holds branches, pages of every level, by bound, position of the first leaf, level
 // from the highest on, and page. The first one is taken until its bound exceeds the k-th distance: an inner page gives its
 // entries to the heap, a leaf page is handed to the one function that reads leaf pages.
-ghost use Prim.Native.Nat.{_≤_};
-ghost use Rattle.search.specs.Steps.{Asked, Seeks, Searched};
+ghost use Rattle.search.specs.Asked.{asks, asking};
+ghost use Rattle.search.specs.Steps.{Seeks, Looks, Searches, Searched};
 use crate::visit::best_first;
 use crate::visit::reads_none;
-use geometry::bounds::nearest_heights;
+use geometry::bounds::prepare;
 use pagestore::total_records;
 
 mod columns;
@@ -15,61 +15,71 @@ mod frontier;
 mod leaves;
 mod visit;
 
-// What is asked, apart from the point.
+// What is asked: the features, laid out in one list as `geometry::bounds::ask` does it, their number, and how many rows.
 pub struct Query {
+    pub features: [u16; 64],
+    pub d: usize,
     pub k: usize,
 }
 
-// What a visit leaves: the number of rows held, and the number of leaves read.
+// What a search has seen: the number of rows held in the arrays lent to it, and the number of leaves read.
 pub struct Seen {
     pub rows: usize,
     pub leaves: u32,
 }
 
-// What a search returns: the rows, as their distances and tags, and the number of leaves read.
-pub struct Found {
-    pub rows: usize,
-    pub leaves: u32,
-    pub distances: [u64; 64],
-    pub tags: [u64; 64],
-}
-
 // The search of an index in which something is read, with room for its frontier.
-fn search_with(index: &[u8], q: &[u16], k: usize, slots: &mut [u64]) -> Found
-    requires { ⌜ Seeks (now index) (now q) k (now slots) ⌝ }
-    ensures { λ r. ⌜ Searched (now (index .entry)) (now (q .entry)) k r ⌝ }
+fn search_with(
+    index: &[u8],
+    asked: &[u16],
+    k: usize,
+    slots: &mut [u64],
+    distances: &mut [u64],
+    tags: &mut [u64],
+) -> Seen
+    requires { ⌜ Seeks (now index) (now asked) k (now slots) (now distances) (now tags) ⌝ }
+    ensures { λ r. ⌜ Searched (now (index .entry)) (asking (now (asked .entry)) k) (now (distances .exit)) (now (tags .exit)) r ⌝ }
 {
-    let heights = nearest_heights(q);
-    let mut distances = [0u64; 64];
-    let mut tags = [0u64; 64];
-    let seen = best_first(index, q, &heights, k, slots, &mut distances, &mut tags);
-    Found {
-        rows: seen.rows,
-        leaves: seen.leaves,
-        distances: distances,
-        tags: tags,
-    }
+    let mut near = [0u16; 288];
+    let mut whole = [0u64; 32];
+    prepare(asked, &mut near, &mut whole);
+    best_first(index, asked, &near, &whole, k, slots, distances, tags)
 }
 
-// The k nearest of the index's records to the asked point, whose coordinates are as stored, and the number of leaves read.
-// An index of few records gets little room: clearing more would take most of its search's time.
-pub fn search(index: &[u8], q: &[u16], query: Query) -> Found
-    requires { ⌜ Asked (now q) × (1 ≤ query .k) × (query .k ≤ 64) ⌝ }
-    ensures { λ r. ⌜ Searched (now (index .entry)) (now (q .entry)) (query .k) r ⌝ }
+// The search of any index. One of few records gets little room: clearing more would take most of its search's time.
+fn search_for(
+    index: &[u8],
+    asked: &[u16],
+    k: usize,
+    distances: &mut [u64],
+    tags: &mut [u64],
+) -> Seen
+    requires { ⌜ Looks (now asked) k (now distances) (now tags) ⌝ }
+    ensures { λ r. ⌜ Searched (now (index .entry)) (asking (now (asked .entry)) k) (now (distances .exit)) (now (tags .exit)) r ⌝ }
 {
     if reads_none(index) {
-        return Found {
-            rows: 0,
-            leaves: 0,
-            distances: [0u64; 64],
-            tags: [0u64; 64],
-        };
+        return Seen { rows: 0, leaves: 0 };
     }
-    if 4096 < total_records(index) {
+    let total = total_records(index);
+    if 4096 < total {
         let mut slots = [0u64; 8192];
-        search_with(index, q, query.k, &mut slots)
-    } else {
-        let mut slots = [0u64; 512];
-        search_with(index, q, query.k, &mut slots)
+        return search_with(index, asked, k, &mut slots, distances, tags);
     }
+    if 1024 < total {
+        let mut slots = [0u64; 512];
+        search_with(index, asked, k, &mut slots, distances, tags)
+    } else {
+        let mut slots = [0u64; 128];
+        search_with(index, asked, k, &mut slots, distances, tags)
+    }
+}
+
+// The nearest of the index's records to what is asked, as distances and tags in the arrays lent: how many there are, and the number of leaves read.
+pub fn search(index: &[u8], what: Query, distances: &mut [u64], tags: &mut [u64]) -> Seen
+    requires { ⌜ Searches what (now distances) (now tags) ⌝ }
+    ensures { λ r. ⌜ Searched (now (index .entry)) (asks what) (now (distances .exit)) (now (tags .exit)) r ⌝ }
+{
+    let features = what.features;
+    let end = 48 + what.d;
+    search_for(index, &features[..end], what.k, distances, tags)
 }

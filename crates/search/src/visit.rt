@@ -3,6 +3,7 @@ ghost use mathlib.Core.Path.{_≡_};
 ghost use Prim.Native.Nat.{_≤_};
 ghost use lib.ListN.{length};
 ghost use Rattle.pagestore.specs.Store.{level, innerAt, entriesIn, fieldAt};
+ghost use Rattle.search.specs.Asked.{asking};
 ghost use Rattle.search.specs.Branches.{rootBranch};
 ghost use Rattle.search.specs.Keys.{keyOf};
 ghost use Rattle.search.specs.Steps.{Visits, Visited};
@@ -55,15 +56,16 @@ fn entry_count(index: &[u8], page: u32) -> usize
 // Takes branches from the root on, the first one first, until its bound exceeds the k-th distance.
 pub fn best_first(
     index: &[u8],
-    q: &[u16],
-    heights: &[u16],
+    asked: &[u16],
+    near: &[u16],
+    whole: &[u64],
     k: usize,
     slots: &mut [u64],
     distances: &mut [u64],
     tags: &mut [u64],
 ) -> Seen
-    requires { ⌜ Visits (now index) (now q) (now heights) k (now slots) (now distances) (now tags) ⌝ }
-    ensures { λ r. ⌜ Visited (now (index .entry)) (now (q .entry)) k (now (distances .exit)) (now (tags .exit)) r ⌝ }
+    requires { ⌜ Visits (now index) (now asked) (now near) (now whole) k (now slots) (now distances) (now tags) ⌝ }
+    ensures { λ r. ⌜ Visited (now (index .entry)) (asking (now (asked .entry)) k) (now (distances .exit)) (now (tags .exit)) r ⌝ }
 {
     slots[0] = root_key(index);
     let mut n = 1;
@@ -90,7 +92,7 @@ pub fn best_first(
         let page = page_in(key);
         let place = place_in(key);
         if level == 0 {
-            rows = visit_leaf(index, page, q, place, distances, tags, rows, k);
+            rows = visit_leaf(index, page, asked, place, distances, tags, rows, k);
             leaves += 1;
         } else {
             if slots.len() < entry_count(index, page) + n {
@@ -99,7 +101,17 @@ pub fn best_first(
                     leaves: leaves,
                 };
             }
-            n = open_page(slots, n, index, q, heights, level - 1, place as usize, page);
+            n = open_page(
+                slots,
+                n,
+                index,
+                asked,
+                near,
+                whole,
+                level - 1,
+                place as usize,
+                page,
+            );
         }
     }
     Seen {

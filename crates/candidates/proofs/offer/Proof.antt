@@ -1,14 +1,22 @@
-use Rattle.candidates.proofs.HeldLaws.{offered-behind, offered-none, place-least, offered-put}
-use mathlib.Core.Path.{sym, _∙_}
-use Prim.Native.Nat.{_≤_, _-_, min}
+-- `offer` puts the row in where there is room, compares it with the last of k rows where there is none, and puts it in among the others.
+use Rattle.candidates.specs.Rows.{rowOf}
+use Rattle.candidates.proofs.HeldLaws.{held-part, offered-in, offered-out, offered-over, offered-same}
+use Prim.Native.Nat.{_-_}
 use native.Mathlib.Omega.{arith}
 use denote.Ref.{now}
+use borrow.Author.Tests.{not-true, not-false}
 use borrow.Author.Needs.{needs}
 use Rattle.candidates.proofs.offer.Statement.{statement}
 use Rattle.candidates.proofs.offer.Tie as tie
 
-behind-requires : tie.Need-behind-requires
-behind-requires c κs = let h = c .before .before .before .pre in let f = h .few in let r = h .room in omega arith
+tag-requires : tie.Need-tag-requires
+tag-requires c κs = search needs
+
+slide-requires : tie.Need-slide-requires
+slide-requires c κs = search needs
+
+add-result : tie.Need-add-result
+add-result c = search needs
 
 same-length : tie.Need-same-length
 same-length c = search needs
@@ -18,14 +26,16 @@ same-length-2 c = search needs
 
 returns : tie.Need-returns
 returns c =
-    let a = c .before .before .before .before .before .args in
-    offered-behind (now (a .distances)) (now (a .tags)) (a .n) (a .k) (a .row) (c .before .before .before .before .before .pre) (sym (c .before .behind .ensures) ∙ c .if1 .taken)
+    let S = (c .before .before .before .before .before .before .before .before .before .before .before) in
+    let a = S .args in
+    let t = c .before .before .before .before .before .before .before .before .tag in
+    let ds = now (a .distances) in let ts = now (a .tags) in let x = rowOf (a .row .distance) (t .result) in
+    let o = c .before .before .before .before .slide in
+    offered-same ds ts (a .n) (a .k) x (a .row) _ _ _ (t .ensures .1)
+    (offered-in ds ts (a .n) (a .k) x _ _ (S .pre) (c .before .before .before .before .before .before .before .if1 .taken) (o .kept .0) (o .kept .1 .0) (o .ensures))
 
-tag-requires : tie.Need-tag-requires
-tag-requires c κs = search needs
-
-place-requires : tie.Need-place-requires
-place-requires c κs = search needs
+gives-way-requires : tie.Need-gives-way-requires
+gives-way-requires c κs = search needs
 
 same-length-3 : tie.Need-same-length-3
 same-length-3 c = search needs
@@ -35,80 +45,60 @@ same-length-4 c = search needs
 
 returns-2 : tie.Need-returns-2
 returns-2 c =
-    let a = c .before .before .before .before .before .before .before .before .before .before .args in
-    let h = c .before .before .before .before .before .before .before .before .before .before .pre in
-    let t = c .before .before .before .before .tag in
-    let p = c .before .place in
-    offered-none (now (a .distances)) (now (a .tags)) (a .n) (a .k) (a .row) h (t .result) (p .result) (t .ensures .1) (p .ensures) (c .if2 .taken)
+    let S = (c .before .before .before .before .before .before .before .before) in
+    let a = S .args in
+    let t = c .before .before .before .before .before .tag in
+    let ds = now (a .distances) in let ts = now (a .tags) in let x = rowOf (a .row .distance) (t .result) in
+    let g = c .before .gives-way in
+    offered-same ds ts (a .n) (a .k) x (a .row) _ _ _ (t .ensures .1)
+    (offered-out ds ts (a .n) (a .k) x (S .pre) (c .before .before .before .before .if1 .left) (g .ensures .stays (not-true _ (c .if2 .taken))))
 
-sub-lesser : tie.Need-sub-lesser
-sub-lesser c =
-    let a = c .before .before .before .before .before .before .before .before .before .before .args in
-    let h = c .before .before .before .before .before .before .before .before .before .before .pre in
-    let t = c .before .before .before .before .tag in
-    let p = c .before .place in
-    let b : p .result ≤ min (a .n) (a .k - 1) = place-least (now (a .distances)) (now (a .tags)) (a .n) (a .k) (a .row) h (t .result) (p .result) (t .ensures .1) (p .ensures) (c .if2 .left) in
-    let f = h .few in
-    omega (arith, c .if2 .left)
+sub-slide : tie.Need-sub-slide
+sub-slide c = let g = c .before .before .before .gives-way .ensures .gives (not-false _ (c .before .before .if2 .left)) .0 in omega arith
 
-lesser-requires : tie.Need-lesser-requires
-lesser-requires c κs = search needs
-
-put-requires : tie.Need-put-requires
-put-requires c κs =
-    let a = c .before .before .before .before .before .before .before .before .before .before .before .before .args in
-    let h = c .before .before .before .before .before .before .before .before .before .before .before .before .pre in
-    let t = c .before .before .before .before .before .before .tag in
-    let p = c .before .before .before .place in
-    let b : p .result ≤ min (a .n) (a .k - 1) = place-least (now (a .distances)) (now (a .tags)) (a .n) (a .k) (a .row) h (t .result) (p .result) (t .ensures .1) (p .ensures) (c .before .before .if2 .left) in
-    let e = c .before .lesser .ensures in
-    let f = h .few in
-    let g = h .room in
-    (omega (arith, c .before .before .if2 .left), omega (arith, c .before .before .if2 .left))
-
-put-requires-2 : tie.Need-put-requires-2
-put-requires-2 c κs =
-    let a = c .before .before .before .before .before .before .before .before .before .before .before .before .before .before .before .before .args in
-    let h = c .before .before .before .before .before .before .before .before .before .before .before .before .before .before .before .before .pre in
-    let t = c .before .before .before .before .before .before .before .before .before .before .tag in
-    let p = c .before .before .before .before .before .before .before .place in
-    let b : p .result ≤ min (a .n) (a .k - 1) = place-least (now (a .distances)) (now (a .tags)) (a .n) (a .k) (a .row) h (t .result) (p .result) (t .ensures .1) (p .ensures) (c .before .before .before .before .before .before .if2 .left) in
-    let e = c .before .before .before .before .before .lesser .ensures in
-    let f = h .few in
-    let g = h .roomTags in
-    (omega (arith, c .before .before .before .before .before .before .if2 .left), omega (arith, c .before .before .before .before .before .before .if2 .left))
-
-add-result : tie.Need-add-result
-add-result c = search needs
+slide-requires-2 : tie.Need-slide-requires-2
+slide-requires-2 c κs =
+    let S = (c .before .before .before .before .before .before .before .before .before .before) in
+    let a = S .args in
+    let f = S .pre .few in
+    let z = c .before .before .before .gives-way .ensures .gives (not-false _ (c .before .before .if2 .left)) .0 in
+    let l = c .before .before .before .before .before .before .if1 .left in
+    held-part (now (a .distances)) (now (a .tags)) (a .n) (a .k) _ _ (S .pre) (omega arith) (omega arith) (omega arith)
 
 same-length-5 : tie.Need-same-length-5
 same-length-5 c = search needs
 
+same-length-6 : tie.Need-same-length-6
+same-length-6 c = search needs
+
 returns-3 : tie.Need-returns-3
 returns-3 c =
-    let a = c .before .before .before .before .before .before .before .before .before .before .before .before .before .before .before .before .before .before .before .args in
-    let h = c .before .before .before .before .before .before .before .before .before .before .before .before .before .before .before .before .before .before .before .pre in
-    let t = c .before .before .before .before .before .before .before .before .before .before .before .before .before .tag in
-    let p = c .before .before .before .before .before .before .before .before .before .before .place in
-    offered-put (now (a .distances)) (now (a .tags)) (a .n) (a .k) (a .row) h (t .result) (p .result) (t .ensures .1) (p .ensures) (c .before .before .before .before .before .before .before .before .lesser .result) (c .before .before .before .before .before .before .put .last .0) (c .before .before .put2 .last .0) (c .before .before .before .before .before .before .before .before .before .if2 .left) (c .before .before .before .before .before .before .before .before .lesser .ensures) (c .before .before .before .before .before .before .put .ensures) (c .before .before .put2 .ensures) (c .before .before .before .before .before .before .put .kept .0) (c .before .before .put2 .kept .0)
+    let S = (c .before .before .before .before .before .before .before .before .before .before .before .before .before .before .before) in
+    let a = S .args in
+    let t = c .before .before .before .before .before .before .before .before .before .before .before .before .tag in
+    let ds = now (a .distances) in let ts = now (a .tags) in let x = rowOf (a .row .distance) (t .result) in
+    let g = c .before .before .before .before .before .before .before .before .gives-way .ensures .gives (not-false _ (c .before .before .before .before .before .before .before .if2 .left)) in
+    let z = g .0 in
+    let o = c .before .before .before .before .slide2 .ensures in
+    offered-same ds ts (a .n) (a .k) x (a .row) _ _ _ (t .ensures .1)
+    (offered-over ds ts (a .n - 1) (a .n) (a .k) x _ _ (S .pre) (c .before .before .before .before .before .before .before .before .before .before .before .if1 .left) (omega arith) (g .1) o)
 
 pub offer-spec : {M : Type 1} → statement M
 offer-spec =
     tie.close
     (tie.spec
-    behind-requires
-    same-length
-    returns
     tag-requires
-    place-requires
-    same-length-2
-    same-length-3
-    returns-2
-    sub-lesser
-    lesser-requires
-    put-requires
-    put-requires-2
+    slide-requires
     add-result
+    same-length
+    same-length-2
+    returns
+    gives-way-requires
+    same-length-3
     same-length-4
+    returns-2
+    sub-slide
+    slide-requires-2
     same-length-5
+    same-length-6
     returns-3)

@@ -1,64 +1,40 @@
--- `search` meets its contract: where something is read, what is lent to `search_with` has the room that the index calls for.
-use mathlib.Core.Path.{sym, _∙_}
+-- `search` hands the part of its list on that the question has.
+use mathlib.Core.Path.{sym}
 use native.Mathlib.Omega.{arith}
-use denote.Ref.{now}
-use Rattle.search.proofs.AnswerLaws.{answer-none, searched}
-use Rattle.search.proofs.RoomLaws.{room-large, room-small}
+use lib.Seq.{length-take-le}
 use borrow.Author.Needs.{needs}
 use Rattle.search.proofs.search.Statement.{statement}
 use Rattle.search.proofs.search.Tie as tie
 
-reads-none-requires : tie.Need-reads-none-requires
-reads-none-requires c κs = search needs
+add-end : tie.Need-add-end
+add-end c = search needs
+
+array-share-prefix-features : tie.Need-array-share-prefix-features
+array-share-prefix-features c = search needs
+
+slice-aggregate-search-for : tie.Need-slice-aggregate-search-for
+slice-aggregate-search-for c = let S = (c .before .before .before .before .before .before) in sym (length-take-le _ _ (omega (arith, S .pre .slots, S .pre .few)))
+
+search-for-requires : tie.Need-search-for-requires
+search-for-requires c κs = search needs
+
+same-length : tie.Need-same-length
+same-length c = search needs
+
+same-length-2 : tie.Need-same-length-2
+same-length-2 c = search needs
 
 returns : tie.Need-returns
-returns c = let S = (c .before .before .before .before) in searched (now (S .args .index)) (now (S .args .q)) _ _ (S .pre .1) (omega arith) (answer-none (now (S .args .index)) (now (S .args .q)) _ (sym (c .before .reads-none .ensures) ∙ c .if1 .taken))
-
-total-records-requires : tie.Need-total-records-requires
-total-records-requires c κs = search needs
-
-slice-aggregate-search-with : tie.Need-slice-aggregate-search-with
-slice-aggregate-search-with c = search needs
-
-search-with-requires : tie.Need-search-with-requires
-search-with-requires c κs = let S = (c .before .before .before .before .before .before .before) in
-    record {
-      asked = S .pre .0;
-      one = S .pre .1;
-      most = S .pre .2;
-      some = sym (c .before .before .before .before .reads-none .ensures) ∙ c .before .before .before .if1 .left;
-      room = room-large (now (S .args .index)) _ (c .before .before .total-records .ensures) (omega (arith, c .before .if2 .taken));
-    }
-
-slice-aggregate-search-with-2 : tie.Need-slice-aggregate-search-with-2
-slice-aggregate-search-with-2 c = search needs
-
-search-with-requires-2 : tie.Need-search-with-requires-2
-search-with-requires-2 c κs = let S = (c .before .before .before .before .before .before .before) in
-    record {
-      asked = S .pre .0;
-      one = S .pre .1;
-      most = S .pre .2;
-      some = sym (c .before .before .before .before .reads-none .ensures) ∙ c .before .before .before .if1 .left;
-      room = room-small (now (S .args .index)) _ (c .before .before .total-records .ensures) (omega (arith, c .before .if2 .left));
-    }
-
-returns-2 : tie.Need-returns-2
-returns-2 c = search needs
-
-returns-3 : tie.Need-returns-3
-returns-3 c = search needs
+returns c = search needs
 
 pub search-spec : {M : Type 1} → statement M
 search-spec =
     tie.close
     (tie.spec
-    reads-none-requires
-    returns
-    total-records-requires
-    slice-aggregate-search-with
-    search-with-requires
-    slice-aggregate-search-with-2
-    search-with-requires-2
-    returns-2
-    returns-3)
+    add-end
+    array-share-prefix-features
+    slice-aggregate-search-for
+    search-for-requires
+    same-length
+    same-length-2
+    returns)

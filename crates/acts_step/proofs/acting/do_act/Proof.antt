@@ -46,11 +46,14 @@ same-length-4 c = search needs
 returns-2 : tie.Need-returns-2
 returns-2 c = does-insert (c .before .before .before .before .before .before .before .before .before .before .before .before .before .before .before .args .a) _ _ _ _ _ _ _ (c .before .before .before .before .before .before .before .before .if2 .taken) (c .before .before .before .before .insert-line .ensures)
 
+cast-k : tie.Need-cast-k
+cast-k c = search needs
+
 array-share-prefix-coords-2 : tie.Need-array-share-prefix-coords-2
-array-share-prefix-coords-2 c = omega (arith, slots ((c .before .before .before .before .before .before .before .before)), c .before .before .before .before .before .before .before .before .pre .0)
+array-share-prefix-coords-2 c = omega (arith, slots ((c .before .before .before .before .before .before .before .before .before)), c .before .before .before .before .before .before .before .before .before .pre .0)
 
 slice-aggregate-question-line : tie.Need-slice-aggregate-question-line
-slice-aggregate-question-line c = fits ((c .before .before .before .before .before .before .before .before .before))
+slice-aggregate-question-line c = fits ((c .before .before .before .before .before .before .before .before .before .before))
 
 question-line-requires : tie.Need-question-line-requires
 question-line-requires c κs = search needs
@@ -62,7 +65,7 @@ same-length-6 : tie.Need-same-length-6
 same-length-6 c = search needs
 
 returns-3 : tie.Need-returns-3
-returns-3 c = does-question (c .before .before .before .before .before .before .before .before .before .before .before .before .before .args .a) _ _ _ _ _ _ _ (c .before .before .before .before .before .before .before .before .before .if1 .left) (c .before .before .before .before .before .before .if2 .left) (c .before .before .question-line .ensures)
+returns-3 c = does-question (c .before .before .before .before .before .before .before .before .before .before .before .before .before .before .args .a) _ _ _ _ _ _ _ (c .before .before .before .before .before .before .before .before .before .before .if1 .left) (c .before .before .before .before .before .before .before .if2 .left) (c .before .before .question-line .ensures)
 
 pub do-act-spec : {M : Type 1} → statement M
 do-act-spec =
@@ -78,6 +81,7 @@ do-act-spec =
     same-length-3
     same-length-4
     returns-2
+    cast-k
     array-share-prefix-coords-2
     slice-aggregate-question-line
     question-line-requires

@@ -5,6 +5,12 @@ use borrow.Author.Needs.{needs}
 use Rattle.acts_step.proofs.acting.question_line.Statement.{statement}
 use Rattle.acts_step.proofs.acting.question_line.Tie as tie
 
+slice-aggregate-question-outcome : tie.Need-slice-aggregate-question-outcome
+slice-aggregate-question-outcome c = search needs
+
+slice-aggregate-question-outcome-2 : tie.Need-slice-aggregate-question-outcome-2
+slice-aggregate-question-outcome-2 c = search needs
+
 question-outcome-requires : tie.Need-question-outcome-requires
 question-outcome-requires c κs = search needs
 
@@ -22,8 +28,8 @@ same-length c = search needs
 
 returns : tie.Need-returns
 returns c =
-    let Q = c .before .before .before .before .before .before .before .before .before .question-outcome in let P = c .before .before .put-result in
-    asked-none _ _ _ (Q .result) (Q .ensures) _ _ _ _ _ (c .before .before .before .before .before .before .if1 .taken) (P .ensures .0) (P .ensures .1)
+    let Q = c .before .before .before .before .before .before .before .before .before .before .question-outcome in let P = c .before .before .put-result in
+    asked-none _ _ _ _ (Q .result) (Q .ensures) _ _ _ _ _ (c .before .before .before .before .before .before .if1 .taken) (P .ensures .0) (P .ensures .1)
 
 cast-put-rows : tie.Need-cast-put-rows
 cast-put-rows c = search needs
@@ -36,21 +42,23 @@ slice-aggregate-put-rows-2 c = search needs
 
 put-rows-requires : tie.Need-put-rows-requires
 put-rows-requires c κs =
-    let Q = c .before .before .before .before .before .before .before .before .before .before .question-outcome in let w = rows-fit _ _ _ (Q .result) (Q .ensures) in
-    (c .before .before .before .before .before .before .before .before .before .before .before .before .before .pre, w, omega (arith, Q .ensures .distances), omega (arith, Q .ensures .tags))
+    let Q = c .before .before .before .before .before .before .before .before .question-outcome in let w = rows-fit _ _ _ _ (Q .result) (Q .ensures) in
+    let d = Q .kept .1 .1 .1 .1 .0 in let t = Q .kept .1 .1 .1 .1 .1 .0 in
+    (c .before .before .before .before .before .before .before .before .before .before .before .before .before .pre, omega (arith, w, d), omega (arith, w, d), omega (arith, w, d, t))
 
 same-length-2 : tie.Need-same-length-2
 same-length-2 c = search needs
 
 returns-2 : tie.Need-returns-2
 returns-2 c =
-    let Q = c .before .before .before .before .before .before .before .before .before .before .before .before .before .question-outcome in
-    asked-some _ _ _ (Q .result) (Q .ensures) _ _ _ _ _ (c .before .before .before .before .before .before .before .before .before .before .if1 .left) (c .before .before .put-rows .ensures)
+    let Q = c .before .before .before .before .before .before .before .before .before .before .before .question-outcome in asked-some _ _ _ _ (Q .result) (Q .ensures) _ _ _ _ _ (c .before .before .before .before .before .before .before .if1 .left) (c .before .before .put-rows .ensures)
 
 pub question-line-spec : {M : Type 1} → statement M
 question-line-spec =
     tie.close
     (tie.spec
+    slice-aggregate-question-outcome
+    slice-aggregate-question-outcome-2
     question-outcome-requires
     cast-put-result
     cast-put-result-2

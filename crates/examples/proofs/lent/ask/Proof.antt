@@ -54,9 +54,10 @@ use Rattle.candidates.proofs.Row as P
 use Rattle.candidates.proofs.Row.Laws as P′
 use Rattle.lending.proofs.Tally as Q
 use Rattle.lending.proofs.Tally.Laws as Q′
-use Rattle.search.specs.declared.Query.{Query}
-use Rattle.search.proofs.Query as U
-use Rattle.search.proofs.Query.Laws as U′
+use Rattle.index.specs.declared.Criteria.{Criteria}
+use Rattle.index.specs.Asking.{questionOf}
+use Rattle.index.proofs.Criteria as U
+use Rattle.index.proofs.Criteria.Laws as U′
 use Rattle.lending.proofs.Answer as N
 use Rattle.lending.proofs.Answer.Laws as N′
 use Rattle.examples.proofs.lent.Kept as D
@@ -83,7 +84,7 @@ B = Array R 64
 abbrev stayed : Stays (ask.ended .signature .params) (ask.ended .kept)
 stayed = (stay-none-slice (0 ∷ []) tt (plain (λ _. u8)) yes, (stay-none-slice (1 ∷ []) tt (plain (λ _. i16)) yes, (stay-none (λ _. U.the-row) yes, (stay-none (λ _. B) yes, (stay-none (λ _. Y) yes, tt)))))
 
-abbrev kv : Query → Val
+abbrev kv : Criteria → Val
 kv k = LL.val U.the-type U′.the-laws k
 
 -- the types of the locals
@@ -144,7 +145,7 @@ module _ {M : Type 1} (𝓤 : URA M) (H : Heap 𝓤) (A : Atoms 𝓤) (at-mem : 
   abbrev Callee : Contract 𝓤
   Callee = tripleOf 𝓤 H A question.signature (question.spec 𝓤 H A at-mem run)
 
-module _ {M : Type 1} (𝓤 : URA M) (H : Heap 𝓤) (A : Atoms 𝓤) (W : Given 𝓤 H A) (at-mem : Memory → SProp 𝓤) (run : Routine → Fun 𝓤) (κ₀ κ₁ : Lft) (q₀ q₁ : Share) (xi : RefT (List ℕ)) (xa : RefT (List (i16 .Denot))) (k : Query) (xs : List Row) (h : Tally) where
+module _ {M : Type 1} (𝓤 : URA M) (H : Heap 𝓤) (A : Atoms 𝓤) (W : Given 𝓤 H A) (at-mem : Memory → SProp 𝓤) (run : Routine → Fun 𝓤) (κ₀ κ₁ : Lft) (q₀ q₁ : Share) (xi : RefT (List ℕ)) (xa : RefT (List (i16 .Denot))) (k : Criteria) (xs : List Row) (h : Tally) where
   abbrev si : Val
   si = sliceVal (xi .ptr) (length (xi .now))
 
@@ -158,7 +159,7 @@ module _ {M : Type 1} (𝓤 : URA M) (H : Heap 𝓤) (A : Atoms 𝓤) (W : Given
     abbrev qs : Share × (Share × Unit {0})
     qs = (q₀, (q₁, tt))
 
-    abbrev a : RefT (List ℕ) × (RefT (List (i16 .Denot)) × (Query × (List Row × (Tally × Unit {0}))))
+    abbrev a : RefT (List ℕ) × (RefT (List (i16 .Denot)) × (Criteria × (List Row × (Tally × Unit {0}))))
     a = (xi, (xa, (k, (xs, (h, tt)))))
 
     abbrev vals : List Val × (List Val × (List Val × (List Val × (List Val × Unit {0}))))
@@ -178,7 +179,7 @@ module _ {M : Type 1} (𝓤 : URA M) (H : Heap 𝓤) (A : Atoms 𝓤) (W : Given
 
     -- what `question` says of its answer, the rows and the tally
     abbrev Said : Answer → List Row → Tally → Type 0
-    Said n zs t = Questioned (xi .now) (xa .now) (k .k) xs h n zs t
+    Said n zs t = Questioned (xi .now) (questionOf (xa .now) k) xs h n zs t
 
     many : length xs ≡ 64
     many = px .1 .0 .1
@@ -200,7 +201,7 @@ module _ {M : Type 1} (𝓤 : URA M) (H : Heap 𝓤) (A : Atoms 𝓤) (W : Given
       abbrev lfts : Lft × (Lft × (Lft × (Lft × Unit {0})))
       lfts = (κ₀, (κ₁, (ν ∷ [], (μ ∷ [], tt))))
 
-      abbrev args : RefT (List ℕ) × (RefT (List (i16 .Denot)) × (Query × (RefT (List Row) × (RefT Tally × Unit {0}))))
+      abbrev args : RefT (List ℕ) × (RefT (List (i16 .Denot)) × (Criteria × (RefT (List Row) × (RefT Tally × Unit {0}))))
       args = (xi, (xa, (k, (xr, (xt, tt)))))
 
       abbrev to : Callee 𝓤 H A at-mem run .Ghost

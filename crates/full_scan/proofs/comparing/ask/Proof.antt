@@ -16,6 +16,12 @@ slice-aggregate-question-outcome c = simp length-take (omega arith)
 question-outcome-requires : tie.Need-question-outcome-requires
 question-outcome-requires c κs = search needs
 
+same-length : tie.Need-same-length
+same-length c = search needs
+
+same-length-2 : tie.Need-same-length-2
+same-length-2 c = search needs
+
 returns : tie.Need-returns
 returns c = search needs
 
@@ -27,4 +33,6 @@ ask-spec =
     array-share-prefix-point
     slice-aggregate-question-outcome
     question-outcome-requires
+    same-length
+    same-length-2
     returns)

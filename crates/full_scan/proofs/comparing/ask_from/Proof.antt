@@ -10,8 +10,20 @@ slice-aggregate-prepare c = simp length-take (omega arith)
 prepare-requires : tie.Need-prepare-requires
 prepare-requires c κs = (simp length-take (omega arith), search needs, search needs)
 
+slice-aggregate-ask : tie.Need-slice-aggregate-ask
+slice-aggregate-ask c = search needs
+
+slice-aggregate-ask-2 : tie.Need-slice-aggregate-ask-2
+slice-aggregate-ask-2 c = search needs
+
 ask-requires : tie.Need-ask-requires
 ask-requires c κs = search needs
+
+slice-aggregate-compare : tie.Need-slice-aggregate-compare
+slice-aggregate-compare c = search needs
+
+slice-aggregate-compare-2 : tie.Need-slice-aggregate-compare-2
+slice-aggregate-compare-2 c = search needs
 
 compare-requires : tie.Need-compare-requires
 compare-requires c κs = search needs
@@ -31,7 +43,11 @@ ask-from-spec =
     (tie.spec
     slice-aggregate-prepare
     prepare-requires
+    slice-aggregate-ask
+    slice-aggregate-ask-2
     ask-requires
+    slice-aggregate-compare
+    slice-aggregate-compare-2
     compare-requires
     same-length
     same-length-2

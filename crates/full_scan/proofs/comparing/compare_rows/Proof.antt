@@ -6,16 +6,28 @@ use Rattle.full_scan.proofs.comparing.compare_rows.Statement.{statement
 use Rattle.full_scan.proofs.comparing.compare_rows.Tie as tie
 
 abbrev Inv-loop : tie.InvT-loop
-Inv-loop index pages distances₀ list n differences₀ i₀ distances differences i = (i ≤ n) × (differences ≤ i) × (length distances ≡ length distances₀)
+Inv-loop index pages distances₀ near tags n differences₀ i₀ distances differences i = (i ≤ n) × (differences ≤ i) × (length distances ≡ length distances₀)
 
 abbrev μ-loop : tie.MeasureT-loop
-μ-loop index pages distances₀ list n differences₀ i₀ distances differences i = n - i
+μ-loop index pages distances₀ near tags n differences₀ i₀ distances differences i = n - i
 
 loop-holds : tie.Need-loop-holds Inv-loop μ-loop
 loop-holds c = search needs
 
-row-at-requires : tie.Need-row-at-requires Inv-loop μ-loop
-row-at-requires c κs = search needs
+mul-row-of : tie.Need-mul-row-of Inv-loop μ-loop
+mul-row-of c = search needs
+
+shared-slice-read-row-of : tie.Need-shared-slice-read-row-of Inv-loop μ-loop
+shared-slice-read-row-of c = search needs
+
+mul-row-of-2 : tie.Need-mul-row-of-2 Inv-loop μ-loop
+mul-row-of-2 c = search needs
+
+shared-slice-read-row-of-2 : tie.Need-shared-slice-read-row-of-2 Inv-loop μ-loop
+shared-slice-read-row-of-2 c = search needs
+
+row-of-requires : tie.Need-row-of-requires Inv-loop μ-loop
+row-of-requires c κs = search needs
 
 compare-row-requires : tie.Need-compare-row-requires Inv-loop μ-loop
 compare-row-requires c κs = search needs
@@ -45,7 +57,11 @@ compare-rows-spec =
     Inv-loop
     μ-loop
     loop-holds
-    row-at-requires
+    mul-row-of
+    shared-slice-read-row-of
+    mul-row-of-2
+    shared-slice-read-row-of-2
+    row-of-requires
     compare-row-requires
     add-differences
     add-i

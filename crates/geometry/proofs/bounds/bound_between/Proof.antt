@@ -1,80 +1,62 @@
--- `bounds::bound_between` meets its contract: after pyramid i the least so far is `boundTo` up to pyramid i.
-use lib.ListN.{length}
+-- `bounds::bound_between` meets its contract: the first pyramid, the whole ones between, and the last.
 use native.Mathlib.Omega.{arith}
 use borrow.Author.Needs.{needs}
 use mathlib.Core.Path.{_≡_, sym, ap, _∙_}
-use Prim.Native.Nat.{ℕ, min, _+_, _-_, _≤_}
-use Rattle.geometry.specs.Points.{square}
-use Rattle.geometry.specs.Slices.{lowestOf, highestOf, boundTo}
-use Rattle.geometry.specs.Stored.{pointOf}
-use Rattle.geometry.proofs.StoredLaws.{length-point}
-use Rattle.geometry.proofs.BoundLaws.{highest-le, turn-first, turn-next, turn-last}
+use Prim.Native.Nat.{ℕ, _+_}
+use lib.ListN.{length}
+use Rattle.geometry.specs.Questions.{sizeOf, askedOf}
+use Rattle.geometry.specs.Slices.{lowestOf}
+use Rattle.geometry.proofs.PackedLaws.{asked-length, asked-few}
 use Rattle.geometry.proofs.SpanLaws.{lowest-le-one}
+use Rattle.geometry.proofs.WholeLaws.{bound-one, bound-more}
 use Rattle.geometry.proofs.bounds.bound_between.Statement.{statement}
 use Rattle.geometry.proofs.bounds.bound_between.Tie as tie
 
-abbrev Inv-loop : tie.InvT-loop
-Inv-loop q nearest i1 h1 i2 h2 d best₀ i₀ best i = (i1 ≤ i) × (i - i1 ≤ i2 - i1) × (best ≡ boundTo square (pointOf q) i1 h1 (i - i1) (highestOf i i2 h2))
+least-in-requires : tie.Need-least-in-requires
+least-in-requires c κs = search needs
 
-abbrev μ-loop : tie.MeasureT-loop
-μ-loop q nearest i1 h1 i2 h2 d best₀ i₀ best i = i2 - i
+returns : tie.Need-returns
+returns c = let a = c .before .before .before .before .before .args in bound-one (askedOf (a .asked .now)) (a .i1) (a .h1) (a .i2) (a .h2) _ (c .before .if1 .taken) (c .least-in .ensures)
 
-highest-requires : tie.Need-highest-requires Inv-loop μ-loop
-highest-requires c κs = search needs
+least-in-requires-2 : tie.Need-least-in-requires-2
+least-in-requires-2 c κs = search needs
 
-least-in-requires : tie.Need-least-in-requires Inv-loop μ-loop
-least-in-requires c κs = let p = c .before .before .before .pre in let a = c .before .before .before .args in (p .0, p .1, p .3, p .4, p .5, omega (arith, c .highest .ensures, highest-le (a .i1) (a .i2) (a .h2) (p .6)))
+between-requires : tie.Need-between-requires
+between-requires c κs =
+    let p = c .before .before .before .before .before .pre in
+    (c .before .if1 .left, omega (arith, p .1 .last, p .0 .wholes, asked-few (c .before .before .before .before .before .args .asked .now) (p .0 .heights .rows .packed)), p .0 .wholes)
 
-loop-holds : tie.Need-loop-holds Inv-loop μ-loop
-loop-holds c = let a = c .before .before .before .before .args in (omega arith, omega arith, c .least-in .ensures ∙ turn-first (pointOf (a .q .now)) (a .i1) (a .h1) _ _ (c .before .highest .ensures))
+sub-lowest : tie.Need-sub-lowest
+sub-lowest c = search needs
 
-add-i : tie.Need-add-i Inv-loop μ-loop
-add-i c = search needs
-
-lowest-requires : tie.Need-lowest-requires Inv-loop μ-loop
+lowest-requires : tie.Need-lowest-requires
 lowest-requires c κs = search needs
 
-highest-requires-2 : tie.Need-highest-requires-2 Inv-loop μ-loop
-highest-requires-2 c κs = search needs
+least-in-requires-3 : tie.Need-least-in-requires-3
+least-in-requires-3 c κs =
+    let p = c .before .before .before .before .before .before .before .pre in let a = c .before .before .before .before .before .before .before .args in
+    (p .0, p .1 .last, omega (arith, c .lowest .ensures, lowest-le-one (sizeOf (a .asked .now)) (a .i2)), p .1 .high)
 
-least-in-requires-2 : tie.Need-least-in-requires-2 Inv-loop μ-loop
-least-in-requires-2 c κs =
-    let p = c .before .before .before .before .before .before .before .before .pre in let a = c .before .before .before .before .before .before .before .before .args in let i = c .before .before .before .loop .i in
-    (p .0, omega arith, p .3, p .4, omega (arith, c .before .lowest .ensures, lowest-le-one (length (a .q .now)) (i + 1)), omega (arith, c .highest2 .ensures, highest-le (i + 1) (a .i2) (a .h2) (p .6)))
-
-nearer-requires : tie.Need-nearer-requires Inv-loop μ-loop
+nearer-requires : tie.Need-nearer-requires
 nearer-requires c κs = search needs
 
-loop-less : tie.Need-loop-less Inv-loop μ-loop
-loop-less c = search needs
-
-loop-again : tie.Need-loop-again Inv-loop μ-loop
-loop-again c =
-    let a = c .before .before .before .before .before .before .before .before .before .before .args in let l = c .before .before .before .before .before .loop in let q = pointOf (a .q .now) in (
-      omega arith,
-      omega arith,
-      c .nearer .ensures
-          ∙ (ap (λ (v : ℕ). min (l .best) v) (c .before .least-in2 .ensures)
-          ∙ turn-next q (a .i1) (a .h1) (l .i) (a .i2) (a .h2) _ _ (l .best) (omega arith) (omega arith) (c .before .before .before .lowest .ensures ∙ ap (λ (d : ℕ). lowestOf d (l .i + 1)) (sym (length-point (a .q .now)))) (c .before .before .highest2 .ensures) (l .inv .2)),
-    )
-
-returns : tie.Need-returns Inv-loop μ-loop
-returns c = let a = c .before .before .before .before .before .before .args in let l = c .before .loop in l .inv .2 ∙ turn-last (pointOf (a .q .now)) (a .i1) (a .h1) (l .i) (a .i2) (a .h2) (omega arith) (omega arith) (omega arith)
+returns-2 : tie.Need-returns-2
+returns-2 c =
+    let a = c .before .before .before .before .before .before .before .before .before .args in let p = c .before .before .before .before .before .before .before .before .before .pre in let fs = askedOf (a .asked .now) in
+    let e = asked-length (a .asked .now) (p .0 .heights .rows .packed) in
+    let w : c .before .before .lowest .result ≡ lowestOf (length fs) (a .i2) = c .before .before .lowest .ensures ∙ ap (λ (d : ℕ). lowestOf d (a .i2)) (sym e) in
+    c .nearer .ensures ∙ bound-more fs (a .whole .now) (sizeOf (a .asked .now) + sizeOf (a .asked .now)) (a .i1) (a .h1) (a .i2) (a .h2) _ _ _ _ (p .0 .least) (c .before .before .before .before .before .if1 .left) (p .1 .last) w (c .before .before .before .before .least-in2 .ensures) (c .before .before .before .between .ensures) (c .before .least-in3 .ensures)
 
 pub bound-between-spec : {M : Type 1} → statement M
 bound-between-spec =
     tie.close
     (tie.spec
-    Inv-loop
-    μ-loop
-    highest-requires
     least-in-requires
-    loop-holds
-    add-i
-    lowest-requires
-    highest-requires-2
+    returns
     least-in-requires-2
+    between-requires
+    sub-lowest
+    lowest-requires
+    least-in-requires-3
     nearer-requires
-    loop-less
-    loop-again
-    returns)
+    returns-2)

@@ -48,20 +48,21 @@ use denote.Exit.{yes}
 use Rattle.candidates.specs.declared.Row.{Row}
 use Rattle.lending.specs.declared.Tally.{Tally}
 use Rattle.lending.specs.declared.Answer.{Answer}
-use Rattle.index.specs.declared.Asked.{Asked}
+use Rattle.index.specs.declared.Returned.{Returned}
 use Rattle.index.specs.Questions.{Questioned}
 use Rattle.index.proofs.LocalLoans.{arrayOf, lies, back, lies-array, back-array}
 use Rattle.candidates.proofs.Row as P
 use Rattle.candidates.proofs.Row.Laws as P′
 use Rattle.lending.proofs.Tally as Q
 use Rattle.lending.proofs.Tally.Laws as Q′
-use Rattle.search.specs.declared.Query.{Query}
-use Rattle.search.proofs.Query as U
-use Rattle.search.proofs.Query.Laws as U′
+use Rattle.index.specs.declared.Criteria.{Criteria}
+use Rattle.index.specs.Asking.{questionOf}
+use Rattle.index.proofs.Criteria as U
+use Rattle.index.proofs.Criteria.Laws as U′
 use Rattle.lending.proofs.Answer as N
 use Rattle.lending.proofs.Answer.Laws as N′
-use Rattle.index.proofs.Asked as D
-use Rattle.index.proofs.Asked.Laws as D′
+use Rattle.index.proofs.Returned as D
+use Rattle.index.proofs.Returned.Laws as D′
 use Rattle.index.proofs.asking.question as question
 use Rattle.index.proofs.asking.question.Symbol as question-def
 use Rattle.index.proofs.asking.question.Symbol.{name as #index·question}
@@ -84,7 +85,7 @@ B = Array R 64
 abbrev stayed : Stays (ask.ended .signature .params) (ask.ended .kept)
 stayed = (stay-none-slice (0 ∷ []) tt (plain (λ _. u8)) yes, (stay-none-slice (1 ∷ []) tt (plain (λ _. i16)) yes, (stay-none (λ _. U.the-row) yes, (stay-none (λ _. B) yes, (stay-none (λ _. Y) yes, tt)))))
 
-abbrev kv : Query → Val
+abbrev kv : Criteria → Val
 kv k = LL.val U.the-type U′.the-laws k
 
 -- the types of the locals
@@ -108,7 +109,7 @@ tallyT′ = tyRef erased mut (pointee (Y .written))
 
 -- the machine values of rows, of a tally and of an answer
 abbrev av : List Row → Val
-av zs = arrayOf P.the-type P′.the-laws P′.the-plain zs
+av zs = arrayOf R (LL.vals P.the-type P′.the-laws) zs
 
 abbrev yv : Tally → Val
 yv t = LL.val Q.the-type Q′.the-laws t
@@ -116,7 +117,7 @@ yv t = LL.val Q.the-type Q′.the-laws t
 abbrev nv : Answer → Val
 nv n = LL.val N.the-type N′.the-laws n
 
-abbrev dv : Asked → Val
+abbrev dv : Returned → Val
 dv d = LL.val D.the-type D′.the-laws d
 
 -- an array of a struct as a parameter, and as a field: the field's value is the list of the structs' tuples
@@ -130,7 +131,7 @@ same-vals : (zs : List Row) → map (P′.the-field-laws .val) (map (P.the-type 
 same-vals zs = map-map (P′.the-field-laws .val) (P.the-type .to) zs
 
 module _ (n : Answer) (zs : List Row) (t : Tally) (pn : Is N.the-row n (nv n ∷ [])) (pz : Is B zs (av zs ∷ [])) (pt : Is Y t (yv t ∷ [])) where
-  abbrev d : Asked
+  abbrev d : Returned
   d = record { answer = n; rows = zs; tally = t }
 
   -- the value that the aggregate makes is the struct's
@@ -145,7 +146,7 @@ module _ {M : Type 1} (𝓤 : URA M) (H : Heap 𝓤) (A : Atoms 𝓤) (at-mem : 
   abbrev Callee : Contract 𝓤
   Callee = tripleOf 𝓤 H A question.signature (question.spec 𝓤 H A at-mem run)
 
-module _ {M : Type 1} (𝓤 : URA M) (H : Heap 𝓤) (A : Atoms 𝓤) (W : Given 𝓤 H A) (at-mem : Memory → SProp 𝓤) (run : Routine → Fun 𝓤) (κ₀ κ₁ : Lft) (q₀ q₁ : Share) (xi : RefT (List ℕ)) (xa : RefT (List (i16 .Denot))) (k : Query) (xs : List Row) (h : Tally) where
+module _ {M : Type 1} (𝓤 : URA M) (H : Heap 𝓤) (A : Atoms 𝓤) (W : Given 𝓤 H A) (at-mem : Memory → SProp 𝓤) (run : Routine → Fun 𝓤) (κ₀ κ₁ : Lft) (q₀ q₁ : Share) (xi : RefT (List ℕ)) (xa : RefT (List (i16 .Denot))) (k : Criteria) (xs : List Row) (h : Tally) where
   abbrev si : Val
   si = sliceVal (xi .ptr) (length (xi .now))
 
@@ -159,7 +160,7 @@ module _ {M : Type 1} (𝓤 : URA M) (H : Heap 𝓤) (A : Atoms 𝓤) (W : Given
     abbrev qs : Share × (Share × Unit {0})
     qs = (q₀, (q₁, tt))
 
-    abbrev a : RefT (List ℕ) × (RefT (List (i16 .Denot)) × (Query × (List Row × (Tally × Unit {0}))))
+    abbrev a : RefT (List ℕ) × (RefT (List (i16 .Denot)) × (Criteria × (List Row × (Tally × Unit {0}))))
     a = (xi, (xa, (k, (xs, (h, tt)))))
 
     abbrev vals : List Val × (List Val × (List Val × (List Val × (List Val × Unit {0}))))
@@ -179,7 +180,7 @@ module _ {M : Type 1} (𝓤 : URA M) (H : Heap 𝓤) (A : Atoms 𝓤) (W : Given
 
     -- what `question` says of its answer, the rows and the tally
     abbrev Said : Answer → List Row → Tally → Type 0
-    Said n zs t = Questioned (xi .now) (xa .now) (k .k) xs h n zs t
+    Said n zs t = Questioned (xi .now) (questionOf (xa .now) k) xs h n zs t
 
     many : length xs ≡ 64
     many = px .1 .0 .1
@@ -201,7 +202,7 @@ module _ {M : Type 1} (𝓤 : URA M) (H : Heap 𝓤) (A : Atoms 𝓤) (W : Given
       abbrev lfts : Lft × (Lft × (Lft × (Lft × Unit {0})))
       lfts = (κ₀, (κ₁, (ν ∷ [], (μ ∷ [], tt))))
 
-      abbrev args : RefT (List ℕ) × (RefT (List (i16 .Denot)) × (Query × (RefT (List Row) × (RefT Tally × Unit {0}))))
+      abbrev args : RefT (List ℕ) × (RefT (List (i16 .Denot)) × (Criteria × (RefT (List Row) × (RefT Tally × Unit {0}))))
       args = (xi, (xa, (k, (xr, (xt, tt)))))
 
       abbrev to : Callee 𝓤 H A at-mem run .Ghost
@@ -293,7 +294,7 @@ module _ {M : Type 1} (𝓤 : URA M) (H : Heap 𝓤) (A : Atoms 𝓤) (W : Given
             rewrite ! 6 (λ (m : ℕ). ‵ (fat fullShare rowsT′ l₁₀ 0 (sliceVal (l₆, 0) m))) (sym many) refl $
             assigns ! (addr ! (from ! (stop !))) (from ! (stop !)) (init ! 4 refl (tt, tt)) $
             -- the loans
-            lft-new ! tt (λ ν. lft-new ! tt (λ μ. move ! (16 ∷ []) $ use1 W (‵ (cells (mem R) xs l₆ 0)) (lies-array P.the-type P′.the-laws P′.the-plain 𝓤 H A W l₆ 64 xs px) $
+            lft-new ! tt (λ ν. lft-new ! tt (λ μ. move ! (16 ∷ []) $ use1 W (‵ (cells (mem R) xs l₆ 0)) (lies-array R (LL.vals P.the-type P′.the-laws) tt (LL.tells P.the-type P′.the-laws) 𝓤 H A W (LL.makes P.the-type P′.the-plain 𝓤 H A) l₆ 64 xs px) $
             use1 W (later (some (λ (γ : GName). ‵ (LentRows l₆ l₇ ν μ γ γ) ⊛ ‵ (flent (ν ∷ []) (Held R (length xs) l₆ 0 γ))))) (lends-slice 𝓤 H A W R (named 2) (ν ∷ []) xs l₆ 0 roomy) $ await ! tt $ pick ! (λ γ. split ! $
             move ! (16 ∷ []) $ use1 W (‵ (mem Y .lies h l₇ 0)) (lies Q.the-type Q′.the-laws Q′.the-plain 𝓤 H A W l₇ h ph) $
             use1 W (later (some (λ (δ : GName). ‵ (LentTally l₆ l₇ ν μ γ δ) ⊛ ‵ (flent (μ ∷ []) (Body (mem Y) l₇ 0 δ))))) (lends-ref 𝓤 H A W Y (named 3) (μ ∷ []) h l₇ 0) $ await ! tt $ pick ! (λ δ. split ! $
@@ -313,7 +314,7 @@ module _ {M : Type 1} (𝓤 : URA M) (H : Heap 𝓤) (A : Atoms 𝓤) (W : Given
             -- [the tally lies; true; tν; t₁; t₀; the answer; true; the rows'; the shared slices; the rows' lender's part; _13; …]
             move ! (2 ∷ []) $ lft-end ! tt $ move ! (0 ∷ 9 ∷ 7 ∷ []) $ use3 W (later (‵ (Arr (mem R) (length xs) .lies (ws .1 .1 .1 .0) l₆ 0))) (slice-back 𝓤 H A W R (ν ∷ []) γ (ws .1 .1 .1 .0) (length xs) l₆ 0) $ await ! tt $
             rewrite ! 0 (λ (m : ℕ). ‵ (Arr (mem R) m .lies (ws .1 .1 .1 .0) l₆ 0)) many refl $
-            use1 W (given (Is B (ws .1 .1 .1 .0) (av (ws .1 .1 .1 .0) ∷ [])) (‵ (fat fullShare arrayT l₆ 0 (av (ws .1 .1 .1 .0))))) (back-array P.the-type P′.the-laws P′.the-plain 𝓤 H A W l₆ 64 (ws .1 .1 .1 .0)) $ learn ! (λ pz. move ! (1 ∷ []) $
+            use1 W (given (Is B (ws .1 .1 .1 .0) (av (ws .1 .1 .1 .0) ∷ [])) (‵ (fat fullShare arrayT l₆ 0 (av (ws .1 .1 .1 .0))))) (back-array R (LL.vals P.the-type P′.the-laws) tt (LL.tells P.the-type P′.the-laws) 𝓤 H A W (LL.makes P.the-type P′.the-plain 𝓤 H A) l₆ 64 (ws .1 .1 .1 .0)) $ learn ! (λ pz. move ! (1 ∷ []) $
             use1 W (given (Is Y (ws .1 .1 .1 .1 .0) (yv (ws .1 .1 .1 .1 .0) ∷ [])) (‵ (fat fullShare Q′.mir l₇ 0 (yv (ws .1 .1 .1 .1 .0))))) (back Q.the-type Q′.the-laws Q′.the-plain 𝓤 H A W l₇ (ws .1 .1 .1 .1 .0)) $ learn ! (λ pt.
             -- [_7; _6; true; t₁; t₀; the answer; true; the shared slices; _13; …]
             move ! (5 ∷ []) $ peeks ! N.the-row (Is N.the-row) (shows 𝓤 H A N.the-row) n (w ∷ []) (λ is. drop ! $

@@ -5,6 +5,7 @@ use mathlib.Core.Path.{refl}
 use mathlib.Core.Logic.{inl, inr}
 use Prim.Native.Nat.{_≤_}
 use native.Mathlib.Omega.{arith}
+use Rattle.index.specs.Asking.{questionOf}
 use Rattle.index.proofs.RuleLaws.{question-point, question-further}
 use Rattle.index.proofs.refusing.refuse_question.Statement.{statement}
 use Rattle.index.proofs.refusing.refuse_question.Tie as tie
@@ -14,29 +15,27 @@ refuse-point-requires c κs = search needs
 
 returns : tie.Need-returns
 returns c =
-    let a = c .before .before .before .args in question-point (now (a .index)) (now (a .point)) _ (c .before .refuse-point .ensures) (a .k) (a .lent) (c .if1 .taken)
+    let a = c .before .before .before .args in question-point (now (a .index)) (questionOf (now (a .point)) (a .what)) (a .lent) _ (c .before .refuse-point .ensures) (c .if1 .taken)
 
 returns-2 : tie.Need-returns-2
 returns-2 c =
-    let a = c .before .before .before .before .args in
-    question-further (now (a .index)) (now (a .point)) _ (c .before .before .refuse-point .ensures) (a .k) (a .lent) (c .before .if1 .left) 10 (inl (refl, λ w. let l : 1 ≤ a .k = w .0 in omega arith))
+    let a = c .before .before .before .before .before .args in
+    question-further (now (a .index)) (questionOf (now (a .point)) (a .what)) (a .lent) _ (c .before .before .before .refuse-point .ensures) (c .before .before .if1 .left) 10 (inl (refl, λ h. let l : 1 ≤ a .what .k = h .0 in omega arith))
 
 returns-3 : tie.Need-returns-3
 returns-3 c =
-    let a = c .before .before .before .before .before .args in
-    question-further (now (a .index)) (now (a .point)) _ (c .before .before .before .refuse-point .ensures) (a .k) (a .lent) (c .before .before .if1 .left) 10 (inl (refl, λ w. let l : a .k ≤ 64 = w .1 in omega arith))
+    let a = c .before .before .before .before .before .before .before .args in
+    question-further (now (a .index)) (questionOf (now (a .point)) (a .what)) (a .lent) _ (c .before .before .before .before .before .refuse-point .ensures) (c .before .before .before .before .if1 .left) 10 (inl (refl, λ h. let l : a .what .k ≤ 64 = h .1 in omega arith))
 
 returns-4 : tie.Need-returns-4
 returns-4 c =
-    let a = c .before .before .before .before .before .before .args in
-    question-further (now (a .index)) (now (a .point)) _ (c .before .before .before .before .refuse-point .ensures) (a .k) (a .lent) (c .before .before .before .if1 .left) 11
-    (inr ((omega arith, omega arith), inl (refl, λ (l : a .k ≤ a .lent). omega arith)))
+    let a = c .before .before .before .before .before .before .before .before .before .args in
+    question-further (now (a .index)) (questionOf (now (a .point)) (a .what)) (a .lent) _ (c .before .before .before .before .before .before .before .refuse-point .ensures) (c .before .before .before .before .before .before .if1 .left) 11 (inr ((omega arith, omega arith), inl (refl, λ (l : a .what .k ≤ a .lent). omega arith)))
 
 returns-5 : tie.Need-returns-5
 returns-5 c =
-    let a = c .before .before .before .before .before .before .args in
-    question-further (now (a .index)) (now (a .point)) _ (c .before .before .before .before .refuse-point .ensures) (a .k) (a .lent) (c .before .before .before .if1 .left) 0
-    (inr ((omega arith, omega arith), inr (omega arith, refl)))
+    let a = c .before .before .before .before .before .before .before .before .before .args in
+    question-further (now (a .index)) (questionOf (now (a .point)) (a .what)) (a .lent) _ (c .before .before .before .before .before .before .before .refuse-point .ensures) (c .before .before .before .before .before .before .if1 .left) 0 (inr ((omega arith, omega arith), inr (omega arith, refl)))
 
 pub refuse-question-spec : {M : Type 1} → statement M
 refuse-question-spec =

@@ -1,6 +1,8 @@
 -- `index::trusted::question_outcome` meets its contract: what its callees find, put together. Assumes nothing.
+use native.Mathlib.Omega.{arith}
 use denote.Ref.{now}
 use borrow.Author.Needs.{needs}
+use Rattle.index.specs.Asking.{questionOf}
 use Rattle.index.specs.Answers.{AnswersIfSound}
 use Rattle.index.specs.Trusted.{trustedQuestion}
 use Rattle.index.proofs.RuleLaws.{may-search, trusted-answers}
@@ -16,19 +18,34 @@ refused-requires c κs = search needs
 
 returns : tie.Need-returns
 returns c =
-    let a = c .before .before .before .before .args in let b = now (a .index) in let p = now (a .point) in
-    asked-refused (trustedQuestion b p (a .what .k) (a .lent)) (AnswersIfSound b p (a .what .k)) b p (a .what .k) _ _ (c .before .before .refuse-question .ensures) (c .before .if1 .taken) (c .refused .ensures)
+    let a = c .before .before .before .before .before .before .args in let b = now (a .index) in let w = questionOf (now (a .point)) (a .what) in
+    asked-refused (trustedQuestion b w (a .lent)) (AnswersIfSound b w) b w _ _ _ _ (c .before .before .refuse-question .ensures) (c .before .if1 .taken) (c .refused .ensures)
 
 answered-requires : tie.Need-answered-requires
 answered-requires c κs =
-    let a = c .before .before .before .args in may-search (now (a .index)) (now (a .point)) (a .what .k) (a .lent) _ (c .before .refuse-question .ensures) (c .if1 .left)
+    let S = (c .before .before .before .before .before .before .before) in let a = S .args in
+    (may-search (now (a .index)) (questionOf (now (a .point)) (a .what)) (a .lent) _ (c .before .before .before .refuse-question .ensures) (c .before .before .if1 .left), S .pre)
+
+same-length : tie.Need-same-length
+same-length c = search needs
+
+same-length-2 : tie.Need-same-length-2
+same-length-2 c = search needs
 
 returns-2 : tie.Need-returns-2
 returns-2 c =
-    let a = c .before .before .before .before .args in let b = now (a .index) in let p = now (a .point) in let first = c .before .before .refuse-question .ensures in
-    asked-answered (trustedQuestion b p (a .what .k) (a .lent)) (AnswersIfSound b p (a .what .k)) b p (a .what .k) _ _ first (c .before .if1 .left) (may-search b p (a .what .k) (a .lent) _ first (c .before .if1 .left) .4) (trusted-answers b p (a .what .k) (a .lent) _ first (c .before .if1 .left)) (c .answered .ensures)
+    let S = (c .before .before .before .before .before .before .before .before .before .before .before .before) in let a = S .args in let b = now (a .index) in let w = questionOf (now (a .point)) (a .what) in let first = c .before .before .before .before .before .before .before .before .refuse-question .ensures in
+    let A = c .before .before .before .before .answered in let left = c .before .before .before .before .before .before .before .if1 .left in
+    asked-answered (trustedQuestion b w (a .lent)) (AnswersIfSound b w) b w _ _ _ _ first left (search needs, search needs) (may-search b w (a .lent) _ first left .few) (trusted-answers b w (a .lent) _ first left) (A .ensures)
 
 pub question-outcome-spec : {M : Type 1} → statement M
 question-outcome-spec =
     tie.close
-    (tie.spec refuse-question-requires refused-requires returns answered-requires returns-2)
+    (tie.spec
+    refuse-question-requires
+    refused-requires
+    returns
+    answered-requires
+    same-length
+    same-length-2
+    returns-2)

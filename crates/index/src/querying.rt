@@ -1,0 +1,34 @@
+// What is asked, as the search takes it.
+ghost use Prim.Native.Nat.{_≤_};
+ghost use lib.ListN.{length, replicate};
+ghost use Rattle.geometry.specs.Questions.{LaidOut};
+ghost use Rattle.index.specs.Asking.{questionOf, Searchable, QueryFor};
+use crate::Criteria;
+use geometry::bounds::ask;
+use geometry::points::slots_of;
+use search::Query;
+
+// The features of a point whose coordinates are as stored: each of weight 1.
+fn plain_features(q: &[u16]) -> [u16; 64]
+    requires { ⌜ length (now q) ≤ 16 ⌝ }
+    ensures { λ r. ⌜ LaidOut (now (q .entry)) (now (q .entry)) (replicate (length (now (q .entry))) 1) r ⌝ }
+{
+    let ones = [1u16; 16];
+    let n = q.len();
+    ask(q, q, &ones[..n])
+}
+
+// The query for a point and what else is asked.
+pub fn query_of(point: &[i16], what: Criteria) -> Query
+    requires { ⌜ Searchable (questionOf (now point) what) ⌝ }
+    ensures { λ r. ⌜ QueryFor (questionOf (now (point .entry)) what) r ⌝ }
+{
+    let n = point.len();
+    let slots = slots_of(point);
+    let features = plain_features(&slots[..n]);
+    Query {
+        features: features,
+        d: n,
+        k: what.k,
+    }
+}
