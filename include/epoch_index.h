@@ -2,7 +2,7 @@
  * The epoch index: an exact nearest-neighbour index over bytes that the caller lends.
  *
  * A point is 1 to 16 whole numbers from -1,000 to 1,000 with an identifier. An index is whole pages of 1,024 bytes, and all of it lies in
- * those bytes: they may be stored, sent and mapped as they are. Link target/staticlib/libcapi.a (x86-64 Linux), which `rt staticlib capi`
+ * those bytes: they may be stored, sent and mapped as they are. Link target/staticlib/libepoch_index.a (x86-64 Linux), which `rt staticlib epoch_index`
  * writes once every function in it is proved to meet its contract.
  *
  * What holds of every function here:

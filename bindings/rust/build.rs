@@ -1,4 +1,4 @@
-//! Links libcapi.a, which `rt staticlib capi` writes. It is looked for in the folder that EPOCH_INDEX_LIB_DIR names, and without that
+//! Links libepoch_index.a, which `rt staticlib epoch_index` writes. It is looked for in the folder that EPOCH_INDEX_LIB_DIR names, and without that
 //! variable in target/staticlib of the repository that this crate stands in.
 use std::env;
 use std::path::{Path, PathBuf};
@@ -10,11 +10,11 @@ fn main() {
         Some(named) => PathBuf::from(named),
         None => Path::new(&manifest).join("../../target/staticlib"),
     };
-    let archive = folder.join("libcapi.a");
+    let archive = folder.join("libepoch_index.a");
     if !archive.is_file() {
-        panic!("there is no {}: run `rt staticlib capi`, or set EPOCH_INDEX_LIB_DIR to the folder that has libcapi.a", archive.display());
+        panic!("there is no {}: run `rt staticlib epoch_index`, or set EPOCH_INDEX_LIB_DIR to the folder that has libepoch_index.a", archive.display());
     }
     println!("cargo:rerun-if-changed={}", archive.display());
     println!("cargo:rustc-link-search=native={}", folder.display());
-    println!("cargo:rustc-link-lib=static=capi");
+    println!("cargo:rustc-link-lib=static=epoch_index");
 }

@@ -1,7 +1,7 @@
 //! The epoch index: an exact nearest-neighbour index over lent bytes.
 //!
 //! A point is 1 to 16 whole numbers from -1,000 to 1,000 with an identifier. An index is whole pages of 1,024 bytes, 2 to 16,384 of them,
-//! and lies in its bytes entirely: they may be stored and read back as they are. The work is done by libcapi.a, each function of which is
+//! and lies in its bytes entirely: they may be stored and read back as they are. The work is done by libepoch_index.a, each function of which is
 //! proved to meet its contract; this crate is a thin safe layer over it.
 //!
 //! - [`Index`]: five acts, each of which checks the whole index first and so is right about any bytes.

@@ -1,4 +1,4 @@
-//! The functions of libcapi.a, as the headers in include/ declare them.
+//! The functions of libepoch_index.a, as the headers in include/ declare them.
 use crate::{Row, Tally};
 
 /// What a question returns.

@@ -7,10 +7,10 @@ use native.Mathlib.Omega.{arith}
 use lib.IntN.{ℤ}
 use lib.ListN.{length, length-take}
 use borrow.Author.Tests.{eq-eqb, ne-eqb}
-use Rattle.candidates.specs.declared.Row.{Row}
-use Rattle.candidates.specs.Held.{rowsOf, rowsIn}
+use Rattle.search_rows.specs.declared.Row.{Row}
+use Rattle.search_rows.specs.Held.{rowsOf, rowsIn}
 use Rattle.search.specs.Visit.{Answer as Found}
-use Rattle.lending.specs.declared.Answer.{Answer}
+use Rattle.index_answer.specs.declared.Answer.{Answer}
 use Rattle.index.specs.Refusals.{First, insertRules, deleteRules}
 use Rattle.index.specs.Outcomes.{insertedWith, deletedWith, foundWith, nothingFound}
 use Rattle.index.specs.Asking.{Question}

@@ -12,7 +12,7 @@ use borrow.Author.Tests.{eq-eqb, eqb-true}
 use Rattle.lists.specs.Tests.{cases, decide, false-true}
 use Rattle.pagestore.specs.Store.{newIndex}
 use Rattle.index.specs.Acts.{Done, heldBy}
-use Rattle.promises.specs.Series.{Stands}
+use Rattle.index_laws.specs.Series.{Stands}
 use Rattle.acts_text.specs.Input.{linesOf, kept, ended, current, lastLine}
 use Rattle.acts_text.proofs.InputLaws.{lines-kept}
 use Rattle.acts_text.proofs.NameLaws.{names-kept}

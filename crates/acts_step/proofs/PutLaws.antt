@@ -6,10 +6,10 @@ use native.Mathlib.Numerals.{add-one}
 use native.Mathlib.Omega.{arith}
 use lib.ListN.{length, getD}
 use lib.Seq.{sets-eq, take-suc}
-use Rattle.candidates.specs.declared.Row.{Row}
-use Rattle.candidates.specs.Rows.{rowOf}
-use Rattle.candidates.specs.Held.{rowsOf, rowsIn}
-use Rattle.candidates.proofs.HeldLaws.{length-rowsOf, rowsOf-at}
+use Rattle.search_rows.specs.declared.Row.{Row}
+use Rattle.search_rows.specs.Rows.{rowOf}
+use Rattle.search_rows.specs.Held.{rowsOf, rowsIn}
+use Rattle.search_rows.proofs.HeldLaws.{length-rowsOf, rowsOf-at}
 use Rattle.acts_text.specs.Bytes.{Written, Stored}
 use Rattle.acts_text.specs.Output.{resultLine}
 use Rattle.acts_text.proofs.StoreLaws.{then, written}

@@ -7,7 +7,7 @@ use Prim.Native.Nat.{ℕ, _+_, _≤_}
 use native.Mathlib.Omega.{arith}
 use lib.ListN.{length}
 use Rattle.pagestore.specs.Store.{newIndex}
-use Rattle.trees.specs.Sound.{Permitted}
+use Rattle.tree_model.specs.Sound.{Permitted}
 use Rattle.index.specs.Refusals.{First, makeRules}
 use Rattle.index.specs.RefusalLaws.{first-one, none-fails}
 use Rattle.index.specs.Outcomes.{madeWith}

@@ -7,13 +7,13 @@ use native.Mathlib.Omega.{arith}
 use lib.ListN.{length}
 use Rattle.pagestore.specs.Store.{newIndex}
 use Rattle.search.specs.Visit.{Answer as Found}
-use Rattle.trees.specs.Sound.{Permitted}
+use Rattle.tree_model.specs.Sound.{Permitted}
 use Rattle.index.specs.Asking.{Question}
 use Rattle.index.specs.Acts.{Act, question, Done, Series, end, next, heldBy}
 use Rattle.index.specs.Acts as acts
-use Rattle.promises.specs.Series.{Stands, series}
+use Rattle.index_laws.specs.Series.{Stands, series}
 use Rattle.index.specs.Answers.{Answers}
-use Rattle.promises.specs.Answers.{question-answers}
+use Rattle.index_laws.specs.Answers.{question-answers}
 use Rattle.acts_text.specs.declared.ActLine.{ActLine}
 use Rattle.acts_text.specs.Input.{kept}
 use Rattle.acts_text.proofs.LineLaws.{act-kept}

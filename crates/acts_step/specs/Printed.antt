@@ -1,7 +1,7 @@
 -- What the acts program prints for an act (01, "The acts program").
 use mathlib.Core.List.{List, [], _∷_, _++_}
 use Prim.Native.Nat.{ℕ}
-use Rattle.candidates.specs.declared.Row.{Row}
+use Rattle.search_rows.specs.declared.Row.{Row}
 use Rattle.search.specs.Visit.{Answer as Found}
 use Rattle.index.specs.Acts.{Act, insert, delete, question, check}
 use Rattle.acts_text.specs.Output.{resultLine}

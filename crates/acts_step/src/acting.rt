@@ -5,12 +5,12 @@ ghost use Prim.Native.Nat.{_+_, _≤_};
 ghost use lib.ListN.{length};
 ghost use Rattle.index.specs.Asking.{questionOf};
 ghost use Rattle.index.specs.Acts.{insert, delete};
-ghost use Rattle.candidates.specs.Held.{rowsIn};
+ghost use Rattle.search_rows.specs.Held.{rowsIn};
 ghost use Rattle.acts_step.specs.Printed.{rowLines};
 ghost use Rattle.acts_step.specs.Steps.{rowsLent, mostPrinted, askedBy, Acted, Asks, Puts};
 use acts_text::ActLine;
 use acts_text::output::put_result;
-use candidates::row_of;
+use search_rows::row_of;
 use index::Criteria;
 
 // The rows lent to a question.

@@ -5,14 +5,14 @@ use mathlib.Core.List.{List}
 use Prim.Native.Nat.{ℕ, zero, suc, _≤_}
 use native.Mathlib.Omega.{arith}
 use lib.ListN.{length}
-use Rattle.candidates.specs.Held.{rowsIn}
-use Rattle.lending.specs.FillingLaws.{rows-held}
+use Rattle.search_rows.specs.Held.{rowsIn}
+use Rattle.index_answer.specs.FillingLaws.{rows-held}
 use Rattle.search.specs.declared.Query.{Query}
 use Rattle.search.specs.declared.Seen.{Seen}
 use Rattle.search.specs.Asked.{Asked, asks}
 use Rattle.search.specs.Visit.{Answer as Found, found}
 use Rattle.search.specs.Steps.{Searches, Searched}
-use Rattle.lending.specs.declared.Answer.{Answer}
+use Rattle.index_answer.specs.declared.Answer.{Answer}
 use Rattle.index.specs.Asking.{Question, Searchable, QueryFor, sought}
 use Rattle.index.specs.Refusals.{Rule, First}
 use Rattle.index.specs.Outcomes.{foundWith, nothingFound}

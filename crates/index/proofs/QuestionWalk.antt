@@ -46,25 +46,25 @@ use denote.Triple.Call.{calls-at}
 use denote.Triple.Clauses.{Clauses, ensured, lasts, closing}
 use denote.Triple.Walked.{says, Stays, stay-none, stay-none-slice, gave-slice, gave-ref, walkOf, goes-none, goes-none-slice, goes-gave-slice, goes-gave-ref, Walks, ends-at, walked, walk-meets}
 use denote.Exit.{yes}
-use Rattle.candidates.specs.declared.Row.{Row}
-use Rattle.lending.specs.declared.Tally.{Tally}
-use Rattle.lending.specs.declared.Answer.{Answer}
-use Rattle.lending.specs.Delivered.{Delivered}
+use Rattle.search_rows.specs.declared.Row.{Row}
+use Rattle.index_answer.specs.declared.Tally.{Tally}
+use Rattle.index_answer.specs.declared.Answer.{Answer}
+use Rattle.index_answer.specs.Delivered.{Delivered}
 use Rattle.index.specs.declared.Criteria.{Criteria}
 use Rattle.index.specs.Asking.{Question, questionOf}
 use Rattle.index.specs.Questions.{Places}
 use Rattle.index.proofs.LocalLoans.{arrayOf, lies-array, array-parts, whole-array, zeros-are}
-use Rattle.candidates.proofs.Row as Row′
-use Rattle.candidates.proofs.Row.Laws as Row″
-use Rattle.lending.proofs.Tally as Tally′
-use Rattle.lending.proofs.Tally.Laws as Tally″
-use Rattle.lending.proofs.Answer as N
-use Rattle.lending.proofs.Answer.Laws as N′
+use Rattle.search_rows.proofs.Row as Row′
+use Rattle.search_rows.proofs.Row.Laws as Row″
+use Rattle.index_answer.proofs.Tally as Tally′
+use Rattle.index_answer.proofs.Tally.Laws as Tally″
+use Rattle.index_answer.proofs.Answer as N
+use Rattle.index_answer.proofs.Answer.Laws as N′
 use Rattle.index.proofs.Criteria as U
 use Rattle.index.proofs.Criteria.Laws as U′
 use Rattle.index.proofs.asking.question_outcome as core
-use Rattle.lending.proofs.deliver as deliver
-use Rattle.lending.proofs.deliver.Symbol.{name as #lending·deliver}
+use Rattle.index_answer.proofs.deliver as deliver
+use Rattle.index_answer.proofs.deliver.Symbol.{name as #index-answer·deliver}
 use Rattle.index.proofs.asking.question as question
 
 abbrev R : RattleType
@@ -141,7 +141,7 @@ module _ (name : Name) where
       (seq (assign (place 18 []) (aggregate (copy (place 17 []) ∷ int w64 64 ∷ [])))
       (seq (assign (place 19 []) (addrOf (place 7 [])))
       (seq (assign (place 20 []) (aggregate (copy (place 19 []) ∷ int w64 64 ∷ [])))
-      (seq (call #lending·deliver (copy (place 15 []) ∷ copy (place 16 []) ∷ copy (place 8 []) ∷ copy (place 18 []) ∷ copy (place 20 []) ∷ []) (place 0 [])) t-17)))))))
+      (seq (call #index-answer·deliver (copy (place 15 []) ∷ copy (place 16 []) ∷ copy (place 8 []) ∷ copy (place 18 []) ∷ copy (place 20 []) ∷ []) (place 0 [])) t-17)))))))
 
   abbrev t-3 : Body
   t-3 =
@@ -376,7 +376,7 @@ module _ (name : Name) (Asks : List ℕ → Question → ℕ → List ℕ → Li
       typed-array : (zs : List ℕ) (v : Val) → Is B zs (v ∷ []) → Holds (hasTy arrayT v) × WT v
       typed-array zs v p = array-lawful 𝓤 H A W u64 (uint-lawful 𝓤 H A W w64) 64 .typed zs _ p .0
 
-      module _ (C : Calls 𝓤 H) (Λ : Loops 𝓤 H) (fm : FmC 𝓤 H (W .laws) C) (known-core : Triple 𝓤 (C name) (Core 𝓤 H A at-mem run)) (known-hand : Triple 𝓤 (C #lending·deliver) (Hand 𝓤 H A at-mem run)) where
+      module _ (C : Calls 𝓤 H) (Λ : Loops 𝓤 H) (fm : FmC 𝓤 H (W .laws) C) (known-core : Triple 𝓤 (C name) (Core 𝓤 H A at-mem run)) (known-hand : Triple 𝓤 (C #index-answer·deliver) (Hand 𝓤 H A at-mem run)) where
         module _ (l₀ l₁ l₂ l₃ l₄ l₅ l₆ l₇ l₈ l₉ l₁₀ l₁₁ l₁₂ l₁₃ l₁₄ l₁₅ l₁₆ l₁₇ l₁₈ l₁₉ l₂₀ : ℕ) where
           abbrev En : Env 𝓤 H
           En = (N′.mir, l₀) ∷ (bytesT, l₁) ∷ (pointT, l₂) ∷ (U′.mir, l₃) ∷ (rowsT, l₄) ∷ (tallyT, l₅) ∷ (arrayT, l₆) ∷ (arrayT, l₇) ∷ (N′.mir, l₈) ∷ (tyInt w64, l₉) ∷ (lentT, l₁₀) ∷ (lentsT, l₁₁) ∷ (lentT, l₁₂) ∷ (lentsT, l₁₃)
@@ -550,7 +550,7 @@ module _ (name : Name) (Asks : List ℕ → Question → ℕ → List ℕ → Li
             passes l₀ l₁ l₂ l₃ l₄ l₅ l₆ l₇ l₈ l₉ l₁₀ l₁₁ l₁₂ l₁₃ l₁₄ l₁₅ l₁₆ l₁₇ l₁₈ l₁₉ l₂₀)))))))))))))))))))))
 
   module _ {M : Type 1} (𝓤 : URA M) (H : Heap 𝓤) (A : Atoms 𝓤) (W : Given 𝓤 H A) (at-mem : Memory → SProp 𝓤) (run : Routine → Fun 𝓤) where
-    question-walks : (C : Calls 𝓤 H) (Λ : Loops 𝓤 H) → FmC 𝓤 H (W .laws) C → Triple 𝓤 (C name) (Core 𝓤 H A at-mem run) → Triple 𝓤 (C #lending·deliver) (Hand 𝓤 H A at-mem run)
+    question-walks : (C : Calls 𝓤 H) (Λ : Loops 𝓤 H) → FmC 𝓤 H (W .laws) C → Triple 𝓤 (C name) (Core 𝓤 H A at-mem run) → Triple 𝓤 (C #index-answer·deliver) (Hand 𝓤 H A at-mem run)
         → Walks 𝓤 H A question.ended stayed (WpFn 𝓤 H C Λ (function name)) (clauses 𝓤)
     question-walks C Λ fm kc kh = walked 𝓤 H A question.ended stayed (clauses 𝓤) (WpFn 𝓤 H C Λ (function name)) (λ κs. (slice-vals, (slice-vals, (LL.vals U.the-type U′.the-laws, (slice-vals, (ptr-vals, tt))))))
         (λ κs. (shr-slice-tells (named 0) (κs .0) u8, (shr-slice-tells (named 1) (κs .1 .0) i16, (LL.tells U.the-type U′.the-laws, (mut-slice-tells (named 2) (κs .1 .1 .0) R, (mut-tells (named 3) (κs .1 .1 .1 .0) Y, tt))))))
@@ -559,7 +559,7 @@ module _ (name : Name) (Asks : List ℕ → Question → ℕ → List ℕ → Li
         (are .0) (are .1 .0) (are .1 .1 .0) (are .1 .1 .1 .0 .0 .1) C Λ fm kc kh))
 
   pub question-meets : {M : Type 1} (𝓤 : URA M) (H : Heap 𝓤) (A : Atoms 𝓤) → Given 𝓤 H A → (at-mem : Memory → SProp 𝓤) (run : Routine → Fun 𝓤) (𝓣 : Tables 𝓤 H)
-      → Triple 𝓤 (𝓣 .C name) (Core 𝓤 H A at-mem run) → Triple 𝓤 (𝓣 .C #lending·deliver) (Hand 𝓤 H A at-mem run)
+      → Triple 𝓤 (𝓣 .C name) (Core 𝓤 H A at-mem run) → Triple 𝓤 (𝓣 .C #index-answer·deliver) (Hand 𝓤 H A at-mem run)
       → Meets 𝓤 H A question.signature (WpFn 𝓤 H (𝓣 .C) (𝓣 .Λ) (function name)) (closing 𝓤 H A question.ended (clauses 𝓤))
   question-meets 𝓤 H A W at-mem run 𝓣 kc kh =
       walk-meets 𝓤 H A question.ended stayed W

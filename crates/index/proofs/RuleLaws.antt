@@ -10,7 +10,7 @@ use lib.ListN.{length}
 use Rattle.lists.specs.Tests.{three}
 use Rattle.geometry.specs.Stored.{inRange}
 use Rattle.pagestore.specs.Store.{View, viewOf, fieldAt, features, total}
-use Rattle.trees.specs.Sound.{SoundIndex}
+use Rattle.tree_model.specs.Sound.{SoundIndex}
 use Rattle.search.specs.Visit.{found}
 use Rattle.index.specs.Asking.{Question, Searchable, sought}
 use Rattle.index.specs.Refusals.{Rule, First, checkRules, insertRules, deleteRules, questionRules, askedRules}

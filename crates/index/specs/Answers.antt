@@ -12,9 +12,9 @@ use Rattle.geometry.specs.Features.{distTo}
 use Rattle.geometry.proofs.SliceLaws.{plain-distance}
 use Rattle.pagestore.specs.declared.Record.{Record}
 use Rattle.pagestore.specs.Store.{viewOf}
-use Rattle.trees.specs.Trees.{pointIn, live, leavesOf}
-use Rattle.trees.specs.Sound.{SoundIndex}
-use Rattle.bestfirst.specs.Nearest.{nearest}
+use Rattle.tree_model.specs.Trees.{pointIn, live, leavesOf}
+use Rattle.tree_model.specs.Sound.{SoundIndex}
+use Rattle.search_theory.specs.Nearest.{nearest}
 use Rattle.search.specs.Asked.{distanceTo}
 use Rattle.search.specs.Visit.{Answer as Found, ranking, found}
 use Rattle.search.specs.Questions.{liveCandidates, Called, rowsOf, toRead}

@@ -7,7 +7,7 @@ use lib.IntN.{ℤ}
 use lib.ListN.{length, take}
 use Rattle.geometry.specs.Stored.{inRange}
 use Rattle.pagestore.specs.declared.Record.{Record}
-use Rattle.candidates.specs.declared.Row.{Row}
+use Rattle.search_rows.specs.declared.Row.{Row}
 use Rattle.search.specs.declared.Query.{Query}
 use Rattle.search.specs.Asked.{Asked, plainly, distanceTo, asks}
 use Rattle.search.specs.Steps.{Seekable}

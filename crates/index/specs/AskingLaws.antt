@@ -14,9 +14,9 @@ use Rattle.geometry.specs.Features.{plain}
 use Rattle.geometry.proofs.SliceLaws.{plain-distance, plain-length}
 use Rattle.pagestore.specs.declared.Record.{Record}
 use Rattle.pagestore.specs.Store.{View, viewOf}
-use Rattle.trees.specs.Trees.{Item, records, leaves, treeOf, live, leavesOf, pointIn}
-use Rattle.trees.specs.Sound.{SoundIndex}
-use Rattle.bestfirst.specs.Nearest.{nearest}
+use Rattle.tree_model.specs.Trees.{Item, records, leaves, treeOf, live, leavesOf, pointIn}
+use Rattle.tree_model.specs.Sound.{SoundIndex}
+use Rattle.search_theory.specs.Nearest.{nearest}
 use Rattle.search.specs.Asked.{distanceTo, candidate, Askable}
 use Rattle.search.specs.Branches.{rowOf, rowsAmong}
 use Rattle.search.specs.Visit.{ranking, found, leavesRead}

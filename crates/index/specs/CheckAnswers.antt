@@ -6,11 +6,11 @@ use Prim.Native.Nat.{ℕ, _<_}
 use native.Mathlib.Omega.{arith}
 use lib.ListN.{length}
 use Rattle.pagestore.specs.Store.{viewOf}
-use Rattle.trees.specs.Sound.{Permitted, SoundIndex}
-use Rattle.faults.specs.Faults.{FailsAt}
-use Rattle.faults.specs.Decided.{sound-none}
-use Rattle.soundness.specs.declared.Checked.{Checked}
-use Rattle.soundness.specs.Outcome.{Verdict}
+use Rattle.tree_model.specs.Sound.{Permitted, SoundIndex}
+use Rattle.sound_faults.specs.Faults.{FailsAt}
+use Rattle.sound_faults.specs.Decided.{sound-none}
+use Rattle.sound_check.specs.declared.Checked.{Checked}
+use Rattle.sound_check.specs.Outcome.{Verdict}
 use Rattle.index.specs.Refusals.{Rule, First, liveTimes, checkRules}
 
 -- of the bytes b: the first number of check's order that applies; the page is 0 with 0 or 1, and with 2 one at which soundness fails

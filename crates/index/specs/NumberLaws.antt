@@ -5,7 +5,7 @@ use mathlib.Core.Logic.{inl, inr}
 use mathlib.Core.List.{List, [], _∷_}
 use Prim.Native.Nat.{ℕ}
 use Rattle.lists.specs.Tests.{cases, false-true}
-use Rattle.faults.specs.Decidable.{Either, le?, eq?, both?, permitted?, sound-index?}
+use Rattle.sound_faults.specs.Decidable.{Either, le?, eq?, both?, permitted?, sound-index?}
 use Rattle.index.specs.Asking.{Question}
 use Rattle.index.specs.Refusals.{Rule, First, makeRules, insertRules, deleteRules, questionRules, askedRules, checkRules}
 use Rattle.index.specs.Acts.{Act, insert, delete, question, check}

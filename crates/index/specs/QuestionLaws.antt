@@ -9,15 +9,15 @@ use lib.ListN.{length, take, drop}
 use lib.Seq.{take-at}
 use borrow.Author.Tests.{ne-eqb}
 use Rattle.lists.specs.Basics.{pick}
-use Rattle.candidates.specs.declared.Row.{Row}
-use Rattle.candidates.specs.Held.{rowsIn}
+use Rattle.search_rows.specs.declared.Row.{Row}
+use Rattle.search_rows.specs.Held.{rowsIn}
 use Rattle.search.specs.Visit.{Answer as Found, found}
-use Rattle.lending.specs.declared.Answer.{Answer}
-use Rattle.lending.specs.declared.Tally.{Tally}
-use Rattle.lending.specs.Tallies.{counted}
-use Rattle.lending.specs.Filling.{filled}
-use Rattle.lending.specs.FillingLaws.{filled-is}
-use Rattle.lending.specs.Delivered.{Delivered, rowsAfter, tallyAfter}
+use Rattle.index_answer.specs.declared.Answer.{Answer}
+use Rattle.index_answer.specs.declared.Tally.{Tally}
+use Rattle.index_answer.specs.Tallies.{counted}
+use Rattle.index_answer.specs.Filling.{filled}
+use Rattle.index_answer.specs.FillingLaws.{filled-is}
+use Rattle.index_answer.specs.Delivered.{Delivered, rowsAfter, tallyAfter}
 use Rattle.index.specs.Asking.{Question, sought}
 use Rattle.index.specs.Refusals.{Rule, First, questionRules}
 use Rattle.index.specs.RefusalLaws.{Carried, question-carried}

@@ -3,12 +3,12 @@ use mathlib.Core.Path.{_≡_}
 use mathlib.Core.List.{List, _++_}
 use Prim.Native.Nat.{ℕ, _≤_}
 use lib.ListN.{length, take, drop}
-use Rattle.candidates.specs.declared.Row.{Row}
-use Rattle.candidates.specs.Held.{rowsIn}
+use Rattle.search_rows.specs.declared.Row.{Row}
+use Rattle.search_rows.specs.Held.{rowsIn}
 use Rattle.search.specs.Visit.{Answer as Found, found}
-use Rattle.lending.specs.declared.Answer.{Answer}
-use Rattle.lending.specs.declared.Tally.{Tally}
-use Rattle.lending.specs.Tallies.{counted}
+use Rattle.index_answer.specs.declared.Answer.{Answer}
+use Rattle.index_answer.specs.declared.Tally.{Tally}
+use Rattle.index_answer.specs.Tallies.{counted}
 use Rattle.index.specs.Asking.{Question, sought}
 use Rattle.index.specs.Refusals.{Rule, First, questionRules}
 use Rattle.index.specs.Outcomes.{unlessRefused, foundWith}

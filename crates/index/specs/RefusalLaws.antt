@@ -15,7 +15,7 @@ use Rattle.lists.specs.Sorting.{count}
 use Rattle.lists.specs.Tests.{false-true}
 use Rattle.geometry.specs.Stored.{inRange}
 use Rattle.pagestore.specs.Store.{View, viewOf}
-use Rattle.trees.specs.Sound.{SoundIndex}
+use Rattle.tree_model.specs.Sound.{SoundIndex}
 use Rattle.tree_laws.specs.SpacePromises.{pages-given}
 use Rattle.index.specs.Asking.{Question}
 use Rattle.index.specs.Refusals.{Rule, First, liveTimes, pagesToEven, deleteRules, questionRules, askedRules}

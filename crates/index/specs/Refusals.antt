@@ -13,8 +13,8 @@ use Rattle.lists.specs.Sorting.{count}
 use Rattle.geometry.specs.Stored.{slotsOf, inRange}
 use Rattle.pagestore.specs.declared.Record.{Record}
 use Rattle.pagestore.specs.Store.{View, viewOf, freeAt}
-use Rattle.trees.specs.Trees.{identOf, live}
-use Rattle.trees.specs.Sound.{Permitted, SoundIndex}
+use Rattle.tree_model.specs.Trees.{identOf, live}
+use Rattle.tree_model.specs.Sound.{Permitted, SoundIndex}
 use Rattle.tree.specs.Insertion.{pagesWanted}
 use Rattle.tree_laws.specs.DeletePromises.{deleteIdent}
 use Rattle.tree_laws.specs.SpacePromises.{treePages}

@@ -14,12 +14,12 @@ use lib.ListN.{length}
 use Rattle.geometry.specs.Stored.{inRange}
 use Rattle.pagestore.specs.declared.Record.{Record}
 use Rattle.pagestore.specs.Store.{View, viewOf, fieldAt, level, freeAt}
-use Rattle.trees.specs.Sound.{Permitted}
+use Rattle.tree_model.specs.Sound.{Permitted}
 use Rattle.tree.specs.Insertion.{pagesWanted}
 use Rattle.tree.specs.Lookup.{findIn}
-use Rattle.lending.specs.declared.Answer.{Answer}
-use Rattle.lending.specs.declared.Tally.{Tally}
-use Rattle.candidates.specs.declared.Row.{Row}
+use Rattle.index_answer.specs.declared.Answer.{Answer}
+use Rattle.index_answer.specs.declared.Tally.{Tally}
+use Rattle.search_rows.specs.declared.Row.{Row}
 use Rattle.index.specs.Asking.{Question}
 use Rattle.index.specs.Refusals.{Rule, First, recordOf, askedRules}
 use Rattle.index.specs.Answers.{AnswersIfSound}

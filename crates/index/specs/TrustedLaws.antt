@@ -9,15 +9,15 @@ use lib.ListN.{length}
 use Rattle.lists.specs.Tests.{decide}
 use Rattle.pagestore.specs.declared.Record.{Record}
 use Rattle.pagestore.specs.Store.{View, viewOf, fieldAt, level, freeAt}
-use Rattle.trees.specs.Trees.{live}
-use Rattle.trees.specs.Sound.{Permitted, SoundIndex}
+use Rattle.tree_model.specs.Trees.{live}
+use Rattle.tree_model.specs.Sound.{Permitted, SoundIndex}
 use Rattle.tree.specs.Lookup.{findIn}
 use Rattle.tree_laws.specs.LookupPromises.{find-ident, find-none}
 use Rattle.search.proofs.SoundLaws.{tree-level}
-use Rattle.candidates.specs.declared.Row.{Row}
-use Rattle.lending.specs.declared.Answer.{Answer}
-use Rattle.lending.specs.declared.Tally.{Tally}
-use Rattle.lending.specs.Delivered.{Delivered}
+use Rattle.search_rows.specs.declared.Row.{Row}
+use Rattle.index_answer.specs.declared.Answer.{Answer}
+use Rattle.index_answer.specs.declared.Tally.{Tally}
+use Rattle.index_answer.specs.Delivered.{Delivered}
 use Rattle.index.specs.Asking.{Question}
 use Rattle.index.specs.Refusals.{Rule, First, liveTimes, pagesToEven, insertRules, deleteRules, questionRules, askedRules}
 use Rattle.index.specs.RefusalLaws.{evening-takes-none, all-hold, put-in, later, Carried, asked-carried}

@@ -9,8 +9,8 @@ use lib.IntN.{ℤ}
 use lib.ListN.{length}
 use Rattle.geometry.specs.Stored.{inRange}
 use Rattle.pagestore.specs.Store.{View, viewOf, fieldAt, level, freeAt}
-use Rattle.trees.specs.Trees.{pointIn}
-use Rattle.trees.specs.Sound.{Permitted}
+use Rattle.tree_model.specs.Trees.{pointIn}
+use Rattle.tree_model.specs.Sound.{Permitted}
 use Rattle.tree.specs.Insertion.{pagesWanted}
 use Rattle.tree.specs.Deletion.{deleteFrom}
 use Rattle.tree.specs.Lookup.{findIn}

@@ -17,8 +17,8 @@ use Rattle.geometry.proofs.StoredLaws.{length-point, coord-magnitude, in-range,
 use Rattle.pagestore.specs.declared.Record.{Record}
 use Rattle.pagestore.specs.Fits.{RecordFits}
 use Rattle.pagestore.specs.Store.{View, viewOf, fieldAt, level}
-use Rattle.trees.specs.Trees.{pointIn, live}
-use Rattle.trees.specs.Sound.{RecordOk, SoundIndex}
+use Rattle.tree_model.specs.Trees.{pointIn, live}
+use Rattle.tree_model.specs.Sound.{RecordOk, SoundIndex}
 use Rattle.tree.specs.Deletion.{deleteFrom}
 use Rattle.tree.specs.Lookup.{findIn}
 use Rattle.tree.specs.Keyed.{holdsAt}

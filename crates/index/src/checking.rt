@@ -2,7 +2,7 @@
 ghost use Rattle.index.specs.CheckAnswers.{CheckAnswer};
 ghost use Rattle.index.specs.Refusals.{First, checkRules};
 use crate::making::permitted;
-use soundness::Checked;
+use sound_check::Checked;
 
 // The number, and with 2 a page at which soundness fails.
 pub fn check(index: &[u8]) -> Checked
@@ -11,7 +11,7 @@ pub fn check(index: &[u8]) -> Checked
     if !permitted(index.len()) {
         return Checked { code: 1, page: 0 };
     }
-    soundness::check(index)
+    sound_check::check(index)
 }
 
 // The number that check gives.

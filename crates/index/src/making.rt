@@ -1,7 +1,7 @@
 // Make: an empty index in lent bytes.
 ghost use mathlib.Core.Path.{_≡_};
 ghost use lib.ListN.{length};
-ghost use Rattle.trees.specs.Sound.{Permitted};
+ghost use Rattle.tree_model.specs.Sound.{Permitted};
 ghost use Rattle.index.specs.Refusals.{First, makeRules};
 ghost use Rattle.index.specs.Outcomes.{Decides, madeWith};
 

@@ -13,7 +13,7 @@ ghost use Rattle.index.specs.Trusted.{trustedPoint, pairRules, roomRules
 use crate::Criteria;
 use crate::making::permitted;
 use geometry::points::slots_of;
-use lending::Answer;
+use index_answer::Answer;
 use pagestore::Record;
 use pagestore::features_of;
 use pagestore::free_count;

@@ -11,12 +11,12 @@ use Rattle.lists.specs.Basics.{All, none, also, flat}
 use Rattle.lists.specs.Tests.{three, false-true}
 use Rattle.lists.specs.Sorting.{Order, sort, ins}
 use Rattle.lists.specs.Orders.{by, byHigher, lower, higher, by-lower, by-equal, by-higher, by-weak, by-same, byHigher-weak, byHigher-same, lower-weak, lower-same, lex-last, weak-order}
-use Rattle.bestfirst.specs.Nearest.{Outcome, reading, exceeds, offered, visit, bestFirst}
-use Rattle.bestfirst.specs.Frontier.{leavesUnder, Descends, seek}
-use Rattle.bestfirst.specs.FrontierLaws.{seek-end, seek-read, seek-root}
-use Rattle.bestfirst.specs.VisitLaws.{visit-read}
-use Rattle.candidates.specs.declared.Row.{Row}
-use Rattle.trees.specs.Trees.{Item, leaves}
+use Rattle.search_theory.specs.Nearest.{Outcome, reading, exceeds, offered, visit, bestFirst}
+use Rattle.search_theory.specs.Frontier.{leavesUnder, Descends, seek}
+use Rattle.search_theory.specs.FrontierLaws.{seek-end, seek-read, seek-root}
+use Rattle.search_theory.specs.VisitLaws.{visit-read}
+use Rattle.search_rows.specs.declared.Row.{Row}
+use Rattle.tree_model.specs.Trees.{Item, leaves}
 use Rattle.search.specs.Asked.{Asked, Askable}
 use Rattle.search.specs.Branches.{Branch, lastPlace, tied, before, isLeaf, opened, kids, rowsAt}
 use Rattle.search.specs.Visit.{ranking, answerOf, placed}

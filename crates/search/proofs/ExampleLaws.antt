@@ -14,9 +14,9 @@ use Rattle.geometry.specs.Points.{heightOf, axisAt, axisOf, pyramidOf}
 use Rattle.geometry.specs.Features.{gapOf, distTo, plain}
 use Rattle.geometry.specs.Slices.{sideBy, sliceBy, axisNo, signNo, sliceAt, leastFrom, leastIn, boundTo, boundOf}
 use Rattle.geometry.specs.Stored.{pointOf, slotsOf}
-use Rattle.bestfirst.specs.Nearest.{candidates, nearest, kth, inSet}
+use Rattle.search_theory.specs.Nearest.{candidates, nearest, kth, inSet}
 use Rattle.pagestore.specs.Store.{viewOf}
-use Rattle.trees.specs.Trees.{Item, keyOf, firstKey, lastKey, leavesOf}
+use Rattle.tree_model.specs.Trees.{Item, keyOf, firstKey, lastKey, leavesOf}
 use Rattle.search.specs.Asked.{Asked, plainly, distanceTo, candidate, spanBound}
 use Rattle.search.specs.Branches.{rowOf, rowsAmong}
 use Rattle.search.specs.Visit.{ranking, Answer, found}

@@ -12,10 +12,10 @@ use Rattle.lists.specs.Basics.{All, none, also, all-map, all-left, all-right, f
 use Rattle.lists.specs.Sorting.{sum}
 use Rattle.lists.specs.FlatLaws.{all-flat, map-append, all-both}
 use Rattle.lists.specs.Ascending.{Ascending, asc-left, asc-right}
-use Rattle.bestfirst.specs.Frontier.{leavesUnder}
+use Rattle.search_theory.specs.Frontier.{leavesUnder}
 use Rattle.pagestore.specs.declared.Record.{Record}
 use Rattle.pagestore.specs.Store.{inRange, innerAt, entriesIn}
-use Rattle.trees.specs.Trees.{Item, noRecord, rankOf, firstKey, lastKey, records, leaves, entryOf}
+use Rattle.tree_model.specs.Trees.{Item, noRecord, rankOf, firstKey, lastKey, records, leaves, entryOf}
 use Rattle.tree.specs.Lookup.{leafCount}
 use Rattle.search.specs.Asked.{Asked, spanBound, Askable}
 use Rattle.search.specs.Branches.{Branch, lastPlace, isLeaf, pageIn, branches, opened, kids}

@@ -23,12 +23,12 @@ use Rattle.pagestore.specs.Layout.{leafOf}
 use Rattle.pagestore.specs.LayoutLaws.{noRecord, leaf-slots}
 use Rattle.pagestore.specs.Store.{inRange, leafAt, recordsIn}
 use Rattle.pagestore.specs.Store.PageLaws.{leaf-part, leaf-view, page-none}
-use Rattle.trees.specs.Trees.{pointIn}
+use Rattle.tree_model.specs.Trees.{pointIn}
 use Rattle.tree.proofs.CountLaws.{items-next, items-end}
-use Rattle.candidates.specs.declared.Row.{Row}
-use Rattle.candidates.specs.Rows.{rowOrder}
-use Rattle.candidates.specs.Held.{rowsIn, behindAll, Held, Offered}
-use Rattle.candidates.proofs.HeldLaws.{offered-behind}
+use Rattle.search_rows.specs.declared.Row.{Row}
+use Rattle.search_rows.specs.Rows.{rowOrder}
+use Rattle.search_rows.specs.Held.{rowsIn, behindAll, Held, Offered}
+use Rattle.search_rows.proofs.HeldLaws.{offered-behind}
 use Rattle.pagestore.specs.Store.RangeLaws.{range-fits}
 use Rattle.search.specs.Asked.{Asked, distanceTo, candidate, asking, askingPoint}
 use Rattle.search.specs.Branches.{pageIn, rowOf, rowsAmong}

@@ -20,7 +20,7 @@ use Rattle.pagestore.specs.declared.Entry.{Entry}
 use Rattle.pagestore.specs.declared.Inner.{Inner}
 use Rattle.pagestore.specs.Store.{innerAt, entriesIn}
 use Rattle.tree.specs.Lookup.{leafCount}
-use Rattle.heap.specs.Heap.{Heap, held, Pushed}
+use Rattle.search_heap.specs.Heap.{Heap, held, Pushed}
 use Rattle.search.specs.Asked.{Asked, spanBound, asking}
 use Rattle.search.specs.Branches.{Branch, lastPlace, before, pageIn, branchOf, branches}
 use Rattle.search.specs.Keys.{keyOf, branchIn, mostBound, frontier}

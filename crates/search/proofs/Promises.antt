@@ -14,19 +14,19 @@ use Rattle.lists.specs.Orders.{by, lower, by-weak, by-same, lower-weak, lower-s
 use Rattle.lists.specs.SortingLaws.{keep-first, keep-past, keep-sort, all-keep, count-append}
 use Rattle.lists.specs.FlatLaws.{all-both, all-every, all-mapped, map-append}
 use Rattle.lists.specs.Counts.{mult, mult-self, mult-more, mult-append, all-of-mult}
-use Rattle.bestfirst.specs.Nearest.{Outcome, nearest, candidates, inSet, Floor, bestFirst}
-use Rattle.bestfirst.specs.Frontier.{seek}
-use Rattle.bestfirst.specs.Promises as flatly
-use Rattle.candidates.specs.declared.Row.{Row}
-use Rattle.bestfirst.specs.Marks.{Strict}
-use Rattle.candidates.specs.RowLaws.{row-order, ofId, past, Distinct, candidates-strict}
+use Rattle.search_theory.specs.Nearest.{Outcome, nearest, candidates, inSet, Floor, bestFirst}
+use Rattle.search_theory.specs.Frontier.{seek}
+use Rattle.search_theory.specs.Promises as flatly
+use Rattle.search_rows.specs.declared.Row.{Row}
+use Rattle.search_theory.specs.Marks.{Strict}
+use Rattle.search_rows.specs.RowLaws.{row-order, ofId, past, Distinct, candidates-strict}
 use Rattle.pagestore.specs.declared.Record.{Record}
 use Rattle.pagestore.specs.declared.Leaf.{Leaf}
 use Rattle.pagestore.specs.Store.{Field, level, total, root, View, viewOf, inRange, pagesIn, leafAt, recordsIn, entriesIn, fieldAt}
 use Rattle.pagestore.specs.Store.PageLaws.{SamePage, bytes-page, bytes-field}
 use Rattle.pagestore.specs.Store.RangeLaws.{pages-same, range-same}
-use Rattle.trees.specs.Trees.{Item, leaves, pages, treeOf, leavesOf, identOf, live}
-use Rattle.trees.specs.Sound.{SoundIndex}
+use Rattle.tree_model.specs.Trees.{Item, leaves, pages, treeOf, leavesOf, identOf, live}
+use Rattle.tree_model.specs.Sound.{SoundIndex}
 use Rattle.search.specs.Asked.{Asked, distanceTo, candidate, Askable}
 use Rattle.search.specs.Branches.{Branch, lastPlace, tied, before, isLeaf, pageIn, kids, rootBranch, rowOf, rowsAmong, rowsAt}
 use Rattle.search.specs.Visit.{ranking, Answer, answerOf, room, visited, readsNone, found, placed, leavesRead}

@@ -23,8 +23,8 @@ use Rattle.geometry.proofs.SpanLaws.{pair-real}
 use Rattle.geometry.proofs.BoundLaws.{bound-below, bound-within}
 use Rattle.pagestore.specs.declared.Record.{Record}
 use Rattle.pagestore.specs.Fits.{RecordFits}
-use Rattle.trees.specs.Trees.{pointIn, keyOf, rankOf, noRecord, firstKey, lastKey}
-use Rattle.trees.specs.Sound.{RecordOk}
+use Rattle.tree_model.specs.Trees.{pointIn, keyOf, rankOf, noRecord, firstKey, lastKey}
+use Rattle.tree_model.specs.Sound.{RecordOk}
 use Rattle.search.specs.Asked.{Asked, distanceTo, spanBound, Askable}
 
 module _ {A : Type 0} (f : A → ℕ) where

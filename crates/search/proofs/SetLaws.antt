@@ -20,13 +20,13 @@ use Rattle.lists.specs.Ascending.{headOr, lastOr}
 use Rattle.geometry.specs.Features.{IsBound}
 use Rattle.geometry.specs.Slices.{boundOf}
 use Rattle.geometry.proofs.BoundLaws.{bound-exact}
-use Rattle.bestfirst.specs.Nearest.{candidates, nearest, inSet}
-use Rattle.candidates.specs.declared.Row.{Row}
-use Rattle.candidates.specs.Rows.{rowOrder}
+use Rattle.search_theory.specs.Nearest.{candidates, nearest, inSet}
+use Rattle.search_rows.specs.declared.Row.{Row}
+use Rattle.search_rows.specs.Rows.{rowOrder}
 use Rattle.pagestore.specs.declared.Record.{Record}
 use Rattle.pagestore.specs.Store.{View, viewOf}
-use Rattle.trees.specs.Trees.{Item, noRecord, firstKey, lastKey, rankOf, keyOf, treeOf, live, leavesOf}
-use Rattle.trees.specs.Sound.{SoundIndex}
+use Rattle.tree_model.specs.Trees.{Item, noRecord, firstKey, lastKey, rankOf, keyOf, treeOf, live, leavesOf}
+use Rattle.tree_model.specs.Sound.{SoundIndex}
 use Rattle.search.specs.Asked.{Asked, candidate, spanBound, Askable}
 use Rattle.search.specs.Branches.{rowOf, rowsAmong}
 use Rattle.search.specs.Visit.{ranking}

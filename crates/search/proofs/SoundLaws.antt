@@ -18,8 +18,8 @@ use Rattle.pagestore.specs.Fits.{RecordFits}
 use Rattle.pagestore.specs.Store.{level, root, total, View, viewOf, inRange, pagesIn, leafAt, recordsIn}
 use Rattle.pagestore.specs.Store.PageLaws.{leaf-view, inner-view, records-fit}
 use Rattle.pagestore.specs.Store.RangeLaws.{range-high}
-use Rattle.trees.specs.Trees.{Item, records, pages, leaves, entryOf, node, Rep, treeAt, treeOf, live, leavesOf}
-use Rattle.trees.specs.Sound.{isPage, freshPages, RootFilled, Filled, SoundIndex}
+use Rattle.tree_model.specs.Trees.{Item, records, pages, leaves, entryOf, node, Rep, treeAt, treeOf, live, leavesOf}
+use Rattle.tree_model.specs.Sound.{isPage, freshPages, RootFilled, Filled, SoundIndex}
 use Rattle.search.proofs.FrameLaws.{Frame, Branching, Ordered, ordered-kids, flat-records, leaf-records, parts-right}
 
 -- ---- A TREE AND ITS LEAVES

@@ -17,13 +17,13 @@ use Rattle.pagestore.specs.Store.{level, root, pagesIn, countAt, innerAt, entri
 use Rattle.pagestore.specs.Store.PageLaws.{inner-counts, entries-slots}
 use Rattle.pagestore.specs.Store.RangeLaws.{pages-few}
 use Rattle.tree.specs.Lookup.{leafCount}
-use Rattle.heap.specs.Heap.{Heap, held, Popped}
-use Rattle.bestfirst.specs.Nearest.{Outcome, exceeds, offered}
-use Rattle.bestfirst.specs.Frontier.{seek}
-use Rattle.bestfirst.specs.FrontierLaws.{seek-end, seek-stop, seek-read, seek-open, seek-full}
-use Rattle.candidates.specs.declared.Row.{Row}
-use Rattle.candidates.specs.Rows.{rowOrder}
-use Rattle.candidates.specs.Held.{rowsIn, Held, Stops}
+use Rattle.search_heap.specs.Heap.{Heap, held, Popped}
+use Rattle.search_theory.specs.Nearest.{Outcome, exceeds, offered}
+use Rattle.search_theory.specs.Frontier.{seek}
+use Rattle.search_theory.specs.FrontierLaws.{seek-end, seek-stop, seek-read, seek-open, seek-full}
+use Rattle.search_rows.specs.declared.Row.{Row}
+use Rattle.search_rows.specs.Rows.{rowOrder}
+use Rattle.search_rows.specs.Held.{rowsIn, Held, Stops}
 use Rattle.search.specs.Asked.{Asked, asking}
 use Rattle.search.specs.Branches.{Branch, before, isLeaf, branches, opened, kids, rootBranch, rowsAmong, rowsAt, pageIn}
 use Rattle.search.specs.Keys.{keyOf, boundIn, placeIn, levelIn, numberIn, branchIn, frontier}

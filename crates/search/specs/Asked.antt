@@ -12,7 +12,7 @@ use Rattle.geometry.specs.Slices.{boundOf}
 use Rattle.geometry.specs.Questions.{askedOf}
 use Rattle.geometry.specs.Stored.{pointOf}
 use Rattle.pagestore.specs.declared.Record.{Record}
-use Rattle.trees.specs.Trees.{pointIn}
+use Rattle.tree_model.specs.Trees.{pointIn}
 use Rattle.search.specs.declared.Query.{Query}
 
 -- the features asked for, one for each coordinate, and how many rows

@@ -11,7 +11,7 @@ use Rattle.pagestore.specs.declared.Record.{Record}
 use Rattle.pagestore.specs.declared.Entry.{Entry}
 use Rattle.pagestore.specs.Store.{root, level, inRange, leafAt, innerAt, recordsIn, entriesIn, fieldAt}
 use Rattle.tree.specs.Lookup.{leafCount}
-use Rattle.candidates.specs.declared.Row.{Row}
+use Rattle.search_rows.specs.declared.Row.{Row}
 use Rattle.search.specs.Asked.{Asked, distanceTo, candidate, spanBound}
 
 -- a page that the search may go to, with its level; the bound of its span, and the position of the first leaf under it

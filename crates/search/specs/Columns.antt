@@ -11,8 +11,8 @@ use Rattle.geometry.specs.Stored.{pointOf}
 use Rattle.pagestore.specs.declared.Record.{Record}
 use Rattle.pagestore.specs.Layout.{leafOf}
 use Rattle.pagestore.specs.LayoutLaws.{noRecord}
-use Rattle.candidates.specs.declared.Row.{Row}
-use Rattle.candidates.specs.Held.{behindAll}
+use Rattle.search_rows.specs.declared.Row.{Row}
+use Rattle.search_rows.specs.Held.{behindAll}
 
 -- the record in slot r of a leaf page, and its coordinates, as stored
 abbrev pub recordIn : List ℕ → ℕ → Record

@@ -7,8 +7,8 @@ use Rattle.lists.specs.Basics.{upFrom}
 use Rattle.geometry.specs.Stored.{slotsOf}
 use Rattle.pagestore.specs.declared.Record.{Record}
 use Rattle.pagestore.specs.Store.{View, viewOf}
-use Rattle.trees.specs.Trees.{leavesOf}
-use Rattle.trees.specs.Sound.{SoundIndex}
+use Rattle.tree_model.specs.Trees.{leavesOf}
+use Rattle.tree_model.specs.Sound.{SoundIndex}
 use Rattle.search.specs.Asked.{Asked, plainly}
 use Rattle.search.specs.Visit.{found}
 

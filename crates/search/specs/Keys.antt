@@ -1,7 +1,7 @@
 -- A branch as one number, as the frontier's heap holds it.
 use mathlib.Core.List.{List, map}
 use Prim.Native.Nat.{ℕ, _+_, _*_, _-_, _/_, _%_, _≤_, _<_}
-use Rattle.heap.specs.Heap.{held}
+use Rattle.search_heap.specs.Heap.{held}
 use Rattle.search.specs.Branches.{Branch}
 
 -- Mixed radix: 16,384 pages, 5 levels (the highest first), 8,192 positions, and the bound above them. So a bound of weighted features

@@ -11,11 +11,11 @@ use Rattle.lists.specs.Basics.{pick}
 use Rattle.lists.specs.Counts.{mult}
 use Rattle.lists.specs.Sorting.{keep, sort}
 use Rattle.geometry.specs.Features.{Feature, distTo, InSpan}
-use Rattle.bestfirst.specs.Nearest.{nearest, lastCost, inSet}
-use Rattle.candidates.specs.declared.Row.{Row}
+use Rattle.search_theory.specs.Nearest.{nearest, lastCost, inSet}
+use Rattle.search_rows.specs.declared.Row.{Row}
 use Rattle.pagestore.specs.declared.Record.{Record}
 use Rattle.pagestore.specs.Store.{View}
-use Rattle.trees.specs.Trees.{Item, firstKey, lastKey, live, leavesOf}
+use Rattle.tree_model.specs.Trees.{Item, firstKey, lastKey, live, leavesOf}
 use Rattle.search.specs.Asked.{Asked, candidate, spanBound}
 use Rattle.search.specs.Branches.{Branch, before, rowsAmong}
 use Rattle.search.specs.Visit.{ranking, placed}

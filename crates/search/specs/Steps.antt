@@ -13,13 +13,13 @@ use Rattle.geometry.specs.Stored.{pointOf}
 use Rattle.pagestore.specs.declared.Entry.{Entry}
 use Rattle.pagestore.specs.Layout.{leafOf}
 use Rattle.pagestore.specs.Store.{viewOf, level, leafAt, recordsIn, innerAt, entriesIn, fieldAt}
-use Rattle.trees.specs.Trees.{leavesOf}
-use Rattle.trees.specs.Sound.{SoundIndex}
-use Rattle.heap.specs.Heap.{Heap, held}
-use Rattle.bestfirst.specs.Nearest.{nearest}
-use Rattle.candidates.specs.declared.Row.{Row}
-use Rattle.candidates.specs.Rows.{rowOrder}
-use Rattle.candidates.specs.Held.{rowsIn, Held}
+use Rattle.tree_model.specs.Trees.{leavesOf}
+use Rattle.tree_model.specs.Sound.{SoundIndex}
+use Rattle.search_heap.specs.Heap.{Heap, held}
+use Rattle.search_theory.specs.Nearest.{nearest}
+use Rattle.search_rows.specs.declared.Row.{Row}
+use Rattle.search_rows.specs.Rows.{rowOrder}
+use Rattle.search_rows.specs.Held.{rowsIn, Held}
 use Rattle.search.specs.declared.Query.{Query}
 use Rattle.search.specs.declared.Seen.{Seen}
 use Rattle.search.specs.Asked.{Asked, distanceTo, candidate, spanBound, Askable, asking, askingPoint}

@@ -7,10 +7,10 @@ use lib.ListN.{length}
 use Rattle.lists.specs.Basics.{pick}
 use Rattle.lists.specs.Sorting.{keep, insAll, offerAll}
 use Rattle.pagestore.specs.Store.{level, total, pagesIn, fieldAt}
-use Rattle.bestfirst.specs.Nearest.{Ranking, Outcome, exceeds}
-use Rattle.bestfirst.specs.Frontier.{seek}
-use Rattle.candidates.specs.declared.Row.{Row}
-use Rattle.candidates.specs.Rows.{byDistance}
+use Rattle.search_theory.specs.Nearest.{Ranking, Outcome, exceeds}
+use Rattle.search_theory.specs.Frontier.{seek}
+use Rattle.search_rows.specs.declared.Row.{Row}
+use Rattle.search_rows.specs.Rows.{byDistance}
 use Rattle.search.specs.Asked.{Asked, spanBound}
 use Rattle.search.specs.Branches.{Branch, before, isLeaf, pageIn, branches, opened, kids, rootBranch, rowsAmong, rowsAt}
 

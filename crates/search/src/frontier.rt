@@ -8,7 +8,7 @@ use crate::leaves::filled;
 use geometry::Key;
 use geometry::Pair;
 use geometry::bounds::bound;
-use heap::push;
+use search_heap::push;
 use pagestore::Entry;
 use pagestore::count_at;
 use pagestore::entry_at;

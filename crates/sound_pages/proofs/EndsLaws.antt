@@ -16,13 +16,13 @@ use Rattle.pagestore.specs.Fits.{EntryFits}
 use Rattle.pagestore.specs.declared.Entry.{Entry}
 use Rattle.pagestore.specs.Store.{Page, fillOf, recordsOf, entriesOf, viewOf}
 use Rattle.pagestore.specs.Store.PageLaws.{PageFits, leafFits, innerFits, page-fits}
-use Rattle.trees.specs.Trees.{firstKey, lastKey}
-use Rattle.trees.specs.Trees
-use Rattle.trees.specs.Sound.{RecordOk}
-use Rattle.faults.specs.Faults.{noEntry, ends, firstOf, lastOf, ranksIn, NodeFill, EntryAt, EntryFault}
-use Rattle.faults.specs.Linked.{PageFine}
-use Rattle.faults.specs.Shapes.{first-rank, last-rank}
-use Rattle.faults.specs.Assembled.{fill-most}
+use Rattle.tree_model.specs.Trees.{firstKey, lastKey}
+use Rattle.tree_model.specs.Trees
+use Rattle.tree_model.specs.Sound.{RecordOk}
+use Rattle.sound_faults.specs.Faults.{noEntry, ends, firstOf, lastOf, ranksIn, NodeFill, EntryAt, EntryFault}
+use Rattle.sound_faults.specs.Linked.{PageFine}
+use Rattle.sound_faults.specs.Shapes.{first-rank, last-rank}
+use Rattle.sound_faults.specs.Assembled.{fill-most}
 use Rattle.sound_pages.specs.Marks.{EndsKept}
 use Rattle.sound_pages.proofs.KeyLaws.{key-same, key-fits}
 use Rattle.sound_pages.proofs.ViewLaws.{view-fill}

@@ -14,10 +14,10 @@ use Rattle.pagestore.specs.declared.Leaf.{Leaf}
 use Rattle.pagestore.specs.LayoutLaws.{noEntry}
 use Rattle.pagestore.specs.Store.{Page, levelOf, fillOf, entriesOf, recordsOf, View, viewOf, pageAt, levelAt, leafAt, innerAt}
 use Rattle.pagestore.specs.Store.PageLaws.{entries-slots}
-use Rattle.faults.specs.Faults.{NodeFill, Reached, EntryAt, EntryFault}
-use Rattle.faults.specs.Linked.{EntryFine}
-use Rattle.faults.specs.Assembled.{fill-most}
-use Rattle.faults.specs.Stored.{Counted, view-stored}
+use Rattle.sound_faults.specs.Faults.{NodeFill, Reached, EntryAt, EntryFault}
+use Rattle.sound_faults.specs.Linked.{EntryFine}
+use Rattle.sound_faults.specs.Assembled.{fill-most}
+use Rattle.sound_faults.specs.Stored.{Counted, view-stored}
 use Rattle.sound_pages.specs.Marks.{Marked, MarksAre, Follows, Named}
 use Rattle.sound_pages.proofs.JudgeLaws.{take-spot}
 use Rattle.sound_pages.proofs.MarkLaws.{spot-same, set-here, set-keep, set-old, no-entries}

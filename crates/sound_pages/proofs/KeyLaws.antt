@@ -14,8 +14,8 @@ use Rattle.geometry.proofs.StoredLaws.{coord-magnitude}
 use Rattle.geometry.proofs.KeyLaws.{KeyFits}
 use Rattle.pagestore.specs.declared.Record.{Record}
 use Rattle.pagestore.specs.Fits.{RecordFits}
-use Rattle.trees.specs.Trees.{pointIn, keyOf, rankOf}
-use Rattle.trees.specs.Sound.{RecordOk}
+use Rattle.tree_model.specs.Trees.{pointIn, keyOf, rankOf}
+use Rattle.tree_model.specs.Sound.{RecordOk}
 use Rattle.sound_pages.specs.Judged.{Decides}
 use Rattle.sound_pages.proofs.JudgeLaws.{judge-map}
 

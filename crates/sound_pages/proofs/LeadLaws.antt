@@ -20,7 +20,7 @@ use Rattle.pagestore.specs.declared.Leaf.{Leaf}
 use Rattle.pagestore.specs.declared.Record.{Record}
 use Rattle.pagestore.specs.Layout.{leafOf}
 use Rattle.pagestore.specs.LayoutLaws.{noRecord, leaf-fits, leaf-slots}
-use Rattle.trees.specs.Trees.{keyOf}
+use Rattle.tree_model.specs.Trees.{keyOf}
 use Rattle.sound_pages.specs.Leads.{leadOf, leadTo, Leads}
 
 -- ---- ONE LEAD

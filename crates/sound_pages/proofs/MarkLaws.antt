@@ -8,8 +8,8 @@ use lib.Seq.{getD-set-same, getD-set-other}
 use Rattle.lists.specs.Members.{At, here, next, same?, spot-below}
 use Rattle.pagestore.specs.declared.Entry.{Entry}
 use Rattle.pagestore.specs.Store.{Page, leaf, inner, levelOf, fillOf, entriesOf, View}
-use Rattle.faults.specs.Faults.{RootFill, Reached}
-use Rattle.faults.specs.Assembled.{reached-page}
+use Rattle.sound_faults.specs.Faults.{RootFill, Reached}
+use Rattle.sound_faults.specs.Assembled.{reached-page}
 use Rattle.sound_pages.specs.Marks.{Marked, Seen, Clear, Follows, Marks, Ready, Grown, Going, MarksAre}
 
 -- a place has one element

@@ -8,10 +8,10 @@ use Rattle.lists.specs.Members.{At}
 use Rattle.pagestore.specs.declared.Leaf.{Leaf}
 use Rattle.pagestore.specs.declared.Inner.{Inner}
 use Rattle.pagestore.specs.Store.{Page, leaf, recordsOf, entriesIn, recordsIn, viewOf, levelAt, leafAt, innerAt}
-use Rattle.trees.specs.Trees.{rankOf}
-use Rattle.trees.specs.Sound.{RecordOk}
-use Rattle.faults.specs.Faults.{ends, ranksIn, Reached, FailsAt}
-use Rattle.faults.specs.Linked.{PageFine}
+use Rattle.tree_model.specs.Trees.{rankOf}
+use Rattle.tree_model.specs.Sound.{RecordOk}
+use Rattle.sound_faults.specs.Faults.{ends, ranksIn, Reached, FailsAt}
+use Rattle.sound_faults.specs.Linked.{PageFine}
 use Rattle.sound_pages.specs.Judged.{RecordsFine, RecordsBad, LeafJudged, InnerJudged, PageJudged}
 use Rattle.sound_pages.specs.declared.Span.{Span}
 use Rattle.sound_pages.proofs.JudgeLaws.{span-map}

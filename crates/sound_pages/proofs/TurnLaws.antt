@@ -13,9 +13,9 @@ use Rattle.lists.specs.AscendingLaws.{hd, lst}
 use Rattle.lists.specs.Counts.{mult, by-cases, mult-self, mult-not}
 use Rattle.lists.specs.Members.{same?}
 use Rattle.pagestore.specs.Store.{View, viewOf}
-use Rattle.faults.specs.Faults.{IsPage, ranksIn, Reached, FailsAt}
-use Rattle.faults.specs.Linked.{PageFine, InState, Followed}
-use Rattle.faults.specs.Assembled.{reached-page, mult-none}
+use Rattle.sound_faults.specs.Faults.{IsPage, ranksIn, Reached, FailsAt}
+use Rattle.sound_faults.specs.Linked.{PageFine, InState, Followed}
+use Rattle.sound_faults.specs.Assembled.{reached-page, mult-none}
 use Rattle.sound_pages.specs.Judged.{Judges, PageJudged}
 use Rattle.sound_pages.specs.declared.Span.{Span}
 use Rattle.sound_pages.proofs.JudgeLaws.{passes, faults}

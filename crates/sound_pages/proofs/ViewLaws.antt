@@ -11,7 +11,7 @@ use Rattle.pagestore.specs.Store.{leaf, inner, levelOf, fillOf, pageAt, levelAt
 use Rattle.pagestore.specs.Store.PageLaws.{leaf-page, inner-page, page-fill, page-level, leaf-counts, inner-counts}
 use Rattle.lists.specs.Basics.{tick}
 use Rattle.pagestore.specs.Store.RangeLaws.{range-low, range-high, range-is, range-whole}
-use Rattle.faults.specs.Faults.{IsPage}
+use Rattle.sound_faults.specs.Faults.{IsPage}
 
 module _ (b : List ℕ) (p : ℕ) where
   pub leaf-fill : (x : Leaf) → x ≡ leafAt b p → x .count ≡ fillOf (pageAt b p)

@@ -10,8 +10,8 @@ use Rattle.lists.specs.Members.{same?}
 use Rattle.pagestore.specs.Store.{View, viewOf, pagesIn, inRange, chain, chainEnd, linkAt, fieldAt, freed, freedAt, restAt}
 use Rattle.pagestore.specs.Store.RangeLaws.{range-low, range-high, range-is, range-zero}
 use Rattle.pagestore.specs.Store.FreeLaws.{chain-out, chain-in, end-out, end-in, end-none}
-use Rattle.faults.specs.Faults.{IsPage, FailsAt}
-use Rattle.faults.specs.Assembled.{mult-none}
+use Rattle.sound_faults.specs.Faults.{IsPage, FailsAt}
+use Rattle.sound_faults.specs.Assembled.{mult-none}
 use Rattle.sound_pages.specs.Marks.{Marked, Clear, FreedOk, Walked}
 use Rattle.sound_pages.proofs.MarkLaws.{set-here, set-keep, set-old}
 

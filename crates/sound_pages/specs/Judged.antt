@@ -11,10 +11,10 @@ use Rattle.lists.specs.Basics.{All, flat}
 use Rattle.pagestore.specs.declared.Record.{Record}
 use Rattle.pagestore.specs.declared.Entry.{Entry}
 use Rattle.pagestore.specs.Store.{View}
-use Rattle.trees.specs.Trees.{rankOf}
-use Rattle.trees.specs.Sound.{RecordOk}
-use Rattle.faults.specs.Faults.{ends, ranksIn, FailsAt}
-use Rattle.faults.specs.Linked.{PageFine}
+use Rattle.tree_model.specs.Trees.{rankOf}
+use Rattle.tree_model.specs.Sound.{RecordOk}
+use Rattle.sound_faults.specs.Faults.{ends, ranksIn, FailsAt}
+use Rattle.sound_faults.specs.Linked.{PageFine}
 use Rattle.sound_pages.specs.declared.Span.{Span}
 
 -- a test that shows P where it passes, and Q where it does not

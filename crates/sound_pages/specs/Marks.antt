@@ -11,8 +11,8 @@ use Rattle.lists.specs.AscendingLaws.{hd, lst}
 use Rattle.geometry.specs.Keys.{keyNumber}
 use Rattle.pagestore.specs.declared.Entry.{Entry}
 use Rattle.pagestore.specs.Store.{levelOf, entriesOf, View, viewOf, chain, chainEnd}
-use Rattle.faults.specs.Faults.{IsPage, NodeFill, Freed, Fresh, ranksIn, Reached, EntryAt}
-use Rattle.faults.specs.Linked.{FreedFine, EntryFine, PageFine}
+use Rattle.sound_faults.specs.Faults.{IsPage, NodeFill, Freed, Fresh, ranksIn, Reached, EntryAt}
+use Rattle.sound_faults.specs.Linked.{FreedFine, EntryFine, PageFine}
 
 -- page q is marked in m, which has a place for each page
 abbrev pub Marked : List ℕ → ℕ → Type 0

@@ -8,7 +8,7 @@ ghost use Rattle.lists.specs.Basics.{pick};
 ghost use Rattle.geometry.specs.Keys.{keyNumber};
 ghost use Rattle.pagestore.specs.Layout.{leafOf};
 ghost use Rattle.pagestore.specs.Store.{recordsIn, entriesIn, fillOf, pageAt, leafAt, innerAt, inRange, viewOf};
-ghost use Rattle.faults.specs.Faults.{Reached};
+ghost use Rattle.sound_faults.specs.Faults.{Reached};
 ghost use Rattle.sound_pages.specs.Judged.{Decides, LeafJudged, InnerJudged, PageJudged};
 ghost use Rattle.sound_pages.specs.Leads.{Leads};
 use crate::Span;

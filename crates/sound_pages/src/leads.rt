@@ -4,7 +4,7 @@ ghost use Prim.Native.Nat.{_+_, _-_, _*_, _<_, _≤_};
 ghost use lib.ListN.{length, getD};
 ghost use Rattle.pagestore.specs.Layout.{leafOf};
 ghost use Rattle.pagestore.specs.LayoutLaws.{noRecord};
-ghost use Rattle.trees.specs.Trees.{keyOf};
+ghost use Rattle.tree_model.specs.Trees.{keyOf};
 ghost use Rattle.sound_pages.specs.Leads.{leadOf, leadTo, Leads};
 use geometry::Height;
 use geometry::Key;

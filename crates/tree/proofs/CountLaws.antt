@@ -12,7 +12,7 @@ use Rattle.pagestore.specs.declared.Entry.{Entry}
 use Rattle.pagestore.specs.declared.Inner.{Inner}
 use Rattle.pagestore.specs.Store.{countAt, innerAt, entriesIn}
 use Rattle.pagestore.specs.Store.PageLaws.{inner-counts, entries-slots}
-use Rattle.tree_parts.specs.Lookup.{leafCount}
+use Rattle.tree_core.specs.Lookup.{leafCount}
 
 -- the items of 16 slots, from place i on
 module _ {A : Type 0} (n : ℕ) (xs : List A) (slots : length xs ≡ 16) where

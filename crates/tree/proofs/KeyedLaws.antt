@@ -17,10 +17,10 @@ use Rattle.pagestore.specs.declared.Record.{Record}
 use Rattle.pagestore.specs.declared.Entry.{Entry}
 use Rattle.pagestore.specs.declared.Leaf.{Leaf}
 use Rattle.pagestore.specs.Store.{features, root, level, leafAt, innerAt, recordsIn, entriesIn, fieldAt}
-use Rattle.trees.specs.Trees.{rankOf}
+use Rattle.tree_model.specs.Trees.{rankOf}
 use Rattle.tree.specs.Entries.{choose, childAt}
 use Rattle.tree.specs.Keyed.{leafFor, same, samePoint, heldAmong, holdsAt}
-use Rattle.tree_parts.specs.CodeTerms.{otherIdent}
+use Rattle.tree_core.specs.CodeTerms.{otherIdent}
 
 -- ---- the leaf
 

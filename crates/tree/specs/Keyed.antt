@@ -7,7 +7,7 @@ use lib.ListN.{take}
 use Rattle.lists.specs.Basics.{pick}
 use Rattle.pagestore.specs.declared.Record.{Record}
 use Rattle.pagestore.specs.Store.{features, root, level, leafAt, innerAt, recordsIn, entriesIn, fieldAt}
-use Rattle.trees.specs.Trees.{rankOf}
+use Rattle.tree_model.specs.Trees.{rankOf}
 use Rattle.tree.specs.Entries.{choose, childAt}
 
 -- the leaf to which rank k leads from page p of level l: at each inner page the child that an insertion would choose

@@ -7,12 +7,12 @@ use pagestore::features_of;
 use pagestore::record_at;
 use pagestore::root_level;
 use pagestore::root_page;
-use tree_parts::child_of;
-use tree_parts::choose_at;
-use tree_parts::filled;
-use tree_parts::filled_at;
-use tree_parts::ident_place;
-use tree_parts::record_rank;
+use tree_core::child_of;
+use tree_core::choose_at;
+use tree_core::filled;
+use tree_core::filled_at;
+use tree_core::ident_place;
+use tree_core::record_rank;
 
 // The leaf to which a rank leads from a page; the level falls at each call.
 fn leaf_for(index: &[u8], page: u32, level: u8, rank: u64) -> u32

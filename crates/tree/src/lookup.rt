@@ -3,14 +3,14 @@ ghost use mathlib.Core.Path.{_≡_};
 ghost use Prim.Native.Nat.{_^_, _<_, _≤_};
 ghost use Rattle.lists.specs.Ascending.{headOr};
 ghost use Rattle.pagestore.specs.Store.{leafAt, recordsIn};
-ghost use Rattle.tree_parts.specs.Lookup.{blank, withIdent, findUnder, findIn, leafCount};
+ghost use Rattle.tree_core.specs.Lookup.{blank, withIdent, findUnder, findIn, leafCount};
 use pagestore::Record;
 use pagestore::entry_at;
 use pagestore::record_at;
 use pagestore::root_level;
 use pagestore::root_page;
-use tree_parts::filled_at;
-use tree_parts::ident_place;
+use tree_core::filled_at;
+use tree_core::ident_place;
 
 // In the place of a record, where there is none.
 fn blank_record() -> Record

@@ -5,11 +5,11 @@ ghost use Prim.Native.Nat.{_+_, _%_, _^_, _≤_};
 ghost use lib.Dec.{leb, eqb};
 ghost use Rattle.lists.specs.Basics.{pick, tick};
 ghost use Rattle.pagestore.specs.Store.{countAt};
-ghost use Rattle.tree_parts.specs.Insertion.{growRoot, addToTotal, insertInto, fullRun, pagesWanted};
-ghost use Rattle.tree_parts.specs.CodeTerms.{grownList};
-ghost use Rattle.tree_parts.specs.Held.{Held};
+ghost use Rattle.tree_core.specs.Insertion.{growRoot, addToTotal, insertInto, fullRun, pagesWanted};
+ghost use Rattle.tree_core.specs.CodeTerms.{grownList};
+ghost use Rattle.tree_core.specs.Held.{Held};
 use crate::insertion::insert_at;
-use free_pages::take_page;
+use pagestore_free::take_page;
 use pagestore::Entry;
 use pagestore::Inner;
 use pagestore::Record;
@@ -22,13 +22,13 @@ use pagestore::set_root_level;
 use pagestore::set_root_page;
 use pagestore::set_total_records;
 use pagestore::total_records;
-use tree_parts::Grown;
-use tree_parts::child_of;
-use tree_parts::choose_at;
-use tree_parts::inner_of;
-use tree_parts::no_entries;
-use tree_parts::push_entry;
-use tree_parts::record_rank;
+use tree_core::Grown;
+use tree_core::child_of;
+use tree_core::choose_at;
+use tree_core::inner_of;
+use tree_core::no_entries;
+use tree_core::push_entry;
+use tree_core::record_rank;
 
 // One level higher; above the highest that a page can have, 0.
 fn next_level(level: u8) -> u8

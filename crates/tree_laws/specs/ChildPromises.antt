@@ -17,8 +17,8 @@ use Rattle.lists.specs.Rising.{Rising, step, rising-of, rising-left, rising-rig
 use Rattle.geometry.specs.Keys.{keyNumber}
 use Rattle.pagestore.specs.declared.Entry.{Entry}
 use Rattle.pagestore.specs.Store.{innerAt, entriesIn, levelAt, viewOf}
-use Rattle.trees.specs.Trees.{Item, records, pages, noRecord, rankOf, entryOf, treeOf}
-use Rattle.trees.specs.Sound.{SoundIndex}
+use Rattle.tree_model.specs.Trees.{Item, records, pages, noRecord, rankOf, entryOf, treeOf}
+use Rattle.tree_model.specs.Sound.{SoundIndex}
 use Rattle.tree.specs.Entries.{notAbove, choose, noEntry}
 use Rattle.tree_laws.specs.Shapes.{Ok, Some, Root, ok-root, records-some, no-pages, first-rank}
 use Rattle.tree_laws.specs.LevelLaws.{root-level}

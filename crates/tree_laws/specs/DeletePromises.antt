@@ -9,8 +9,8 @@ use Rattle.lists.specs.Counts.{mult}
 use Rattle.lists.specs.Rising.{Falling}
 use Rattle.pagestore.specs.declared.Record.{Record}
 use Rattle.pagestore.specs.Store.{features, root, level, total, fieldAt, levelAt, freeAt, viewOf}
-use Rattle.trees.specs.Trees.{rankOf, identOf, treeOf, live}
-use Rattle.trees.specs.Sound.{SoundIndex}
+use Rattle.tree_model.specs.Trees.{rankOf, identOf, treeOf, live}
+use Rattle.tree_model.specs.Sound.{SoundIndex}
 use Rattle.tree.specs.Deletion.{deleteRecord, deleteAt, lowerRoot, takeFromTotal, deleteFrom}
 use Rattle.tree.specs.Lookup.{findIn}
 use Rattle.tree_laws.specs.Shapes.{Shape}

@@ -16,7 +16,7 @@ use Rattle.pagestore.specs.declared.Record.{Record}
 use Rattle.pagestore.specs.declared.Entry.{Entry}
 use Rattle.pagestore.specs.Store.{pageAt, features, root, level, freed, fieldAt, inRange, innerAt, entriesIn, freeAt, freePage}
 use Rattle.pagestore.specs.Store.FreeLaws.{page-free, free-free}
-use Rattle.trees.specs.Trees.{Item, records, pages, rankOf}
+use Rattle.tree_model.specs.Trees.{Item, records, pages, rankOf}
 use Rattle.tree.specs.Entries.{childAt}
 use Rattle.tree.specs.Deletion.{Deleted, deleteRecord, deleteAt, lowerRoot}
 use Rattle.tree_laws.specs.Shapes.{Ok, Some, Root, ok-root, Shape, noTree, child-at}

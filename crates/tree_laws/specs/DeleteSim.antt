@@ -21,7 +21,7 @@ use Rattle.pagestore.specs.Store.{pageAt, setPage, setLeaf, inRange, freeAt, fr
 use Rattle.pagestore.specs.Store.RangeLaws.{range-fits}
 use Rattle.pagestore.specs.Store.PageLaws.{page-same, page-other}
 use Rattle.pagestore.specs.Store.FreeLaws.{free-page, page-free, free-free}
-use Rattle.trees.specs.Trees.{Item, pages, rankOf, entryOf, node}
+use Rattle.tree_model.specs.Trees.{Item, pages, rankOf, entryOf, node}
 use Rattle.tree.specs.Entries.{choose, childAt, innerEntry}
 use Rattle.tree.specs.Insertion.{writeInner}
 use Rattle.tree.specs.Deletion.{Deleted, deleteRecord, evenItems, Evened, putEven, evenPages, leftOf, leave, mend, deleteAt}

@@ -16,7 +16,7 @@ use Rattle.lists.specs.Parts.{all-drop, all-set, flat-split, flat-three, flat-s
 use Rattle.lists.specs.Rising.{Rising, rising-left, rising-right}
 use Rattle.lists.specs.Runs.{all-take, all-at}
 use Rattle.pagestore.specs.declared.Record.{Record}
-use Rattle.trees.specs.Trees.{Item, records, pages, rankOf}
+use Rattle.tree_model.specs.Trees.{Item, records, pages, rankOf}
 use Rattle.tree.specs.Deletion.{deleteRecord, evenItems, leftOf}
 use Rattle.tree_laws.specs.Shapes.{Ok, Some, Root, ok-root, noTree, flat-records, no-pages, chosen, chosen-lt, before-chosen, behind-chosen}
 use Rattle.tree_laws.specs.Idents.{del-left, del-right, del-all, del-length}

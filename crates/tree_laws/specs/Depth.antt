@@ -9,7 +9,7 @@ use Rattle.lists.specs.Choices.{tick-le, tick-true}
 use Rattle.lists.specs.Counts.{mult, pigeons, all-of-mult}
 use Rattle.pagestore.specs.Store.{inRange, freeAt}
 use Rattle.pagestore.specs.Store.RangeLaws.{range-fits}
-use Rattle.trees.specs.Trees.{Item, pages}
+use Rattle.tree_model.specs.Trees.{Item, pages}
 use Rattle.tree_laws.specs.Shapes.{Ok, Some, Root}
 
 pow2 : ℕ → ℕ

@@ -7,7 +7,7 @@ use Rattle.lists.specs.Basics.{All, none, also, flat}
 use Rattle.lists.specs.Ascending.{headOr, lastOr, head-append, last-append, last-any}
 use Rattle.pagestore.specs.declared.Record.{Record}
 use Rattle.pagestore.specs.declared.Entry.{Entry}
-use Rattle.trees.specs.Trees.{Item, records, noRecord, keyOf, firstKey, lastKey, entryOf}
+use Rattle.tree_model.specs.Trees.{Item, records, noRecord, keyOf, firstKey, lastKey, entryOf}
 use Rattle.tree.specs.Entries.{noEntry, leafEntry, innerEntry}
 use Rattle.tree_laws.specs.Shapes.{Ok, records-some, flat-records}
 use Rattle.tree_laws.specs.KeysFit.{no-key}

@@ -15,7 +15,7 @@ use Rattle.pagestore.specs.Store.{Page, pageAt, setPage, Field, freed, fresh, A
 use Rattle.pagestore.specs.Store.RangeLaws.{range-high, range-fits, range-whole, range-same, pages-same}
 use Rattle.pagestore.specs.Store.PageLaws.{PageFits, leafFits, innerFits, length-set-page, field-page, field-other, field-same}
 use Rattle.pagestore.specs.Store.FreeLaws.{rest-page, length-take-page, field-take, rest-take, length-free-page, field-free, rest-free}
-use Rattle.trees.specs.Trees.{Item, records, pages, noRecord, firstKey, lastKey, entryOf, node}
+use Rattle.tree_model.specs.Trees.{Item, records, pages, noRecord, firstKey, lastKey, entryOf, node}
 use Rattle.tree_laws.specs.Shapes.{Ok, records-some}
 use Rattle.tree_laws.specs.KeysFit.{key-fits}
 

@@ -12,8 +12,8 @@ use Rattle.pagestore.specs.Store.{pageAt, Field, size, features, root, level, t
 use Rattle.pagestore.specs.Store.RangeLaws.{range-same, range-fits, range-whole, pages-same}
 use Rattle.pagestore.specs.Store.PageLaws.{length-set-field, field-same, field-other, page-field}
 use Rattle.pagestore.specs.Store.FreeLaws.{rest-field, free-field}
-use Rattle.trees.specs.Trees.{Item, records, pages, identOf, live}
-use Rattle.trees.specs.Sound.{Permitted, RecordOk, SoundIndex}
+use Rattle.tree_model.specs.Trees.{Item, records, pages, identOf, live}
+use Rattle.tree_model.specs.Sound.{Permitted, RecordOk, SoundIndex}
 use Rattle.tree_laws.specs.Shapes.{Shape}
 use Rattle.tree_laws.specs.Frames.{held-frame, Well, Kept}
 use Rattle.tree_laws.specs.Wholes.{Whole, Right, shapeAt, whole-shape, whole-live, whole-sound}

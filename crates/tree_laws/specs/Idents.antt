@@ -15,7 +15,7 @@ use Rattle.lists.specs.Rising.{Rising, end, step}
 use Rattle.lists.specs.Sorting.{ins}
 use Rattle.pagestore.specs.declared.Record.{Record}
 use Rattle.pagestore.specs.Fits.{RecordFits}
-use Rattle.trees.specs.Trees.{identOf, rankOf}
+use Rattle.tree_model.specs.Trees.{identOf, rankOf}
 use Rattle.tree.specs.Insertion.{insertRecord, keyBefore}
 use Rattle.tree.specs.Deletion.{deleteRecord}
 use Rattle.tree_laws.specs.KeysFit.{rank-ident}

@@ -18,8 +18,8 @@ use Rattle.pagestore.specs.Fits.{RecordFits}
 use Rattle.pagestore.specs.Store.{pageAt, levelOf, setPage, features, fieldAt, inRange, freeAt, takePage}
 use Rattle.pagestore.specs.Store.PageLaws.{page-other}
 use Rattle.pagestore.specs.Store.FreeLaws.{page-take}
-use Rattle.trees.specs.Trees.{Item, records, pages, rankOf, entryOf, node}
-use Rattle.trees.specs.TreeLaws.{level-node}
+use Rattle.tree_model.specs.Trees.{Item, records, pages, rankOf, entryOf, node}
+use Rattle.tree_model.specs.TreeLaws.{level-node}
 use Rattle.tree.specs.Insertion.{insertRecord, insertAt, growRoot}
 use Rattle.tree_laws.specs.InsertTree.{insertTree, runOf, Res, one, two, insert-records, insert-res, insert-took}
 use Rattle.tree_laws.specs.Frames.{Held}

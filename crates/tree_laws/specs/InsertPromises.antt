@@ -13,8 +13,8 @@ use Rattle.pagestore.specs.declared.Record.{Record}
 use Rattle.pagestore.specs.Fits.{RecordFits}
 use Rattle.pagestore.specs.Store.{features, root, level, total, fieldAt, setField, levelOf, levelAt, freeAt, viewOf}
 use Rattle.pagestore.specs.Store.PageLaws.{page-level, page-field}
-use Rattle.trees.specs.Trees.{rankOf, identOf, treeOf, live}
-use Rattle.trees.specs.Sound.{RecordOk, SoundIndex}
+use Rattle.tree_model.specs.Trees.{rankOf, identOf, treeOf, live}
+use Rattle.tree_model.specs.Sound.{RecordOk, SoundIndex}
 use Rattle.tree.specs.Insertion.{insertRecord, insertAt, growRoot, addToTotal, insertInto, pagesWanted}
 use Rattle.tree_laws.specs.Shapes.{Shape}
 use Rattle.tree_laws.specs.InsertTree.{insertedTree, runOf}

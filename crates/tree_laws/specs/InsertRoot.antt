@@ -15,7 +15,7 @@ use Rattle.pagestore.specs.declared.Record.{Record}
 use Rattle.pagestore.specs.Fits.{RecordFits}
 use Rattle.pagestore.specs.Store.{setPage, features, root, level, fieldAt, inRange, freeAt, takePage}
 use Rattle.pagestore.specs.Store.FreeLaws.{taken-first, free-take, page-take}
-use Rattle.trees.specs.Trees.{Item, records, pages, rankOf, entryOf, node}
+use Rattle.tree_model.specs.Trees.{Item, records, pages, rankOf, entryOf, node}
 use Rattle.tree.specs.Insertion.{Inserted, insertRecord, insertAt, growRoot}
 use Rattle.tree_laws.specs.Shapes.{Ok, Some}
 use Rattle.tree_laws.specs.InsertTree.{insertTree, rooted, insertedTree, runOf, Res, one, two, insert-records, insert-res, insert-page, insert-took, insert-kept}

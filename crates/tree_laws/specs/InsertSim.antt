@@ -22,8 +22,8 @@ use Rattle.pagestore.specs.Store.{leaf, inner, pageAt, setPage, setLeaf, leafAt
 use Rattle.pagestore.specs.Store.RangeLaws.{range-fits}
 use Rattle.pagestore.specs.Store.PageLaws.{page-same, page-other, leaf-view, inner-view, page-fill}
 use Rattle.pagestore.specs.Store.FreeLaws.{free-page, taken-first, page-take, free-take}
-use Rattle.trees.specs.Trees.{Item, records, pages, rankOf, entryOf, node}
-use Rattle.trees.specs.TreeLaws.{fill-node}
+use Rattle.tree_model.specs.Trees.{Item, records, pages, rankOf, entryOf, node}
+use Rattle.tree_model.specs.TreeLaws.{fill-node}
 use Rattle.tree.specs.Entries.{choose, childAt, replaced, leafEntry, innerEntry}
 use Rattle.tree.specs.Insertion.{Inserted, insertRecord, put, writeInner, insertAt, fullRun}
 use Rattle.tree_laws.specs.Shapes.{Ok, Some, Root, ok-root, noTree, no-pages, child-at, chosen, chosen-lt}

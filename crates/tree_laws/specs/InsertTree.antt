@@ -16,7 +16,7 @@ use Rattle.lists.specs.Runs.{all-take, all-at}
 use Rattle.lists.specs.Rising.{Rising, rising-left, rising-right, ins-left, ins-right, ins-all, length-ins}
 use Rattle.pagestore.specs.declared.Record.{Record}
 use Rattle.pagestore.specs.Fits.{RecordFits}
-use Rattle.trees.specs.Trees.{Item, records, pages, rankOf}
+use Rattle.tree_model.specs.Trees.{Item, records, pages, rankOf}
 use Rattle.tree.specs.Entries.{replaced}
 use Rattle.tree.specs.Insertion.{insertRecord}
 use Rattle.tree_laws.specs.Shapes.{Ok, Some, Root, ok-root, Shape, noTree, flat-records, no-pages, chosen, chosen-lt, before-chosen, behind-chosen}

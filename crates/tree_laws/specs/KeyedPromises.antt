@@ -21,8 +21,8 @@ use Rattle.lists.specs.Tests.{cases, false-true}
 use Rattle.pagestore.specs.declared.Record.{Record}
 use Rattle.pagestore.specs.Fits.{RecordFits}
 use Rattle.pagestore.specs.Store.{features, root, level, leafAt, innerAt, recordsIn, entriesIn, fieldAt, viewOf}
-use Rattle.trees.specs.Trees.{Item, records, rankOf, keyOf, identOf, treeOf, live}
-use Rattle.trees.specs.Sound.{SoundIndex}
+use Rattle.tree_model.specs.Trees.{Item, records, rankOf, keyOf, identOf, treeOf, live}
+use Rattle.tree_model.specs.Sound.{SoundIndex}
 use Rattle.tree.specs.Entries.{choose, childAt}
 use Rattle.tree.specs.Deletion.{Deleted, mend, deleteAt, deleteFrom}
 use Rattle.tree.specs.Lookup.{blank, withIdent, findIn}

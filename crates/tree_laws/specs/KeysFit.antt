@@ -16,7 +16,7 @@ use Rattle.geometry.specs.Points.{isNeg, heightOf, axisAt, axisOf, pyramidOf}
 use Rattle.geometry.specs.Stored.{coordOf, pointOf}
 use Rattle.pagestore.specs.declared.Record.{Record}
 use Rattle.pagestore.specs.Fits.{RecordFits, KeyFits}
-use Rattle.trees.specs.Trees.{noRecord, keyOf, rankOf}
+use Rattle.tree_model.specs.Trees.{noRecord, keyOf, rankOf}
 use Rattle.tree.specs.Entries.{noKey}
 
 coord-low : (x : ℕ) → x < 1000 → coordOf x ≡ negsuc (999 - x)

@@ -20,8 +20,8 @@ use Rattle.lists.specs.Tests.{false-true}
 use Rattle.pagestore.specs.declared.Record.{Record}
 use Rattle.pagestore.specs.Store.{pageAt, levelAt, levelOf}
 use Rattle.pagestore.specs.Store.PageLaws.{page-level}
-use Rattle.trees.specs.Trees.{Item, pages, rankOf}
-use Rattle.trees.specs.TreeLaws.{level-node}
+use Rattle.tree_model.specs.Trees.{Item, pages, rankOf}
+use Rattle.tree_model.specs.TreeLaws.{level-node}
 use Rattle.tree.specs.Entries.{replaced}
 use Rattle.tree.specs.Insertion.{insertRecord}
 use Rattle.tree.specs.Deletion.{leftOf}

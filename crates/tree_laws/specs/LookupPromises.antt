@@ -16,8 +16,8 @@ use Rattle.lists.specs.Sorting.{keep, sum}
 use Rattle.pagestore.specs.declared.Record.{Record}
 use Rattle.pagestore.specs.declared.Entry.{Entry}
 use Rattle.pagestore.specs.Store.{root, level, fieldAt, viewOf}
-use Rattle.trees.specs.Trees.{Item, records, leaves, identOf, entryOf, treeOf, live, leavesOf}
-use Rattle.trees.specs.Sound.{SoundIndex}
+use Rattle.tree_model.specs.Trees.{Item, records, leaves, identOf, entryOf, treeOf, live, leavesOf}
+use Rattle.tree_model.specs.Sound.{SoundIndex}
 use Rattle.tree.specs.Lookup.{recordsUnder, withIdent, blank, findUnder, findIn, leafEntries, leafCount}
 use Rattle.tree_laws.specs.Shapes.{flat-records}
 use Rattle.tree_laws.specs.Idents.{none-of}

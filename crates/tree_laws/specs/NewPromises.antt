@@ -13,8 +13,8 @@ use Rattle.lists.specs.Tests.{cases}
 use Rattle.pagestore.specs.Store.{pagesIn, inRange, freeAt, newIndex, viewOf}
 use Rattle.pagestore.specs.Store.RangeLaws.{range-is, range-high, range-zero, range-past, range-same, pages-same}
 use Rattle.pagestore.specs.Store.NewLaws.{New, length-new, new-index}
-use Rattle.trees.specs.Trees.{records, pages, identOf, node, live}
-use Rattle.trees.specs.Sound.{Permitted, SoundIndex}
+use Rattle.tree_model.specs.Trees.{records, pages, identOf, node, live}
+use Rattle.tree_model.specs.Sound.{Permitted, SoundIndex}
 use Rattle.tree_laws.specs.Shapes.{Some, Shape}
 use Rattle.tree_laws.specs.Frames.{Held}
 use Rattle.tree_laws.specs.Wholes.{Whole, Right, shapeAt, whole-shape, whole-live, whole-sound, view-d}

@@ -15,7 +15,7 @@ use Rattle.geometry.specs.Keys.{keyNumber}
 use Rattle.pagestore.specs.declared.Record.{Record}
 use Rattle.pagestore.specs.declared.Entry.{Entry}
 use Rattle.pagestore.specs.Fits.{RecordFits}
-use Rattle.trees.specs.Trees.{Item, records, pages, noRecord, firstKey, rankOf, entryOf}
+use Rattle.tree_model.specs.Trees.{Item, records, pages, noRecord, firstKey, rankOf, entryOf}
 use Rattle.tree.specs.Entries.{notAbove, choose, childAt}
 
 -- a page other than the root, with all below it: 8 to 16 items each, and records that fit

@@ -11,8 +11,8 @@ use Rattle.lists.specs.Counts.{mult, mult-append, length-once}
 use Rattle.pagestore.specs.declared.Record.{Record}
 use Rattle.pagestore.specs.Store.{inRange, pagesIn, freeAt, viewOf}
 use Rattle.pagestore.specs.Store.RangeLaws.{range-same}
-use Rattle.trees.specs.Trees.{pages, identOf, treeOf, live}
-use Rattle.trees.specs.Sound.{SoundIndex}
+use Rattle.tree_model.specs.Trees.{pages, identOf, treeOf, live}
+use Rattle.tree_model.specs.Sound.{SoundIndex}
 use Rattle.tree.specs.Insertion.{insertInto, pagesWanted}
 use Rattle.tree_laws.specs.Wholes.{sound-whole}
 use Rattle.tree_laws.specs.InsertPromises.{MayInsert, insert-sound, insert-pages, insert-length}

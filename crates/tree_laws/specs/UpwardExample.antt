@@ -19,8 +19,8 @@ use Rattle.geometry.specs.Stored.{pointOf, slotsOf}
 use Rattle.pagestore.specs.declared.Record.{Record}
 use Rattle.pagestore.specs.Fits.{RecordFits}
 use Rattle.pagestore.specs.Store.{pagesIn, freeAt, newIndex, viewOf}
-use Rattle.trees.specs.Trees.{Item, records, firstKey, entryOf, keyOf, rankOf, identOf, leaves, live, leavesOf}
-use Rattle.trees.specs.Sound.{Permitted, RecordOk, SoundIndex}
+use Rattle.tree_model.specs.Trees.{Item, records, firstKey, entryOf, keyOf, rankOf, identOf, leaves, live, leavesOf}
+use Rattle.tree_model.specs.Sound.{Permitted, RecordOk, SoundIndex}
 use Rattle.tree.specs.Insertion.{insertRecord, insertInto, pagesWanted}
 use Rattle.tree_laws.specs.Shapes.{Shape, chosen}
 use Rattle.tree_laws.specs.KeysFit.{coord-high}

@@ -14,9 +14,9 @@ use Rattle.pagestore.specs.Fits.{RecordFits}
 use Rattle.pagestore.specs.Store.{size, features, root, level, total, freed, fresh, fieldAt, inRange, leafAt, recordsIn, freedAt, freshAt, freeAt, View, viewOf}
 use Rattle.pagestore.specs.Store.RangeLaws.{range-past}
 use Rattle.pagestore.specs.Store.PageLaws.{records-fit as stored-fit}
-use Rattle.trees.specs.Trees.{Item, records, pages, rankOf, identOf, Rep, treeAt, treeOf, live}
-use Rattle.trees.specs.TreeLaws.{rep-is}
-use Rattle.trees.specs.Sound.{Permitted, isPage, freshPages, RootFilled, Filled, RecordOk, SoundIndex}
+use Rattle.tree_model.specs.Trees.{Item, records, pages, rankOf, identOf, Rep, treeAt, treeOf, live}
+use Rattle.tree_model.specs.TreeLaws.{rep-is}
+use Rattle.tree_model.specs.Sound.{Permitted, isPage, freshPages, RootFilled, Filled, RecordOk, SoundIndex}
 use Rattle.tree_laws.specs.Shapes.{Ok, Some, Root, Shape}
 use Rattle.tree_laws.specs.Frames.{Held, Well, records-fit}
 use Rattle.tree_laws.specs.InsertSim.{leaf-items}

@@ -45,22 +45,22 @@ use denote.Triple.Clauses.{ensured, lasts}
 use denote.Triple.Table.{entered, cited}
 use denote.Triple.Walked.{says, Stays, stay-none, stay-none-slice, walkOf, goes-none, goes-none-slice, Walks, ends-at, walked, walk-meets}
 use denote.Exit.{yes}
-use Rattle.candidates.specs.declared.Row.{Row}
-use Rattle.lending.specs.declared.Tally.{Tally}
-use Rattle.lending.specs.declared.Answer.{Answer}
+use Rattle.search_rows.specs.declared.Row.{Row}
+use Rattle.index_answer.specs.declared.Tally.{Tally}
+use Rattle.index_answer.specs.declared.Answer.{Answer}
 use Rattle.index.specs.declared.Returned.{Returned}
 use Rattle.index.specs.Questions.{Questioned}
 use Rattle.index.proofs.LocalLoans.{arrayOf, lies, back, lies-array, back-array}
-use Rattle.candidates.proofs.Row as P
-use Rattle.candidates.proofs.Row.Laws as P′
-use Rattle.lending.proofs.Tally as Q
-use Rattle.lending.proofs.Tally.Laws as Q′
+use Rattle.search_rows.proofs.Row as P
+use Rattle.search_rows.proofs.Row.Laws as P′
+use Rattle.index_answer.proofs.Tally as Q
+use Rattle.index_answer.proofs.Tally.Laws as Q′
 use Rattle.index.specs.declared.Criteria.{Criteria}
 use Rattle.index.specs.Asking.{questionOf}
 use Rattle.index.proofs.Criteria as U
 use Rattle.index.proofs.Criteria.Laws as U′
-use Rattle.lending.proofs.Answer as N
-use Rattle.lending.proofs.Answer.Laws as N′
+use Rattle.index_answer.proofs.Answer as N
+use Rattle.index_answer.proofs.Answer.Laws as N′
 use Rattle.index.proofs.Returned as D
 use Rattle.index.proofs.Returned.Laws as D′
 use Rattle.index.proofs.asking.question as question

@@ -9,10 +9,10 @@ use Rattle.index.proofs.asking.question_outcome as core
 use Rattle.index.proofs.asking.question_outcome.Symbol as core-def
 use Rattle.index.proofs.asking.question_outcome.Symbol.{name as #index·question-outcome}
 use Rattle.index.proofs.asking.question_outcome.Met as core-thm
-use Rattle.lending.proofs.deliver as deliver
-use Rattle.lending.proofs.deliver.Symbol as deliver-def
-use Rattle.lending.proofs.deliver.Symbol.{name as #lending·deliver}
-use Rattle.lending.proofs.deliver.Met as deliver-thm
+use Rattle.index_answer.proofs.deliver as deliver
+use Rattle.index_answer.proofs.deliver.Symbol as deliver-def
+use Rattle.index_answer.proofs.deliver.Symbol.{name as #index-answer·deliver}
+use Rattle.index_answer.proofs.deliver.Met as deliver-thm
 use Rattle.index.proofs.asking.question.Key.{name as #index·question}
 use Rattle.index.proofs.asking.question as question
 use Rattle.index.proofs.asking.question.Statement as stated
@@ -25,4 +25,4 @@ question-spec 𝓤 H 𝓜 𝓖 𝓡 =
     (tables 𝓤 H 𝓜 𝓡 code.env .C) (tables 𝓤 H 𝓜 𝓡 code.env .Λ) #index·question code.function (code.unfolded 𝓤 H 𝓜 𝓡)
     (question-meets #index·question-outcome QuestionOutcome Questioned question-hands 𝓤 H (𝓖 .A) (givenOf 𝓤 H 𝓜 𝓖) (𝓜 .mem) (𝓡 .run) (tablesOf 𝓤 H 𝓜 (tables 𝓤 H 𝓜 𝓡 code.env))
     (cited 𝓤 H (tripleOf 𝓤 H (𝓖 .A) core.signature (core.spec 𝓤 H (𝓖 .A) (𝓜 .mem) (𝓡 .run))) 𝓜 𝓡 code.env #index·question-outcome core-def.routine code.calls-index·asking·question-outcome (core-thm.met 𝓤 H 𝓜 𝓖 𝓡))
-    (cited 𝓤 H (tripleOf 𝓤 H (𝓖 .A) deliver.signature (deliver.spec 𝓤 H (𝓖 .A) (𝓜 .mem) (𝓡 .run))) 𝓜 𝓡 code.env #lending·deliver deliver-def.routine code.calls-lending·deliver (deliver-thm.met 𝓤 H 𝓜 𝓖 𝓡)))
+    (cited 𝓤 H (tripleOf 𝓤 H (𝓖 .A) deliver.signature (deliver.spec 𝓤 H (𝓖 .A) (𝓜 .mem) (𝓡 .run))) 𝓜 𝓡 code.env #index-answer·deliver deliver-def.routine code.calls-index-answer·deliver (deliver-thm.met 𝓤 H 𝓜 𝓖 𝓡)))

@@ -4,7 +4,7 @@ use borrow.Author.Tests.{eqb-true, eqb-false}
 use lib.Dec.{eqb}
 use Prim.Native.Nat.{_%_}
 use Rattle.lists.specs.Tests.{cases}
-use Rattle.trees.specs.Sound.{Permitted}
+use Rattle.tree_model.specs.Sound.{Permitted}
 use Rattle.index.specs.Outcomes.{holds, fails}
 use Rattle.index.proofs.making.permitted.Statement.{statement}
 use Rattle.index.proofs.making.permitted.Tie as tie

@@ -8,7 +8,7 @@ use lib.ListN.{length, getD}
 use Rattle.pagestore.specs.Layout.{leafOf}
 use Rattle.pagestore.specs.LayoutLaws.{noRecord}
 use Rattle.pagestore.specs.Store.{recordsIn}
-use Rattle.candidates.specs.Held.{rowsIn, Held}
+use Rattle.search_rows.specs.Held.{rowsIn, Held}
 use Rattle.search.specs.Asked.{askingPoint}
 use Rattle.search.specs.Columns.{recordIn, Sums}
 use Rattle.search.proofs.ColumnLaws.{sums-start, sums-end}

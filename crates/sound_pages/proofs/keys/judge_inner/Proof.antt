@@ -1,5 +1,5 @@
 use Prim.Native.Nat.{_-_, _≤_, ℕ}
-use Rattle.faults.specs.Faults.{ends}
+use Rattle.sound_faults.specs.Faults.{ends}
 use Rattle.lists.specs.Basics.{flat}
 use Rattle.pagestore.specs.LayoutLaws.{noEntry}
 use Rattle.pagestore.specs.Store.{innerAt}

@@ -1,4 +1,4 @@
-use Rattle.faults.specs.Assembled.{reached-page, rooted}
+use Rattle.sound_faults.specs.Assembled.{reached-page, rooted}
 use Rattle.pagestore.specs.Store.{innerAt, leafAt, levelAt, viewOf}
 use Rattle.pagestore.specs.Store.RangeLaws.{range-is}
 use Rattle.sound_pages.proofs.EntryLaws.{inner-few, leaf-few}

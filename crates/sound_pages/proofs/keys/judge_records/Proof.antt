@@ -6,8 +6,8 @@ use Rattle.pagestore.specs.declared.Record.{Record}
 use Rattle.sound_pages.proofs.JudgeLaws.{all-more, faults, passes, ranks-step, ranks-stop, rising-start, span-faulty, span-fine, take-spot}
 use Rattle.sound_pages.proofs.KeyLaws.{key-judged, rank-is}
 use Rattle.sound_pages.specs.Judged.{RecordsBad, Rising}
-use Rattle.trees.specs.Sound.{RecordOk}
-use Rattle.trees.specs.Trees.{rankOf}
+use Rattle.tree_model.specs.Sound.{RecordOk}
+use Rattle.tree_model.specs.Trees.{rankOf}
 use borrow.Author.Needs.{needs}
 use borrow.Author.Tests.{not-false, not-true}
 use lib.ListN.{getD, take}

@@ -1,5 +1,5 @@
 use Prim.Native.Nat.{_-_, _<_, _≤_, ℕ}
-use Rattle.faults.specs.Assembled.{reached-page}
+use Rattle.sound_faults.specs.Assembled.{reached-page}
 use Rattle.lists.specs.Sorting.{keep}
 use Rattle.pagestore.specs.LayoutLaws.{noEntry}
 use Rattle.pagestore.specs.Store.{innerAt, levelAt, viewOf}

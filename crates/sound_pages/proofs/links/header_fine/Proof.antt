@@ -5,7 +5,7 @@ use Rattle.sound_pages.proofs.JudgeLaws.{judge-eq}
 use Rattle.sound_pages.specs.Judged.{Judges}
 use Rattle.pagestore.specs.Store.{viewOf, levelOf}
 use Rattle.sound_pages.proofs.ViewLaws.{view-level}
-use Rattle.faults.specs.Faults.{FailsAt}
+use Rattle.sound_faults.specs.Faults.{FailsAt}
 use Rattle.sound_pages.proofs.TurnLaws.{root-fails}
 use borrow.Author.Needs.{needs}
 use Rattle.sound_pages.proofs.links.header_fine.Statement.{statement}

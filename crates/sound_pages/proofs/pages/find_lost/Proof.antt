@@ -1,5 +1,5 @@
 use mathlib.Core.Logic.{_⊎_}
-use Rattle.faults.specs.Linked.{InState}
+use Rattle.sound_faults.specs.Linked.{InState}
 use mathlib.Core.Path.{subst}
 use Prim.Native.Nat.{ℕ, _-_, _≤_, _<_}
 use native.Mathlib.Omega.{arith}
@@ -7,7 +7,7 @@ use Rattle.sound_pages.proofs.JudgeLaws.{passes, faults}
 use Rattle.sound_pages.specs.Judged.{Found}
 use borrow.Author.Tests.{not-true, not-false}
 use Rattle.pagestore.specs.Store.{viewOf}
-use Rattle.faults.specs.Faults.{IsPage}
+use Rattle.sound_faults.specs.Faults.{IsPage}
 use Rattle.sound_pages.specs.Marks.{Marked, Seen}
 use Rattle.sound_pages.proofs.TurnLaws.{state-more, state-of, state-lost, state-all}
 use Rattle.sound_pages.proofs.pages.find_lost.Statement.{statement}

@@ -1,6 +1,6 @@
 use Prim.Native.Nat.{_*_, _+_, _-_, _≤_, ℕ}
-use Rattle.faults.specs.Faults.{EntryAt}
-use Rattle.faults.specs.Linked.{EntryFine}
+use Rattle.sound_faults.specs.Faults.{EntryAt}
+use Rattle.sound_faults.specs.Linked.{EntryFine}
 use Rattle.pagestore.specs.LayoutLaws.{noEntry}
 use Rattle.pagestore.specs.Store.{innerAt, viewOf}
 use Rattle.pagestore.specs.declared.Entry.{Entry}

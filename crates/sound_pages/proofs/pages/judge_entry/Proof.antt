@@ -1,6 +1,6 @@
 use Prim.Native.Nat.{_<_, ℕ}
-use Rattle.faults.specs.Assembled.{reached-page}
-use Rattle.faults.specs.Faults.{EntryFault}
+use Rattle.sound_faults.specs.Assembled.{reached-page}
+use Rattle.sound_faults.specs.Faults.{EntryFault}
 use Rattle.pagestore.specs.Store.{levelOf, viewOf}
 use Rattle.sound_pages.proofs.EndsLaws.{ends-fault, first-right, last-right}
 use Rattle.sound_pages.proofs.EntryLaws.{mark-level, mark-other, mark-reached, past-fresh, reached-fill}

@@ -1,11 +1,11 @@
 use Prim.Native.Nat.{_*_, _-_, _<_, _≤_, ℕ}
-use Rattle.faults.specs.Faults.{FailsAt}
+use Rattle.sound_faults.specs.Faults.{FailsAt}
 use Rattle.pagestore.specs.Store.{viewOf}
 use Rattle.sound_pages.proofs.JudgeLaws.{faults, passes}
 use Rattle.sound_pages.proofs.TurnLaws.{named-start}
 use Rattle.sound_pages.specs.Judged.{Found}
 use Rattle.sound_pages.specs.Marks.{Named}
-use Rattle.trees.specs.Trees.{pages}
+use Rattle.tree_model.specs.Trees.{pages}
 use borrow.Author.Tests.{not-false, not-true}
 use lib.ListN.{length}
 use mathlib.Core.Path.{_∙_, _≡_, refl, subst}

@@ -10,8 +10,8 @@ use borrow.Fn.PlainCycle.{Measures, is, falls, and}
 use Rattle.tree.proofs.keyed.leaf_for.Reads as leaf-for
 use Rattle.tree.proofs.keyed.leaf_for.Kinds as leaf-for-kinds
 use Rattle.tree.proofs.keyed.+leaf_for.Lts-leaf_for as leaf-for-lts
-use Rattle.tree_parts.proofs.child_of.Reads as child-of-reads
-use Rattle.tree_parts.proofs.choose_at.Reads as choose-at-reads
+use Rattle.tree_core.proofs.child_of.Reads as child-of-reads
+use Rattle.tree_core.proofs.choose_at.Reads as choose-at-reads
 use Rattle.tree.proofs.keyed.+leaf_for.{statement}
 use Rattle.tree.proofs.keyed.+leaf_for.Tie.{close}
 

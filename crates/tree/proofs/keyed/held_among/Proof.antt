@@ -13,8 +13,8 @@ use Rattle.tree.proofs.keyed.held_among.Tie as tie
 use Rattle.tree.proofs.keyed.held_among.Reads as reads
 use Rattle.tree.proofs.keyed.held_among.Lts as lts
 use Rattle.pagestore.proofs.record_at.Reads as record-at-reads
-use Rattle.tree_parts.proofs.filled_at.Reads as filled-at-reads
-use Rattle.tree_parts.proofs.ident_place.Reads as ident-place-reads
+use Rattle.tree_core.proofs.filled_at.Reads as filled-at-reads
+use Rattle.tree_core.proofs.ident_place.Reads as ident-place-reads
 use Rattle.tree.proofs.keyed.same_point.Reads as same-point-reads
 
 filled-at-requires : tie.Need-filled-at-requires

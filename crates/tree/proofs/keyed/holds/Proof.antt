@@ -11,7 +11,7 @@ use Rattle.pagestore.proofs.root_level.Reads as root-level-reads
 use Rattle.pagestore.proofs.root_page.Reads as root-page-reads
 use Rattle.tree.proofs.keyed.held_among.Reads as held-among-reads
 use Rattle.tree.proofs.keyed.leaf_for.Reads as leaf-for-reads
-use Rattle.tree_parts.proofs.record_rank.Reads as record-rank-reads
+use Rattle.tree_core.proofs.record_rank.Reads as record-rank-reads
 
 features-of-requires : tie.Need-features-of-requires
 features-of-requires c κs = search needs

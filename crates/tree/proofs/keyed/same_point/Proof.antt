@@ -2,14 +2,14 @@ use mathlib.Core.Path.{_≡_, refl}
 use Prim.Native.Nat.{_+_, _-_, _≤_, _<_, min}
 use native.Mathlib.Omega.{arith}
 use lib.ListN.{length}
-use Rattle.tree_parts.proofs.HeldLaws.{unmapped}
+use Rattle.tree_core.proofs.HeldLaws.{unmapped}
 use Rattle.tree.proofs.KeyedLaws.{Rests, rests-next, rests-differ, rests-end, point-is}
 use borrow.Author.Needs.{needs}
 use Rattle.tree.proofs.keyed.same_point.Statement.{statement}
 use Rattle.tree.proofs.keyed.same_point.Tie as tie
 use Rattle.tree.proofs.keyed.same_point.Reads as reads
 use Rattle.tree.proofs.keyed.same_point.Lts as lts
-use Rattle.tree_parts.proofs.filled.Reads as filled-reads
+use Rattle.tree_core.proofs.filled.Reads as filled-reads
 
 abbrev Inv-loop : tie.InvT-loop
 Inv-loop d n xs ys m₀ m = (n ≡ min 16 d) × (length xs ≡ 16) × (length ys ≡ 16) × (m ≤ n) × Rests d xs ys m

@@ -6,9 +6,9 @@ use denote.Ref.{now}
 use Rattle.pagestore.specs.declared.Entry.{Entry}
 use Rattle.pagestore.specs.Store.{leafAt, innerAt, entriesIn}
 use Rattle.pagestore.specs.Store.PageLaws.{inner-counts, entries-slots}
-use Rattle.tree_parts.specs.Lookup.{findUnder}
-use Rattle.tree_parts.proofs.EntryLaws.{length-filled}
-use Rattle.tree_parts.proofs.LookupLaws.{Seeks, seeks-start, seeks-found, seeks-next, seeks-end, find-leaf}
+use Rattle.tree_core.specs.Lookup.{findUnder}
+use Rattle.tree_core.proofs.EntryLaws.{length-filled}
+use Rattle.tree_core.proofs.LookupLaws.{Seeks, seeks-start, seeks-found, seeks-next, seeks-end, find-leaf}
 use borrow.Author.Needs.{needs}
 use borrow.Fn.Kinds.{In}
 use borrow.Fn.PlainCycle.{Measures, is, falls, and}
@@ -16,7 +16,7 @@ use Rattle.tree.proofs.lookup.find_under.Reads as find-under
 use Rattle.tree.proofs.lookup.find_under.Kinds as find-under-kinds
 use Rattle.tree.proofs.lookup.+find_under.Lts-find_under as find-under-lts
 use Rattle.pagestore.proofs.entry_at.Reads as entry-at-reads
-use Rattle.tree_parts.proofs.filled_at.Reads as filled-at-reads
+use Rattle.tree_core.proofs.filled_at.Reads as filled-at-reads
 use Rattle.tree.proofs.lookup.blank_record.Reads as blank-record-reads
 use Rattle.tree.proofs.lookup.find_in_leaf.Reads as find-in-leaf-reads
 use Rattle.tree.proofs.lookup.+find_under.{statement}

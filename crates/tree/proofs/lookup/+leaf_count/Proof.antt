@@ -6,7 +6,7 @@ use denote.Ref.{now}
 use borrow.Author.Needs.{needs}
 use Rattle.pagestore.specs.declared.Entry.{Entry}
 use Rattle.pagestore.specs.Store.{innerAt, entriesIn}
-use Rattle.tree_parts.specs.Lookup.{leafCount}
+use Rattle.tree_core.specs.Lookup.{leafCount}
 use Rattle.tree.proofs.CountLaws.{countFrom, inner-number, swapped, count-most, count-leaf, count-low, count-start, count-next, count-end}
 use Rattle.tree.proofs.CountLaws as laws
 use Prim.Native.Nat.{ℕ, _<_}
@@ -16,7 +16,7 @@ use Rattle.tree.proofs.lookup.leaf_count.Reads as leaf-count
 use Rattle.tree.proofs.lookup.leaf_count.Kinds as leaf-count-kinds
 use Rattle.tree.proofs.lookup.+leaf_count.Lts-leaf_count as leaf-count-lts
 use Rattle.pagestore.proofs.entry_at.Reads as entry-at-reads
-use Rattle.tree_parts.proofs.filled_at.Reads as filled-at-reads
+use Rattle.tree_core.proofs.filled_at.Reads as filled-at-reads
 use Rattle.tree.proofs.lookup.+leaf_count.{statement}
 use Rattle.tree.proofs.lookup.+leaf_count.Tie.{close}
 

@@ -1,5 +1,5 @@
 use denote.Ref.{now}
-use Rattle.tree_parts.proofs.LookupLaws.{find-is}
+use Rattle.tree_core.proofs.LookupLaws.{find-is}
 use borrow.Author.Needs.{needs}
 use Rattle.tree.proofs.lookup.find.Statement.{statement}
 use Rattle.tree.proofs.lookup.find.Tie as tie

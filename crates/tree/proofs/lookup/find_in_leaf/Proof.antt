@@ -4,16 +4,16 @@ use native.Mathlib.Omega.{arith}
 use denote.Ref.{now}
 use Rattle.pagestore.specs.Store.{leafAt}
 use Rattle.pagestore.specs.Store.PageLaws.{leaf-counts, records-slots}
-use Rattle.tree_parts.proofs.LookupLaws.{found-is, absent-is}
+use Rattle.tree_core.proofs.LookupLaws.{found-is, absent-is}
 use borrow.Author.Needs.{needs}
 use Rattle.tree.proofs.lookup.find_in_leaf.Statement.{statement}
 use Rattle.tree.proofs.lookup.find_in_leaf.Tie as tie
 use Rattle.tree.proofs.lookup.find_in_leaf.Reads as reads
 use Rattle.tree.proofs.lookup.find_in_leaf.Lts as lts
 use Rattle.pagestore.proofs.record_at.Reads as record-at-reads
-use Rattle.tree_parts.proofs.filled_at.Reads as filled-at-reads
+use Rattle.tree_core.proofs.filled_at.Reads as filled-at-reads
 use Rattle.tree.proofs.lookup.blank_record.Reads as blank-record-reads
-use Rattle.tree_parts.proofs.ident_place.Reads as ident-place-reads
+use Rattle.tree_core.proofs.ident_place.Reads as ident-place-reads
 
 filled-at-requires : tie.Need-filled-at-requires
 filled-at-requires c κs = search needs

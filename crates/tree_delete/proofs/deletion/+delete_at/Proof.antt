@@ -4,7 +4,7 @@ use native.Mathlib.Nat.{pos-of-ne-zero}
 use native.Mathlib.Omega.{arith}
 use denote.Ref.{now}
 use Rattle.pagestore.specs.Store.{entriesIn}
-use Rattle.tree_parts.proofs.DeletionLaws.{delete-zero, delete-inner}
+use Rattle.tree_core.proofs.DeletionLaws.{delete-zero, delete-inner}
 use borrow.Author.Needs.{needs}
 use borrow.Fn.Kinds.{In}
 use borrow.Fn.PlainCycle.{Measures, is, falls, and}
@@ -14,8 +14,8 @@ use Rattle.tree_delete.proofs.deletion.+delete_at.Lts-delete_at as dele
 use Rattle.pagestore.proofs.inner_at.Reads as inner-at-reads
 use Rattle.tree_delete.proofs.deletion.delete_leaf.Reads as delete-leaf-reads
 use Rattle.tree_delete.proofs.deletion.mend_page.Reads as mend-page-reads
-use Rattle.tree_parts.proofs.child_of.Reads as child-of-reads
-use Rattle.tree_parts.proofs.choose_at.Reads as choose-at-reads
+use Rattle.tree_core.proofs.child_of.Reads as child-of-reads
+use Rattle.tree_core.proofs.choose_at.Reads as choose-at-reads
 use Rattle.tree_delete.proofs.deletion.+delete_at.{statement}
 use Rattle.tree_delete.proofs.deletion.+delete_at.Tie.{close}
 

@@ -1,5 +1,5 @@
 use denote.Ref.{now}
-use Rattle.tree_parts.proofs.DeletionLaws.{delete-steps}
+use Rattle.tree_core.proofs.DeletionLaws.{delete-steps}
 use borrow.Author.Needs.{needs}
 use Rattle.tree_delete.proofs.deletion.delete.Statement.{statement}
 use Rattle.tree_delete.proofs.deletion.delete.Tie as tie
@@ -11,7 +11,7 @@ use Rattle.pagestore.proofs.root_page.Reads as root-page-reads
 use Rattle.tree_delete.proofs.deletion.delete_at.Reads as delete-at-reads
 use Rattle.tree_delete.proofs.deletion.lower_root.Reads as lower-root-reads
 use Rattle.tree_delete.proofs.deletion.take_from_total.Reads as take-from-total-reads
-use Rattle.tree_parts.proofs.record_rank.Reads as record-rank-reads
+use Rattle.tree_core.proofs.record_rank.Reads as record-rank-reads
 
 features-of-requires : tie.Need-features-of-requires
 features-of-requires c κs = search needs

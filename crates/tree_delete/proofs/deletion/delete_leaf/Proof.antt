@@ -9,7 +9,7 @@ use Rattle.pagestore.specs.Store.{leafAt, recordsIn}
 use Rattle.pagestore.specs.Store.PageLaws.{records-slots}
 use Rattle.pagestore.specs.declared.Leaf.{Leaf}
 use Rattle.pagestore.specs.declared.Record.{Record}
-use Rattle.tree_parts.proofs.DeletionLaws.{delete-is, delete-leaf}
+use Rattle.tree_core.proofs.DeletionLaws.{delete-is, delete-leaf}
 use borrow.Author.Needs.{needs}
 use Rattle.tree_delete.proofs.deletion.delete_leaf.Statement.{statement}
 use Rattle.tree_delete.proofs.deletion.delete_leaf.Tie as tie
@@ -18,8 +18,8 @@ use Rattle.tree_delete.proofs.deletion.delete_leaf.Lts as lts
 use Rattle.pagestore.proofs.leaf_at.Reads as leaf-at-reads
 use Rattle.pagestore.proofs.set_leaf.Reads as set-leaf-reads
 use Rattle.tree_delete.proofs.deletion.without_record.Reads as without-record-reads
-use Rattle.tree_parts.proofs.ident_place.Reads as ident-place-reads
-use Rattle.tree_parts.proofs.leaf_entry.Reads as leaf-entry-reads
+use Rattle.tree_core.proofs.ident_place.Reads as ident-place-reads
+use Rattle.tree_core.proofs.leaf_entry.Reads as leaf-entry-reads
 
 leaf-at-requires : tie.Need-leaf-at-requires
 leaf-at-requires c κs = search needs

@@ -5,10 +5,10 @@ use native.Mathlib.Omega.{arith}
 use lib.ListN.{length, take, drop, length-append, length-take, length-drop}
 use lib.Seq.{slice, take-all}
 use denote.Ref.{now}
-use Rattle.tree_parts.specs.Held.{Held}
-use Rattle.tree_parts.proofs.HeldLaws.{unmapped, held-then, held-is, held-whole}
-use Rattle.tree_parts.proofs.EntryLaws.{length-filled}
-use Rattle.tree_parts.proofs.DeletionLaws.{evened-is}
+use Rattle.tree_core.specs.Held.{Held}
+use Rattle.tree_core.proofs.HeldLaws.{unmapped, held-then, held-is, held-whole}
+use Rattle.tree_core.proofs.EntryLaws.{length-filled}
+use Rattle.tree_core.proofs.DeletionLaws.{evened-is}
 use borrow.Author.Needs.{needs}
 use Rattle.tree_delete.proofs.deletion.even_out.Statement.{statement}
 use Rattle.tree_delete.proofs.deletion.even_out.Tie as tie
@@ -17,9 +17,9 @@ use Rattle.tree_delete.proofs.deletion.even_out.Lts as lts
 use Rattle.tree_delete.proofs.deletion.leave_page.Reads as leave-page-reads
 use Rattle.tree_delete.proofs.deletion.left_of.Reads as left-of-reads
 use Rattle.tree_delete.proofs.deletion.replace_pair.Reads as replace-pair-reads
-use Rattle.tree_parts.proofs.child_at.Reads as child-at-reads
+use Rattle.tree_core.proofs.child_at.Reads as child-at-reads
 use Rattle.tree_delete.proofs.evening.even_pages.Reads as even-pages-reads
-use Rattle.tree_parts.proofs.filled.Reads as filled-reads
+use Rattle.tree_core.proofs.filled.Reads as filled-reads
 
 filled-requires : tie.Need-filled-requires
 filled-requires c κs = search needs

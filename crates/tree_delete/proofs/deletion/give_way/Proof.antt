@@ -1,15 +1,15 @@
 use mathlib.Core.Path.{refl}
 use denote.Ref.{now}
-use Rattle.tree_parts.proofs.DeletionLaws.{root-gives}
+use Rattle.tree_core.proofs.DeletionLaws.{root-gives}
 use borrow.Author.Needs.{needs}
 use Rattle.tree_delete.proofs.deletion.give_way.Statement.{statement}
 use Rattle.tree_delete.proofs.deletion.give_way.Tie as tie
 use Rattle.tree_delete.proofs.deletion.give_way.Reads as reads
 use Rattle.tree_delete.proofs.deletion.give_way.Lts as lts
-use Rattle.free_pages.proofs.free_page.Reads as free-page-reads
+use Rattle.pagestore_free.proofs.free_page.Reads as free-page-reads
 use Rattle.pagestore.proofs.set_root_level.Reads as set-root-level-reads
 use Rattle.pagestore.proofs.set_root_page.Reads as set-root-page-reads
-use Rattle.tree_parts.proofs.child_of.Reads as child-of-reads
+use Rattle.tree_core.proofs.child_of.Reads as child-of-reads
 
 child-of-requires : tie.Need-child-of-requires
 child-of-requires c κs = search needs

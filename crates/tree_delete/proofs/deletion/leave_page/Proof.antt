@@ -5,18 +5,18 @@ use native.Mathlib.Omega.{arith}
 use lib.ListN.{length, take, drop, length-append, length-take, length-drop}
 use lib.Seq.{slice, take-all}
 use denote.Ref.{now}
-use Rattle.tree_parts.specs.Held.{Held}
-use Rattle.tree_parts.proofs.HeldLaws.{unmapped, held-then, held-is, held-whole}
-use Rattle.tree_parts.proofs.EntryLaws.{length-filled}
-use Rattle.tree_parts.proofs.DeletionLaws.{leave-is}
+use Rattle.tree_core.specs.Held.{Held}
+use Rattle.tree_core.proofs.HeldLaws.{unmapped, held-then, held-is, held-whole}
+use Rattle.tree_core.proofs.EntryLaws.{length-filled}
+use Rattle.tree_core.proofs.DeletionLaws.{leave-is}
 use borrow.Author.Needs.{needs}
 use Rattle.tree_delete.proofs.deletion.leave_page.Statement.{statement}
 use Rattle.tree_delete.proofs.deletion.leave_page.Tie as tie
 use Rattle.tree_delete.proofs.deletion.leave_page.Reads as reads
 use Rattle.tree_delete.proofs.deletion.leave_page.Lts as lts
 use Rattle.pagestore.proofs.set_inner.Reads as set-inner-reads
-use Rattle.tree_parts.proofs.inner_entry.Reads as inner-entry-reads
-use Rattle.tree_parts.proofs.filled.Reads as filled-reads
+use Rattle.tree_core.proofs.inner_entry.Reads as inner-entry-reads
+use Rattle.tree_core.proofs.filled.Reads as filled-reads
 
 set-inner-requires : tie.Need-set-inner-requires
 set-inner-requires c κs = search needs

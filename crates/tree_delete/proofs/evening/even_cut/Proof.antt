@@ -5,10 +5,10 @@ use native.Mathlib.Omega.{arith}
 use lib.ListN.{length, take, drop, length-append, length-take, length-drop}
 use lib.Seq.{slice, take-all}
 use denote.Ref.{now}
-use Rattle.tree_parts.specs.Held.{Held}
-use Rattle.tree_parts.proofs.HeldLaws.{unmapped, held-then, held-is, held-whole}
+use Rattle.tree_core.specs.Held.{Held}
+use Rattle.tree_core.proofs.HeldLaws.{unmapped, held-then, held-is, held-whole}
 use borrow.Author.Tests.{lt-ltb, le-ltb}
-use Rattle.tree_parts.specs.CodeTerms.{evenCut}
+use Rattle.tree_core.specs.CodeTerms.{evenCut}
 use borrow.Author.Needs.{needs}
 use Rattle.tree_delete.proofs.evening.even_cut.Statement.{statement}
 use Rattle.tree_delete.proofs.evening.even_cut.Tie as tie

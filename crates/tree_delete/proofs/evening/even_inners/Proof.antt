@@ -5,10 +5,10 @@ use native.Mathlib.Omega.{arith}
 use lib.ListN.{length, take, drop, length-append, length-take, length-drop}
 use lib.Seq.{slice, take-all}
 use denote.Ref.{now}
-use Rattle.tree_parts.specs.Held.{Held}
-use Rattle.tree_parts.proofs.HeldLaws.{unmapped, held-then, held-is, held-whole}
-use Rattle.tree_parts.proofs.EntryLaws.{length-filled}
-use Rattle.tree_parts.proofs.DeletionLaws.{even-join, even-share, even-inners}
+use Rattle.tree_core.specs.Held.{Held}
+use Rattle.tree_core.proofs.HeldLaws.{unmapped, held-then, held-is, held-whole}
+use Rattle.tree_core.proofs.EntryLaws.{length-filled}
+use Rattle.tree_core.proofs.DeletionLaws.{even-join, even-share, even-inners}
 use borrow.Author.Needs.{needs}
 use Rattle.tree_delete.proofs.evening.even_inners.Statement.{statement}
 use Rattle.tree_delete.proofs.evening.even_inners.Tie as tie
@@ -20,7 +20,7 @@ use Rattle.tree_delete.proofs.evening.first_entries.Reads as first-entr
 use Rattle.tree_delete.proofs.evening.last_entries.Reads as last-entries-reads
 use Rattle.tree_delete.proofs.evening.put_joined_inner.Reads as put-joined-inner-reads
 use Rattle.tree_delete.proofs.evening.put_shared_inner.Reads as put-shared-inner-reads
-use Rattle.tree_parts.proofs.filled.Reads as filled-reads
+use Rattle.tree_core.proofs.filled.Reads as filled-reads
 
 inner-at-requires : tie.Need-inner-at-requires
 inner-at-requires c κs = search needs

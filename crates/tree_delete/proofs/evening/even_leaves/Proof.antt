@@ -5,10 +5,10 @@ use native.Mathlib.Omega.{arith}
 use lib.ListN.{length, take, drop, length-append, length-take, length-drop}
 use lib.Seq.{slice, take-all}
 use denote.Ref.{now}
-use Rattle.tree_parts.specs.Held.{Held}
-use Rattle.tree_parts.proofs.HeldLaws.{unmapped, held-then, held-is, held-whole}
-use Rattle.tree_parts.proofs.EntryLaws.{length-filled}
-use Rattle.tree_parts.proofs.DeletionLaws.{even-join, even-share, even-leaves}
+use Rattle.tree_core.specs.Held.{Held}
+use Rattle.tree_core.proofs.HeldLaws.{unmapped, held-then, held-is, held-whole}
+use Rattle.tree_core.proofs.EntryLaws.{length-filled}
+use Rattle.tree_core.proofs.DeletionLaws.{even-join, even-share, even-leaves}
 use borrow.Author.Needs.{needs}
 use Rattle.tree_delete.proofs.evening.even_leaves.Statement.{statement}
 use Rattle.tree_delete.proofs.evening.even_leaves.Tie as tie
@@ -20,7 +20,7 @@ use Rattle.tree_delete.proofs.evening.first_records.Reads as first-reco
 use Rattle.tree_delete.proofs.evening.last_records.Reads as last-records-reads
 use Rattle.tree_delete.proofs.evening.put_joined_leaf.Reads as put-joined-leaf-reads
 use Rattle.tree_delete.proofs.evening.put_shared_leaf.Reads as put-shared-leaf-reads
-use Rattle.tree_parts.proofs.filled.Reads as filled-reads
+use Rattle.tree_core.proofs.filled.Reads as filled-reads
 
 leaf-at-requires : tie.Need-leaf-at-requires
 leaf-at-requires c κs = search needs

@@ -5,20 +5,20 @@ use native.Mathlib.Omega.{arith}
 use lib.ListN.{length, take, drop, length-append, length-take, length-drop}
 use lib.Seq.{slice, take-all}
 use denote.Ref.{now}
-use Rattle.tree_parts.specs.Held.{Held}
-use Rattle.tree_parts.proofs.HeldLaws.{unmapped, held-then, held-is, held-whole}
+use Rattle.tree_core.specs.Held.{Held}
+use Rattle.tree_core.proofs.HeldLaws.{unmapped, held-then, held-is, held-whole}
 use Rattle.pagestore.specs.Store.{setLeaf}
-use Rattle.tree_parts.specs.Entries.{leafEntry, innerEntry}
-use Rattle.tree_parts.specs.Insertion.{writeInner}
-use Rattle.tree_parts.proofs.DeletionLaws.{put-joined}
+use Rattle.tree_core.specs.Entries.{leafEntry, innerEntry}
+use Rattle.tree_core.specs.Insertion.{writeInner}
+use Rattle.tree_core.proofs.DeletionLaws.{put-joined}
 use borrow.Author.Needs.{needs}
 use Rattle.tree_delete.proofs.evening.put_joined_leaf.Statement.{statement}
 use Rattle.tree_delete.proofs.evening.put_joined_leaf.Tie as tie
 use Rattle.tree_delete.proofs.evening.put_joined_leaf.Reads as reads
 use Rattle.tree_delete.proofs.evening.put_joined_leaf.Lts as lts
-use Rattle.free_pages.proofs.free_page.Reads as free-page-reads
+use Rattle.pagestore_free.proofs.free_page.Reads as free-page-reads
 use Rattle.pagestore.proofs.set_leaf.Reads as set-leaf-reads
-use Rattle.tree_parts.proofs.leaf_entry.Reads as leaf-entry-reads
+use Rattle.tree_core.proofs.leaf_entry.Reads as leaf-entry-reads
 
 set-leaf-requires : tie.Need-set-leaf-requires
 set-leaf-requires c κs = search needs

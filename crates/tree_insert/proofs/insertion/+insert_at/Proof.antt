@@ -5,7 +5,7 @@ use native.Mathlib.Omega.{arith}
 use denote.Ref.{now}
 use Rattle.pagestore.specs.declared.Inner.{Inner}
 use Rattle.pagestore.specs.Store.{entriesIn}
-use Rattle.tree_parts.proofs.InsertionLaws.{level-zero, inner-step}
+use Rattle.tree_core.proofs.InsertionLaws.{level-zero, inner-step}
 use borrow.Author.Needs.{needs}
 use borrow.Fn.Kinds.{In}
 use borrow.Fn.PlainCycle.{Measures, is, falls, and}
@@ -13,8 +13,8 @@ use Rattle.tree_insert.proofs.insertion.insert_at.Reads as insert-at
 use Rattle.tree_insert.proofs.insertion.insert_at.Kinds as insert-at-kinds
 use Rattle.tree_insert.proofs.insertion.+insert_at.Lts-insert_at as insert-at-lts
 use Rattle.pagestore.proofs.inner_at.Reads as inner-at-reads
-use Rattle.tree_parts.proofs.child_of.Reads as child-of-reads
-use Rattle.tree_parts.proofs.choose_at.Reads as choose-at-reads
+use Rattle.tree_core.proofs.child_of.Reads as child-of-reads
+use Rattle.tree_core.proofs.choose_at.Reads as choose-at-reads
 use Rattle.tree_insert.proofs.insertion.insert_leaf.Reads as insert-leaf-reads
 use Rattle.tree_insert.proofs.insertion.put_inner.Reads as put-inner-reads
 use Rattle.tree_insert.proofs.insertion.+insert_at.{statement}

@@ -4,9 +4,9 @@ use lib.ListN.{length}
 use denote.Ref.{now}
 use Rattle.pagestore.specs.Store.{recordsIn}
 use Rattle.pagestore.specs.declared.Leaf.{Leaf}
-use Rattle.tree_parts.specs.Insertion.{insertRecord}
-use Rattle.tree_parts.proofs.HeldLaws.{unmapped, held-most}
-use Rattle.tree_parts.proofs.InsertionLaws.{leaf-step}
+use Rattle.tree_core.specs.Insertion.{insertRecord}
+use Rattle.tree_core.proofs.HeldLaws.{unmapped, held-most}
+use Rattle.tree_core.proofs.InsertionLaws.{leaf-step}
 use borrow.Author.Needs.{needs}
 use Rattle.tree_insert.proofs.insertion.insert_leaf.Statement.{statement}
 use Rattle.tree_insert.proofs.insertion.insert_leaf.Tie as tie

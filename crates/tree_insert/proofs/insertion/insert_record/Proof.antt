@@ -3,20 +3,20 @@ use native.Mathlib.Omega.{arith}
 use lib.ListN.{length, take, length-append, length-take}
 use lib.Seq.{slice, length-take-le}
 use denote.Ref.{now}
-use Rattle.tree_parts.specs.Held.{Held}
+use Rattle.tree_core.specs.Held.{Held}
 use mathlib.Core.List.{[], _∷_, _++_}
-use Rattle.tree_parts.proofs.HeldLaws.{unmapped, held-then, held-is}
-use Rattle.tree_parts.proofs.InsertionLaws.{inserted-is, insert-is}
+use Rattle.tree_core.proofs.HeldLaws.{unmapped, held-then, held-is}
+use Rattle.tree_core.proofs.InsertionLaws.{inserted-is, insert-is}
 use borrow.Author.Needs.{needs}
 use Rattle.tree_insert.proofs.insertion.insert_record.Statement.{statement}
 use Rattle.tree_insert.proofs.insertion.insert_record.Tie as tie
 use Rattle.tree_insert.proofs.insertion.insert_record.Reads as reads
 use Rattle.tree_insert.proofs.insertion.insert_record.Lts as lts
 use Rattle.tree_insert.proofs.insertion.place_of.Reads as place-of-reads
-use Rattle.tree_parts.proofs.append_records.Reads as append-records-reads
-use Rattle.tree_parts.proofs.no_records.Reads as no-records-reads
-use Rattle.tree_parts.proofs.push_record.Reads as push-record-reads
-use Rattle.tree_parts.proofs.filled.Reads as filled-reads
+use Rattle.tree_core.proofs.append_records.Reads as append-records-reads
+use Rattle.tree_core.proofs.no_records.Reads as no-records-reads
+use Rattle.tree_core.proofs.push_record.Reads as push-record-reads
+use Rattle.tree_core.proofs.filled.Reads as filled-reads
 
 filled-requires : tie.Need-filled-requires
 filled-requires c κs = search needs

@@ -5,17 +5,17 @@ use mathlib.Core.List.{[]}
 use lib.ListN.{length, take, drop}
 use borrow.Author.Tests.{lt-ltb, le-ltb}
 use Rattle.lists.specs.Leading.{leading, leading-step, leading-stop, leading-end}
-use Rattle.trees.specs.Trees.{noRecord}
-use Rattle.tree_parts.specs.CodeTerms.{rankBelow}
-use Rattle.tree_parts.proofs.HeldLaws.{unmapped}
-use Rattle.tree_parts.proofs.EntryLaws.{length-filled}
+use Rattle.tree_model.specs.Trees.{noRecord}
+use Rattle.tree_core.specs.CodeTerms.{rankBelow}
+use Rattle.tree_core.proofs.HeldLaws.{unmapped}
+use Rattle.tree_core.proofs.EntryLaws.{length-filled}
 use borrow.Author.Needs.{needs}
 use Rattle.tree_insert.proofs.insertion.place_of.Statement.{statement}
 use Rattle.tree_insert.proofs.insertion.place_of.Tie as tie
 use Rattle.tree_insert.proofs.insertion.place_of.Reads as reads
 use Rattle.tree_insert.proofs.insertion.place_of.Lts as lts
-use Rattle.tree_parts.proofs.filled.Reads as filled-reads
-use Rattle.tree_parts.proofs.record_rank.Reads as record-rank-reads
+use Rattle.tree_core.proofs.filled.Reads as filled-reads
+use Rattle.tree_core.proofs.record_rank.Reads as record-rank-reads
 
 abbrev Inv-loop : tie.InvT-loop
 Inv-loop rank d leaf n i₀ i = (n ≡ min 16 (leaf .count)) × (length (leaf .records) ≡ 16) × (i ≤ n)

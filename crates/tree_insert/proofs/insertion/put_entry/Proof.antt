@@ -2,10 +2,10 @@ use mathlib.Core.Path.{_≡_}
 use native.Mathlib.Omega.{arith}
 use lib.ListN.{length}
 use denote.Ref.{now}
-use Rattle.tree_parts.specs.Entries.{innerEntry}
-use Rattle.tree_parts.specs.Insertion.{writeInner}
-use Rattle.tree_parts.proofs.HeldLaws.{unmapped, held-most}
-use Rattle.tree_parts.proofs.InsertionLaws.{put-held, level-is}
+use Rattle.tree_core.specs.Entries.{innerEntry}
+use Rattle.tree_core.specs.Insertion.{writeInner}
+use Rattle.tree_core.proofs.HeldLaws.{unmapped, held-most}
+use Rattle.tree_core.proofs.InsertionLaws.{put-held, level-is}
 use borrow.Author.Needs.{needs}
 use Rattle.tree_insert.proofs.insertion.put_entry.Statement.{statement}
 use Rattle.tree_insert.proofs.insertion.put_entry.Tie as tie

@@ -1,7 +1,7 @@
 use mathlib.Core.Path.{_≡_}
 use native.Mathlib.Omega.{arith}
 use lib.ListN.{length}
-use Rattle.tree_parts.proofs.HeldLaws.{unmapped, held-most}
+use Rattle.tree_core.proofs.HeldLaws.{unmapped, held-most}
 use borrow.Author.Needs.{needs}
 use Rattle.tree_insert.proofs.insertion.put_inner.Statement.{statement}
 use Rattle.tree_insert.proofs.insertion.put_inner.Tie as tie

@@ -4,19 +4,19 @@ use native.Mathlib.Omega.{arith}
 use lib.Seq.{length-take-le}
 use denote.Ref.{now}
 use Rattle.pagestore.specs.Store.{setLeaf}
-use Rattle.tree_parts.specs.Entries.{leafEntry}
-use Rattle.tree_parts.specs.Held.{heldRecords}
-use Rattle.tree_parts.proofs.HeldLaws.{unmapped}
-use Rattle.tree_parts.proofs.InsertionLaws.{put-one}
+use Rattle.tree_core.specs.Entries.{leafEntry}
+use Rattle.tree_core.specs.Held.{heldRecords}
+use Rattle.tree_core.proofs.HeldLaws.{unmapped}
+use Rattle.tree_core.proofs.InsertionLaws.{put-one}
 use borrow.Author.Needs.{needs}
 use Rattle.tree_insert.proofs.insertion.put_records.Statement.{statement}
 use Rattle.tree_insert.proofs.insertion.put_records.Tie as tie
 use Rattle.tree_insert.proofs.insertion.put_records.Reads as reads
 use Rattle.tree_insert.proofs.insertion.put_records.Lts as lts
 use Rattle.pagestore.proofs.set_leaf.Reads as set-leaf-reads
-use Rattle.tree_parts.proofs.leaf_entry.Reads as leaf-entry-reads
+use Rattle.tree_core.proofs.leaf_entry.Reads as leaf-entry-reads
 use Rattle.tree_insert.proofs.insertion.split_leaf.Reads as split-leaf-reads
-use Rattle.tree_parts.proofs.leaf_of.Reads as leaf-of-reads
+use Rattle.tree_core.proofs.leaf_of.Reads as leaf-of-reads
 
 split-leaf-requires : tie.Need-split-leaf-requires
 split-leaf-requires c κs = search needs

@@ -1,8 +1,8 @@
 use mathlib.Core.Path.{_≡_, refl}
 use native.Mathlib.Omega.{arith}
 use lib.ListN.{length}
-use Rattle.tree_parts.proofs.HeldLaws.{unmapped}
-use Rattle.tree_parts.proofs.InsertionLaws.{renewed-is}
+use Rattle.tree_core.proofs.HeldLaws.{unmapped}
+use Rattle.tree_core.proofs.InsertionLaws.{renewed-is}
 use borrow.Author.Needs.{needs}
 use Rattle.tree_insert.proofs.insertion.renewed.Statement.{statement}
 use Rattle.tree_insert.proofs.insertion.renewed.Tie as tie

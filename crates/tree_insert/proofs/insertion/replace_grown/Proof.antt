@@ -3,20 +3,20 @@ use native.Mathlib.Omega.{arith}
 use lib.ListN.{length, take, length-append, length-take}
 use lib.Seq.{slice, length-take-le}
 use denote.Ref.{now}
-use Rattle.tree_parts.specs.Held.{Held}
+use Rattle.tree_core.specs.Held.{Held}
 use mathlib.Core.List.{[], _∷_, _++_}
-use Rattle.tree_parts.specs.CodeTerms.{grownList}
-use Rattle.tree_parts.proofs.HeldLaws.{unmapped, held-then, held-is}
-use Rattle.tree_parts.proofs.InsertionLaws.{replaced-is, length-grown}
+use Rattle.tree_core.specs.CodeTerms.{grownList}
+use Rattle.tree_core.proofs.HeldLaws.{unmapped, held-then, held-is}
+use Rattle.tree_core.proofs.InsertionLaws.{replaced-is, length-grown}
 use borrow.Author.Needs.{needs}
 use Rattle.tree_insert.proofs.insertion.replace_grown.Statement.{statement}
 use Rattle.tree_insert.proofs.insertion.replace_grown.Tie as tie
 use Rattle.tree_insert.proofs.insertion.replace_grown.Reads as reads
 use Rattle.tree_insert.proofs.insertion.replace_grown.Lts as lts
-use Rattle.tree_parts.proofs.push_grown.Reads as push-grown-reads
-use Rattle.tree_parts.proofs.append_entries.Reads as append-entries-reads
-use Rattle.tree_parts.proofs.no_entries.Reads as no-entries-reads
-use Rattle.tree_parts.proofs.filled.Reads as filled-reads
+use Rattle.tree_core.proofs.push_grown.Reads as push-grown-reads
+use Rattle.tree_core.proofs.append_entries.Reads as append-entries-reads
+use Rattle.tree_core.proofs.no_entries.Reads as no-entries-reads
+use Rattle.tree_core.proofs.filled.Reads as filled-reads
 
 filled-requires : tie.Need-filled-requires
 filled-requires c κs = search needs

@@ -4,19 +4,19 @@ use native.Mathlib.Omega.{arith}
 use lib.Seq.{length-take-le}
 use denote.Ref.{now}
 use Rattle.pagestore.specs.Store.{setLeaf}
-use Rattle.tree_parts.specs.Entries.{leafEntry}
-use Rattle.tree_parts.specs.Held.{heldRecords}
-use Rattle.tree_parts.proofs.HeldLaws.{unmapped}
-use Rattle.tree_parts.proofs.InsertionLaws.{put-two}
+use Rattle.tree_core.specs.Entries.{leafEntry}
+use Rattle.tree_core.specs.Held.{heldRecords}
+use Rattle.tree_core.proofs.HeldLaws.{unmapped}
+use Rattle.tree_core.proofs.InsertionLaws.{put-two}
 use borrow.Author.Needs.{needs}
 use Rattle.tree_insert.proofs.insertion.split_leaf.Statement.{statement}
 use Rattle.tree_insert.proofs.insertion.split_leaf.Tie as tie
 use Rattle.tree_insert.proofs.insertion.split_leaf.Reads as reads
 use Rattle.tree_insert.proofs.insertion.split_leaf.Lts as lts
-use Rattle.free_pages.proofs.take_page.Reads as take-page-reads
+use Rattle.pagestore_free.proofs.take_page.Reads as take-page-reads
 use Rattle.pagestore.proofs.set_leaf.Reads as set-leaf-reads
-use Rattle.tree_parts.proofs.leaf_entry.Reads as leaf-entry-reads
-use Rattle.tree_parts.proofs.leaf_of.Reads as leaf-of-reads
+use Rattle.tree_core.proofs.leaf_entry.Reads as leaf-entry-reads
+use Rattle.tree_core.proofs.leaf_of.Reads as leaf-of-reads
 
 leaf-of-requires : tie.Need-leaf-of-requires
 leaf-of-requires c κs = search needs

@@ -3,15 +3,15 @@ use Prim.Native.Nat.{ℕ, _<_}
 use native.Mathlib.Nat.{pos-of-ne-zero}
 use native.Mathlib.Omega.{arith}
 use denote.Ref.{now}
-use Rattle.tree_parts.proofs.RootLaws.{run-leaf, run-inner}
+use Rattle.tree_core.proofs.RootLaws.{run-leaf, run-inner}
 use borrow.Author.Needs.{needs}
 use borrow.Fn.Kinds.{In}
 use borrow.Fn.PlainCycle.{Measures, is, falls, and}
 use Rattle.tree_insert.proofs.roots.full_run.Reads as full-run
 use Rattle.tree_insert.proofs.roots.full_run.Kinds as full-run-kinds
 use Rattle.tree_insert.proofs.roots.+full_run.Lts-full_run as full-run-lts
-use Rattle.tree_parts.proofs.child_of.Reads as child-of-reads
-use Rattle.tree_parts.proofs.choose_at.Reads as choose-at-reads
+use Rattle.tree_core.proofs.child_of.Reads as child-of-reads
+use Rattle.tree_core.proofs.choose_at.Reads as choose-at-reads
 use Rattle.tree_insert.proofs.roots.full_page.Reads as full-page-reads
 use Rattle.tree_insert.proofs.roots.run_on.Reads as run-on-reads
 use Rattle.tree_insert.proofs.roots.+full_run.{statement}

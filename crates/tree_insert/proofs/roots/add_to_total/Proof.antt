@@ -5,7 +5,7 @@ use Prim.Native.Nat.{ℕ}
 use lib.Dec.{leb}
 use Rattle.lists.specs.Basics.{tick}
 use denote.Ref.{now}
-use Rattle.tree_parts.proofs.RootLaws.{total-step}
+use Rattle.tree_core.proofs.RootLaws.{total-step}
 use borrow.Author.Needs.{needs}
 use Rattle.tree_insert.proofs.roots.add_to_total.Statement.{statement}
 use Rattle.tree_insert.proofs.roots.add_to_total.Tie as tie

@@ -5,7 +5,7 @@ use Prim.Native.Nat.{ℕ}
 use lib.Dec.{leb}
 use Rattle.lists.specs.Basics.{tick}
 use denote.Ref.{now}
-use Rattle.tree_parts.proofs.RootLaws.{tick-one, tick-none}
+use Rattle.tree_core.proofs.RootLaws.{tick-one, tick-none}
 use borrow.Author.Needs.{needs}
 use Rattle.tree_insert.proofs.roots.full_page.Statement.{statement}
 use Rattle.tree_insert.proofs.roots.full_page.Tie as tie

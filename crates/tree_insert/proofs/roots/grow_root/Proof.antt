@@ -5,9 +5,9 @@ use Prim.Native.Nat.{ℕ}
 use lib.Dec.{leb}
 use Rattle.lists.specs.Basics.{tick}
 use denote.Ref.{now}
-use Rattle.tree_parts.specs.Insertion.{growRoot}
-use Rattle.tree_parts.specs.CodeTerms.{grownList}
-use Rattle.tree_parts.proofs.RootLaws.{grow-one}
+use Rattle.tree_core.specs.Insertion.{growRoot}
+use Rattle.tree_core.specs.CodeTerms.{grownList}
+use Rattle.tree_core.proofs.RootLaws.{grow-one}
 use borrow.Author.Needs.{needs}
 use Rattle.tree_insert.proofs.roots.grow_root.Statement.{statement}
 use Rattle.tree_insert.proofs.roots.grow_root.Tie as tie

@@ -5,7 +5,7 @@ use Prim.Native.Nat.{ℕ}
 use lib.Dec.{leb}
 use Rattle.lists.specs.Basics.{tick}
 use denote.Ref.{now}
-use Rattle.tree_parts.proofs.RootLaws.{insert-steps}
+use Rattle.tree_core.proofs.RootLaws.{insert-steps}
 use borrow.Author.Needs.{needs}
 use Rattle.tree_insert.proofs.roots.insert.Statement.{statement}
 use Rattle.tree_insert.proofs.roots.insert.Tie as tie
@@ -15,7 +15,7 @@ use Rattle.pagestore.proofs.features_of.Reads as features-of-reads
 use Rattle.pagestore.proofs.root_level.Reads as root-level-reads
 use Rattle.pagestore.proofs.root_page.Reads as root-page-reads
 use Rattle.tree_insert.proofs.insertion.insert_at.Reads as insert-at-reads
-use Rattle.tree_parts.proofs.record_rank.Reads as record-rank-reads
+use Rattle.tree_core.proofs.record_rank.Reads as record-rank-reads
 use Rattle.tree_insert.proofs.roots.add_to_total.Reads as add-to-total-reads
 use Rattle.tree_insert.proofs.roots.grow_root.Reads as grow-root-reads
 

@@ -5,13 +5,13 @@ use Prim.Native.Nat.{ℕ}
 use lib.Dec.{leb}
 use Rattle.lists.specs.Basics.{tick}
 use denote.Ref.{now}
-use Rattle.tree_parts.proofs.RootLaws.{grow-two}
+use Rattle.tree_core.proofs.RootLaws.{grow-two}
 use borrow.Author.Needs.{needs}
 use Rattle.tree_insert.proofs.roots.new_root.Statement.{statement}
 use Rattle.tree_insert.proofs.roots.new_root.Tie as tie
 use Rattle.tree_insert.proofs.roots.new_root.Reads as reads
 use Rattle.tree_insert.proofs.roots.new_root.Lts as lts
-use Rattle.free_pages.proofs.take_page.Reads as take-page-reads
+use Rattle.pagestore_free.proofs.take_page.Reads as take-page-reads
 use Rattle.pagestore.proofs.set_root_level.Reads as set-root-level-reads
 use Rattle.pagestore.proofs.set_root_page.Reads as set-root-page-reads
 use Rattle.pagestore.proofs.set_inner.Reads as set-inner-reads

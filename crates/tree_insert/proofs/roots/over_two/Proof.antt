@@ -6,7 +6,7 @@ use lib.Dec.{leb}
 use Rattle.lists.specs.Basics.{tick}
 use denote.Ref.{now}
 use mathlib.Core.List.{List, [], _∷_}
-use Rattle.tree_parts.proofs.HeldLaws.{unmapped, held-then, held-is}
+use Rattle.tree_core.proofs.HeldLaws.{unmapped, held-then, held-is}
 use lib.Seq.{slice}
 use Rattle.pagestore.specs.declared.Entry.{Entry}
 use borrow.Author.Needs.{needs}
@@ -14,9 +14,9 @@ use Rattle.tree_insert.proofs.roots.over_two.Statement.{statement}
 use Rattle.tree_insert.proofs.roots.over_two.Tie as tie
 use Rattle.tree_insert.proofs.roots.over_two.Reads as reads
 use Rattle.tree_insert.proofs.roots.over_two.Lts as lts
-use Rattle.tree_parts.proofs.inner_of.Reads as inner-of-reads
-use Rattle.tree_parts.proofs.no_entries.Reads as no-entries-reads
-use Rattle.tree_parts.proofs.push_entry.Reads as push-entry-reads
+use Rattle.tree_core.proofs.inner_of.Reads as inner-of-reads
+use Rattle.tree_core.proofs.no_entries.Reads as no-entries-reads
+use Rattle.tree_core.proofs.push_entry.Reads as push-entry-reads
 
 no-entries-requires : tie.Need-no-entries-requires
 no-entries-requires c κs = search needs

@@ -1,5 +1,5 @@
 use denote.Ref.{now}
-use Rattle.tree_parts.proofs.RootLaws.{wanted-is, one-more, no-more}
+use Rattle.tree_core.proofs.RootLaws.{wanted-is, one-more, no-more}
 use borrow.Author.Needs.{needs}
 use Rattle.tree_insert.proofs.roots.pages_wanted.Statement.{statement}
 use Rattle.tree_insert.proofs.roots.pages_wanted.Tie as tie
@@ -8,7 +8,7 @@ use Rattle.tree_insert.proofs.roots.pages_wanted.Lts as lts
 use Rattle.pagestore.proofs.features_of.Reads as features-of-reads
 use Rattle.pagestore.proofs.root_level.Reads as root-level-reads
 use Rattle.pagestore.proofs.root_page.Reads as root-page-reads
-use Rattle.tree_parts.proofs.record_rank.Reads as record-rank-reads
+use Rattle.tree_core.proofs.record_rank.Reads as record-rank-reads
 use Rattle.tree_insert.proofs.roots.full_run.Reads as full-run-reads
 
 features-of-requires : tie.Need-features-of-requires

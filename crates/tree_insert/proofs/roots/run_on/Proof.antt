@@ -5,7 +5,7 @@ use Prim.Native.Nat.{ℕ}
 use lib.Dec.{leb}
 use Rattle.lists.specs.Basics.{tick}
 use denote.Ref.{now}
-use Rattle.tree_parts.proofs.RootLaws.{run-on, run-ends}
+use Rattle.tree_core.proofs.RootLaws.{run-on, run-ends}
 use borrow.Author.Needs.{needs}
 use Rattle.tree_insert.proofs.roots.run_on.Statement.{statement}
 use Rattle.tree_insert.proofs.roots.run_on.Tie as tie

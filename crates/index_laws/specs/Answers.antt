@@ -1,0 +1,50 @@
+-- Demands 2 and 3 for the question as an act: rows, count and exchange, codes included.
+use mathlib.Core.Path.{_≡_, sym, subst}
+use mathlib.Core.Bool.{true}
+use mathlib.Core.Logic.{inl, inr}
+use mathlib.Core.List.{List, _∷_}
+use Prim.Native.Nat.{ℕ}
+use lib.ListN.{length}
+use Rattle.geometry.specs.Stored.{inRange}
+use Rattle.pagestore.specs.Store.{View, viewOf}
+use Rattle.tree_model.specs.Trees.{leavesOf}
+use Rattle.tree_model.specs.Sound.{SoundIndex}
+use Rattle.search.specs.Questions.{Exchanged, readingOrder, toRead}
+use Rattle.search.specs.Visit.{leavesRead}
+use Rattle.index.specs.Asking.{Question, sought}
+use Rattle.index.specs.AskingLaws.{read-ordered, exchange-same}
+use Rattle.index.specs.Refusals.{First, questionRules, askedRules}
+use Rattle.index.specs.RefusalLaws.{Carried, question-sound, question-carried}
+use Rattle.index.specs.Outcomes.{foundWith}
+use Rattle.index.specs.Answers.{Answers, search-answers}
+
+-- ---- A QUESTION CARRIED OUT
+
+module _ (b : List ℕ) (w : Question) (n : ℕ) (h : First (questionRules b w n) 0) where
+  pub question-answers : Answers b w (foundWith 0 b w)
+  question-answers = let a = question-carried b w n h in search-answers b (question-sound b w n h) w (a .features) (a .some)
+
+  -- which leaves it reads, and in which order: those of demand 3's set, by (bound, position)
+  pub question-reads : leavesRead b (sought w) ≡ readingOrder (viewOf b) (sought w)
+  question-reads = let a = question-carried b w n h in read-ordered b (question-sound b w n h) w (a .features) (a .some)
+
+-- ---- EXCHANGE
+
+-- two sound indexes of the same d
+module _ (b c : List ℕ) (sb : SoundIndex b) (sc : SoundIndex c) (alike : viewOf c .d ≡ viewOf b .d) (w : Question) (n : ℕ) where
+  -- the number is the same
+  pub exchange-code : (m : ℕ) → First (questionRules b w n) m → First (questionRules c w n) m
+  unfolding viewOf
+  exchange-code m (inl e) = absurd (e .1 (sb .lent))
+  exchange-code m (inr (l, inl e)) = absurd (e .1 sb)
+  exchange-code m (inr (l, inr (s, rest))) =
+      inr (sc .lent, inr (sc, subst (λ (d : ℕ). First ((3, length (w .point) ≡ d) ∷ (4, inRange (w .point) ≡ true) ∷ askedRules w n) m) (sym alike) rest))
+
+  -- The leaves of b's set have the same records in c, any other leaf the same record number, first key and last key: rows and
+  -- count are the same, and the rows are the k nearest of the records that c holds.
+  pub exchange-answers : First (questionRules b w n) 0 → Exchanged (viewOf b .d) (toRead (viewOf b) (sought w)) (leavesOf (viewOf b)) (leavesOf (viewOf c))
+      → (foundWith 0 c w ≡ foundWith 0 b w) × Answers c w (foundWith 0 b w)
+  exchange-answers h x =
+      let a = question-carried b w n h in
+      let e : foundWith 0 c w ≡ foundWith 0 b w = exchange-same b sb w (a .features) (a .some) c sc alike x in
+      (e, rw (sym e) (question-answers c w n (exchange-code 0 h)))

@@ -1,0 +1,117 @@
+-- trusted-same: on a sound index a trusted act, which leaves out the check, is the act. So an application that holds its index alone checks
+-- it once: from a sound index on, any series of trusted acts is the series of the acts.
+use mathlib.Core.Path.{_≡_, refl, sym, ap, _∙_, subst}
+use mathlib.Core.List.{List, [], _∷_}
+use Prim.Native.Nat.{ℕ, _^_, _≤_, _<_}
+use native.Mathlib.Omega.{arith}
+use lib.ListN.{length}
+use Rattle.pagestore.specs.declared.Record.{Record}
+use Rattle.pagestore.specs.Store.{View, viewOf, Field, fieldAt, features, level, newIndex}
+use Rattle.tree_model.specs.Trees.{live}
+use Rattle.tree_model.specs.Sound.{Permitted, SoundIndex}
+use Rattle.search.specs.Visit.{Answer as Found}
+use Rattle.search.specs.Questions.{AgreeBut, unreadPages}
+use Rattle.search.proofs.SoundLaws.{tree-level}
+use Rattle.search.proofs.Promises.{agree-field}
+use Rattle.index.specs.Asking.{Question, sought}
+use Rattle.index.specs.AskingLaws.{header-read, unread-same}
+use Rattle.index.specs.Refusals.{First, insertRules, deleteRules, questionRules, checkRules}
+use Rattle.index.specs.RefusalLaws.{first-one, none-fails, Carried, carried-asked, question-sound, question-carried}
+use Rattle.index.specs.Outcomes.{insertedWith, deletedWith, foundWith}
+use Rattle.index.specs.Trusted.{Suits, trustedInsert, trustedDelete, trustedQuestion}
+use Rattle.index.specs.TrustedLaws.{insert-same, delete-same, question-same}
+use Rattle.index.specs.Acts.{Act, insert, delete, question, check, Done, does, Series, end, next, heldBy}
+use Rattle.index_laws.specs.Series.{Stands, act-stands, new-stands, series}
+
+-- what a trusted act on index b returns and leaves, as its contract says; check is the act itself
+abbrev pub trustedDoes : Act → List ℕ → ℕ → Found → List ℕ → Type 0
+trustedDoes (insert i p) b code answer c = (i < 2 ^ 32) × (First (trustedInsert b i p) code) × (c ≡ insertedWith code b i p)
+trustedDoes (delete i) b code answer c = (First (trustedDelete b i) code) × (c ≡ deletedWith code b i)
+trustedDoes (question w n) b code answer c = (First (trustedQuestion b w n) code) × (answer ≡ foundWith code b w) × (c ≡ b)
+trustedDoes check b code answer c = does check b code answer c
+
+module _ (b : List ℕ) (s : SoundIndex b) where
+  -- number, rows, count and every byte are the act's
+  pub trusted-same : (a : Act) (code : ℕ) (f : Found) (c : List ℕ) → trustedDoes a b code f c → does a b code f c
+  trusted-same (insert i p) code f c h = (h .0, insert-same b s i p code (h .1), h .2)
+  trusted-same (delete i) code f c h = (delete-same b s i code (h .0), h .1)
+  trusted-same (question w n) code f c h = (question-same b s w n code (h .0), h .1, h .2)
+  trusted-same check code f c h = h
+
+  -- an act has one number on an index, and leaves one index
+  one-number : (a : Act) (m n : ℕ) (f g : Found) (c e : List ℕ) → does a b m f c → does a b n g e → m ≡ n
+  one-number (insert i p) m n f g c e h k = first-one (insertRules b i p) m n (h .1) (k .1)
+  one-number (delete i) m n f g c e h k = first-one (deleteRules b i) m n (h .0) (k .0)
+  one-number (question w l) m n f g c e h k = first-one (questionRules b w l) m n (h .0) (k .0)
+  one-number check m n f g c e h k = first-one (checkRules b) m n (h .0) (k .0)
+
+  one-index : (a : Act) (n : ℕ) (f g : Found) (c e : List ℕ) → does a b n f c → does a b n g e → c ≡ e
+  one-index (insert i p) n f g c e h k = h .2 ∙ sym (k .2)
+  one-index (delete i) n f g c e h k = h .1 ∙ sym (k .1)
+  one-index (question w l) n f g c e h k = h .2 ∙ sym (k .2)
+  one-index check n f g c e h k = h .1 ∙ sym (k .1)
+
+  -- the results of a trusted act and of the act, side by side
+  pub trusted-equal : (a : Act) (m n : ℕ) (f g : Found) (c e : List ℕ) → trustedDoes a b m f c → does a b n g e → (m ≡ n) × (c ≡ e)
+  trusted-equal a m n f g c e h k =
+      let t = trusted-same a m f c h in
+      let z = one-number a m n f g c e t k in
+      (z, one-index a n f g c e (subst (λ (x : ℕ). does a b x f c) z t) k)
+
+  pub question-equal : (w : Question) (l m n : ℕ) (f g : Found) (c e : List ℕ) → trustedDoes (question w l) b m f c → does (question w l) b n g e → f ≡ g
+  question-equal w l m n f g c e h k = h .1 ∙ ap (λ (x : ℕ). foundWith x b w) (trusted-equal (question w l) m n f g c e h k .0) ∙ sym (k .1)
+
+  sound-after : (a : Act) (code : ℕ) (f : Found) (c : List ℕ) → does a b code f c → SoundIndex c
+  sound-after a code f c h = act-stands (viewOf b .d) (live (viewOf b)) b (record { sound = s; features = refl; holds = refl }) a code f c h .sound
+
+-- trusted acts done one after the other, from index b to index c
+pub data TrustedSeries : List ℕ → List Done → List ℕ → Type 0 where
+  stop : {b : List ℕ} → TrustedSeries b [] b
+  step : {b m c : List ℕ} {o : Done} {os : List Done} → trustedDoes (o .act) b (o .code) (o .answer) m → TrustedSeries m os c → TrustedSeries b (o ∷ os) c
+
+-- one check is enough: from a sound index on, trusted acts are acts, and the index stays sound
+pub trusted-series : {b c : List ℕ} {os : List Done} → SoundIndex b → TrustedSeries b os c → Series b os c × SoundIndex c
+trusted-series s stop = (end, s)
+trusted-series {b = b} s (step {m = m} {o = o} h t) =
+    let g = trusted-same b s (o .act) (o .code) (o .answer) m h in
+    let r = trusted-series (sound-after b s (o .act) (o .code) (o .answer) m g) t in
+    (next g (r .0), r .1)
+
+-- demand 2 for trusted acts: after any of them on a newly made index the live records are those inserted and not deleted since
+pub trusted-stands : (b : List ℕ) (d : ℕ) → Permitted (length b) → 1 ≤ d → d ≤ 16 → {os : List Done} {c : List ℕ} → TrustedSeries (newIndex b d) os c → Stands d (heldBy d os []) c
+trusted-stands b d lent low high h = series b d lent low high (trusted-series (new-stands b d lent low high .sound) h .0)
+
+-- Demand 3's last sentence for the trusted question: whatever bytes the pages of the unread leaves hold, it is carried out on them with the
+-- rows and the count of the question on the sound index.
+module _ (b : List ℕ) (w : Question) (n : ℕ) (h : First (questionRules b w n) 0) (c : List ℕ) (agree : AgreeBut (unreadPages (viewOf b) (sought w)) b c) where
+  carried : Carried (viewOf b .d) w n
+  carried = question-carried b w n h
+
+  sound : SoundIndex b
+  sound = question-sound b w n h
+
+  field-same : (f : Field) → fieldAt f c ≡ fieldAt f b
+  field-same = agree-field (unreadPages (viewOf b) (sought w)) b c agree (header-read b sound w (carried .features) (carried .some))
+
+  features-same : viewOf c .d ≡ viewOf b .d
+  unfolding viewOf
+  features-same = field-same features
+
+  level-low : fieldAt level c ≤ 4
+  unfolding viewOf
+  level-low = rw (field-same level) (tree-level b sound)
+
+  permitted : Permitted (length c)
+  unfolding viewOf
+  permitted = subst Permitted (sym (agree .lent)) (sound .lent)
+
+  suits : Suits c (w .point)
+  suits =
+      let low : 1 ≤ viewOf b .d = sound .d .0 in
+      let high : viewOf b .d ≤ 16 = sound .d .1 in
+      let e : length (w .point) ≡ viewOf b .d = carried .features in
+      (omega arith, omega arith, e ∙ sym features-same)
+
+  pub trusted-unread : First (trustedQuestion c w n) 0 × (foundWith 0 c w ≡ foundWith 0 b w)
+  trusted-unread =
+      (none-fails (trustedQuestion c w n) (permitted, (level-low, (suits, (carried .ranges, carried-asked (viewOf b .d) w n carried)))), unread-same b sound w (carried .features) (carried .some) c agree)

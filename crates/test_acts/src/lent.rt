@@ -1,0 +1,112 @@
+// The public question, in rows and with a tally that the program lends.
+ghost use Prim.Native.Nat.{_≤_, _<_};
+ghost use Rattle.index.specs.Asking.{questionOf};
+ghost use Rattle.index.specs.Questions.{Questioned};
+use search_rows::Row;
+use test_parts::places::coordinate;
+use test_parts::show::line;
+use test_parts::show::text;
+use index::Criteria;
+use index_answer::Answer;
+use index_answer::Tally;
+
+// An answer, with the rows and the tally after it.
+pub struct Kept {
+    pub answer: Answer,
+    pub rows: [Row; 64],
+    pub tally: Tally,
+}
+
+// Asks with 64 rows and a tally that are held by value, so that callers need no proof by hand.
+fn ask(index: &[u8], point: &[i16], what: Criteria, rows: [Row; 64], tally: Tally) -> Kept
+    ensures { λ r. ⌜ Questioned (now (index .entry)) (questionOf (now (point .entry)) what) rows tally (r .answer) (r .rows) (r .tally) ⌝ }
+{
+    let mut kept = rows;
+    let mut count = tally;
+    let answer = index::question(index, point, what, &mut kept, &mut count);
+    Kept {
+        answer: answer,
+        rows: kept,
+        tally: count,
+    }
+}
+
+// The question for the k nearest of the point n.
+fn ask_at(index: &[u8], n: u16, k: usize, rows: [Row; 64], tally: Tally) -> Kept
+    requires { ⌜ n ≤ 17 ⌝ }
+{
+    let point = [coordinate(1000 + n)];
+    ask(index, &point, Criteria { k: k }, rows, tally)
+}
+
+fn show_answer(answer: Answer, code: u64, rows: u64, leaves: u64) {
+    line(b"  code", answer.code as u64, code);
+    line(b"  rows", answer.count as u64, rows);
+    line(b"  leaves read", answer.leaves as u64, leaves);
+}
+
+fn show_tally(tally: Tally, questions: u64, leaves: u64) {
+    line(b"  questions tallied", tally.questions as u64, questions);
+    line(b"  leaves tallied", tally.leaves as u64, leaves);
+}
+
+fn show_row(row: Row, id: u64, distance: u64, position: u64) {
+    line(b"  identifier of a row", row.id as u64, id);
+    line(b"  its distance", row.distance, distance);
+    line(b"  its position", row.position as u64, position);
+}
+
+// 9 and 8 in the first two rows; the third keeps its contents.
+fn ask_first(index: &[u8], rows: [Row; 64], tally: Tally) -> Kept {
+    text(b"public question from 9, k 2\n");
+    let kept = ask_at(index, 9, 2, rows, tally);
+    show_answer(kept.answer, 0, 2, 2);
+    show_tally(kept.tally, 1, 2);
+    let after = kept.rows;
+    show_row(after[0], 9, 0, 0);
+    show_row(after[1], 8, 1, 0);
+    show_row(after[2], 7, 7, 7);
+    kept
+}
+
+// A refusal leaves rows and tally as they are.
+fn ask_refused(index: &[u8], rows: [Row; 64], tally: Tally) {
+    text(b"public question from 9, k 65\n");
+    let kept = ask_at(index, 9, 65, rows, tally);
+    show_answer(kept.answer, 10, 0, 0);
+    show_tally(kept.tally, 1, 2);
+    let after = kept.rows;
+    show_row(after[0], 9, 0, 0);
+}
+
+// 17 is in the second leaf; a full tally stays as it is.
+fn ask_full(index: &[u8], rows: [Row; 64]) {
+    let full = Tally {
+        questions: 4294967295,
+        leaves: 4294967295,
+    };
+    text(b"public question from 17, k 1, with a full tally\n");
+    let kept = ask_at(index, 17, 1, rows, full);
+    show_answer(kept.answer, 0, 1, 1);
+    show_tally(kept.tally, 4294967295, 4294967295);
+    let after = kept.rows;
+    show_row(after[0], 17, 0, 1);
+    show_row(after[1], 8, 1, 0);
+}
+
+// Questions on the index of 1 to 17.
+pub fn run(index: &[u8]) {
+    let mark = Row {
+        distance: 7,
+        id: 7,
+        position: 7,
+    };
+    let none = Tally {
+        questions: 0,
+        leaves: 0,
+    };
+    let kept = ask_first(index, [mark; 64], none);
+    let rows = kept.rows;
+    ask_refused(index, rows, kept.tally);
+    ask_full(index, rows);
+}

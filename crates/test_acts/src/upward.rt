@@ -1,0 +1,193 @@
+// The examples of 01 with one feature: the identifiers 1 to 17 at 1 to 17, inserted upward, in 3 and in 4 pages.
+ghost use mathlib.Core.Path.{_≡_};
+ghost use Prim.Native.Nat.{_≤_, _<_};
+ghost use lib.ListN.{length};
+use crate::lent;
+use search_rows::row_of;
+use test_parts::listing::list_leaves;
+use test_parts::places::coordinate;
+use test_parts::show::line;
+use test_parts::show::text;
+use index::Criteria;
+use index_answer::Answer;
+use pagestore::free_count;
+use pagestore::fresh_page;
+use pagestore::leaf_at;
+
+// Inserts identifier n at n.
+fn insert_one(index: &mut [u8], n: u16) -> u32
+    requires { ⌜ n ≤ 17 ⌝ }
+{
+    let point = [coordinate(1000 + n)];
+    index::insert(index, n as u32, &point)
+}
+
+fn carried_out(code: u32) -> u64
+    ensures { λ r. ⌜ r ≤ 1 ⌝ }
+{
+    if code == 0 { 1 } else { 0 }
+}
+
+// Inserts 1 to n. Returns how many were carried out.
+fn insert_up_to(index: &mut [u8], n: u16) -> u64
+    requires { ⌜ n ≤ 17 ⌝ }
+{
+    let mut done: u64 = 0;
+    let mut i: u16 = 0;
+    while i < n {
+        i += 1;
+        done += carried_out(insert_one(index, i));
+    }
+    done
+}
+
+// The records of a leaf: how many, the first and the last.
+fn show_leaf(index: &[u8], page: u32, n: usize, first: u32, last: u32) {
+    let leaf = leaf_at(index, page);
+    line(b"  records of the leaf", leaf.count as u64, n as u64);
+    let x = leaf.records[0];
+    line(b"  the first", x.id as u64, first as u64);
+    let m = leaf.count;
+    if m == 0 {
+        return;
+    }
+    if 16 < m {
+        return;
+    }
+    let y = leaf.records[m - 1];
+    line(b"  the last", y.id as u64, last as u64);
+}
+
+// Two leaves: 1 to n, and those after it, of which there are 8.
+fn show_two(index: &[u8], n: u32)
+    requires { ⌜ n ≤ 9 ⌝ }
+{
+    let mut pages = [0u32; 1024];
+    let leaves = list_leaves(index, &mut pages);
+    line(b"  leaves", leaves as u64, 2);
+    show_leaf(index, pages[0], n as usize, 1, n);
+    show_leaf(index, pages[1], 8, n + 1, n + 8);
+}
+
+// One leaf: 1 to 15.
+fn show_one(index: &[u8]) {
+    let mut pages = [0u32; 1024];
+    let leaves = list_leaves(index, &mut pages);
+    line(b"  leaves", leaves as u64, 1);
+    show_leaf(index, pages[0], 15, 1, 15);
+}
+
+// The 17 inserts; `said` is what 01 says of the last one.
+fn fill(index: &mut [u8], said: u64) {
+    line(b"make", index::make(index, 1) as u64, 0);
+    line(
+        b"inserts of 1 to 16 carried out",
+        insert_up_to(index, 16),
+        16,
+    );
+    line(b"insert of 17", insert_one(index, 17) as u64, said);
+}
+
+fn show_check(index: &[u8]) {
+    let checked = index::check(index);
+    line(b"check", checked.code as u64, 0);
+    line(b"  page", checked.page as u64, 0);
+}
+
+// The question for the k nearest of the point n.
+fn ask(index: &[u8], n: u16, k: usize, distances: &mut [u64], tags: &mut [u64]) -> Answer
+    requires { ⌜ (n ≤ 17) × (length (now distances) ≡ 64) × (length (now tags) ≡ 64) ⌝ }
+{
+    let point = [coordinate(1000 + n)];
+    index::question_outcome(index, &point, Criteria { k: k }, 64, distances, tags)
+}
+
+fn show_answer(answer: Answer, rows: u64, leaves: u64) {
+    line(b"  code", answer.code as u64, 0);
+    line(b"  rows", answer.count as u64, rows);
+    line(b"  leaves read", answer.leaves as u64, leaves);
+}
+
+fn show_row(near: u64, tag: u64, id: u64, distance: u64) {
+    let row = row_of(near, tag);
+    line(b"  identifier of a row", row.id as u64, id);
+    line(b"  its distance", row.distance, distance);
+}
+
+fn ask_nine(index: &[u8]) {
+    let mut distances = [0u64; 64];
+    let mut tags = [0u64; 64];
+    text(b"from 9, k 1\n");
+    let one = ask(index, 9, 1, &mut distances, &mut tags);
+    show_answer(one, 1, 1);
+    text(b"from 9, k 2\n");
+    let two = ask(index, 9, 2, &mut distances, &mut tags);
+    show_answer(two, 2, 2);
+    show_row(distances[0], tags[0], 9, 0);
+    show_row(distances[1], tags[1], 8, 1);
+}
+
+fn ask_one(index: &[u8]) {
+    let mut distances = [0u64; 64];
+    let mut tags = [0u64; 64];
+    text(b"from 1, k 9\n");
+    let nine = ask(index, 1, 9, &mut distances, &mut tags);
+    show_answer(nine, 9, 1);
+    text(b"from 1, k 18\n");
+    let all = ask(index, 1, 18, &mut distances, &mut tags);
+    show_answer(all, 17, 2);
+}
+
+fn delete_one(index: &mut [u8]) {
+    line(b"delete of 17", index::delete(index, 17) as u64, 0);
+    show_two(index, 8);
+}
+
+// One leaf is left, and its page: 2 of the 3 pages after the header were freed.
+fn delete_two(index: &mut [u8]) {
+    line(b"delete of 16", index::delete(index, 16) as u64, 0);
+    show_one(index);
+    line(b"  pages free", free_count(index) as u64, 2);
+    line(b"  the first never used", fresh_page(index) as u64, 4);
+}
+
+// Space set free is used again.
+fn insert_again(index: &mut [u8]) {
+    line(b"insert of 16", insert_one(index, 16) as u64, 0);
+    line(b"insert of 17", insert_one(index, 17) as u64, 0);
+    show_two(index, 9);
+}
+
+fn three_pages(index: &mut [u8]) {
+    text(b"3 pages, d 1, identifiers 1 to 17 at 1 to 17\n");
+    fill(index, 9);
+    show_check(index);
+}
+
+fn four_pages(index: &mut [u8]) {
+    text(b"4 pages, the same\n");
+    fill(index, 0);
+    show_check(index);
+    show_two(index, 9);
+}
+
+fn questions(index: &[u8]) {
+    ask_nine(index);
+    ask_one(index);
+}
+
+fn fewer(index: &mut [u8]) {
+    delete_one(index);
+    delete_two(index);
+    insert_again(index);
+}
+
+pub fn run() {
+    let mut three = [0u8; 3072];
+    three_pages(&mut three);
+    let mut four = [0u8; 4096];
+    four_pages(&mut four);
+    questions(&four);
+    lent::run(&four);
+    fewer(&mut four);
+}

@@ -1,0 +1,232 @@
+-- The steps of a deletion. Assumes nothing.
+use mathlib.Core.Path.{_≡_, refl, sym, ap, _∙_}
+use mathlib.Core.Logic.{_≢_, _⊎_, inl, inr, ⊎-elim}
+use mathlib.Core.Bool.{Bool, true, false, not}
+use mathlib.Core.List.{List, [], _∷_, _++_, append-assoc}
+use Prim.Native.Nat.{ℕ, zero, suc, _+_, _-_, _≤_, _<_, min}
+use native.Mathlib.Omega.{arith}
+use native.Mathlib.Numerals.{add-one, sub-one}
+use lib.Dec.{leb, ltb, eqb}
+use lib.ListN.{length, take, drop, set, length-append, length-take, length-drop, length-set}
+use lib.Seq.{slice, take-nil, drop-nil, take-all, take-length, take-set-le, take-set-lt, set-out, take-append-add, drop-append-add, take-append-le, drop-append-le, take-append-seam, drop-append-seam}
+use borrow.Author.Tests.{ltb-true, ltb-false, leb-true, leb-false, lt-ltb, le-ltb, le-leb, lt-leb, eq-eqb, ne-eqb}
+use Rattle.lists.specs.Basics.{pick}
+use Rattle.lists.specs.Counts.{by-cases}
+use Rattle.lists.specs.Leading.{leading}
+use Rattle.pagestore.specs.declared.Record.{Record}
+use Rattle.pagestore.specs.declared.Entry.{Entry}
+use Rattle.pagestore.specs.declared.Leaf.{Leaf}
+use Rattle.pagestore.specs.declared.Inner.{Inner}
+use Rattle.pagestore.specs.Store.{Field, features, root, level, total, leafAt, innerAt, recordsIn, entriesIn, setLeaf, setInner, fieldAt, setField, freePage}
+use Rattle.tree_model.specs.Trees.{rankOf}
+use Rattle.tree_core.specs.Entries.{choose, childAt, leafEntry, innerEntry}
+use Rattle.tree_core.specs.Insertion.{writeInner}
+use Rattle.tree_core.specs.Deletion.{Deleted, deleteRecord, evenItems, Evened, putEven, evenPages, leftOf, leave, mend, deleteAt, lowerRoot, takeFromTotal, deleteFrom}
+use Rattle.tree_core.specs.CodeTerms.{otherIdent, grownList, LeftDone, deletedOf, EvenDone, evenCut, evenedOut}
+use Rattle.tree_core.specs.declared.Grown.{Grown}
+use Rattle.tree_core.specs.declared.Grown.the-variants.{One, Two}
+use Rattle.tree_core.specs.declared.Left.{Left}
+
+-- ---- items without one
+
+pub delete-leading : (i : ℕ) (rs : List Record) → take (leading (otherIdent i) rs) rs ++ drop (suc (leading (otherIdent i) rs)) rs ≡ deleteRecord i rs
+unfolding deleteRecord leading
+delete-leading i [] = refl
+delete-leading i (r ∷ rs) = by-cases (eqb (r .id) i) (λ e. rw e) (λ e. rw e (ap (λ (l : List Record). r ∷ l) (delete-leading i rs)))
+
+pub delete-is : (i k : ℕ) (rs : List Record) → i ≡ leading (otherIdent k) rs → length rs ≤ 16 → slice 0 i rs ++ slice (i + 1) 16 rs ≡ deleteRecord k rs
+delete-is i k rs e h = rw (take-all 16 rs h, add-one i, e) (delete-leading k rs)
+
+-- ---- two neighbours
+
+module _ {A : Type 0} where
+  pub take-both : (k : ℕ) (xs ys : List A) → take k xs ++ take (k - length xs) ys ≡ take k (xs ++ ys)
+  take-both k [] ys = let z : k - 0 ≡ k = omega arith in rw (take-nil {A = A} k, z)
+  take-both zero (x ∷ xs) ys = let z : 0 - suc (length xs) ≡ 0 = omega arith in rw z
+  take-both (suc k) (x ∷ xs) ys = let z : suc k - suc (length xs) ≡ k - length xs = omega arith in rw z (ap (λ (l : List A). x ∷ l) (take-both k xs ys))
+
+  pub drop-both : (k : ℕ) (xs ys : List A) → drop k xs ++ drop (k - length xs) ys ≡ drop k (xs ++ ys)
+  drop-both k [] ys = let z : k - 0 ≡ k = omega arith in rw (drop-nil {A = A} k, z)
+  drop-both zero (x ∷ xs) ys = let z : 0 - suc (length xs) ≡ 0 = omega arith in rw z
+  drop-both (suc k) (x ∷ xs) ys = let z : suc k - suc (length xs) ≡ k - length xs = omega arith in rw z (drop-both k xs ys)
+
+  pub first-both : (k m : ℕ) (xs ys : List A) → m ≡ length (take k xs) → take k xs ++ take (k - m) ys ≡ take k (xs ++ ys)
+  first-both k m xs ys e =
+      let f : k - m ≡ k - length xs = omega (arith, length-take k xs) in
+      ap (λ (n : ℕ). take k xs ++ take n ys) f ∙ take-both k xs ys
+
+  pub last-both : (k n : ℕ) (xs ys : List A) → n ≡ length xs → length xs ≤ 16 → length ys ≤ 16 → slice k 16 xs ++ slice (k - n) 16 ys ≡ drop k (xs ++ ys)
+  last-both k n xs ys e f g = rw (take-all 16 xs f, take-all 16 ys g, e) (drop-both k xs ys)
+
+  pub last-few : (k n : ℕ) (xs ys : List A) → n ≡ length xs → length xs ≤ 16 → length ys ≤ 16 → length xs + length ys ≤ 16 + k → length (slice k 16 xs ++ slice (k - n) 16 ys) ≤ 16
+  last-few k n xs ys e f g h = rw (last-both k n xs ys e f g) (omega (arith, length-drop k (xs ++ ys), length-append xs ys))
+
+  -- they join, or are cut after the first k
+  EvenWays : List A → List A → ℕ → Type 0
+  EvenWays xs ys k =
+      ((k ≡ length xs + length ys) × (evenItems xs ys ≡ (xs ++ ys) ∷ []))
+      ⊎ ((k ≢ length xs + length ys) × (evenItems xs ys ≡ take k (xs ++ ys) ∷ drop k (xs ++ ys) ∷ []))
+
+  even-ways : (xs ys : List A) → EvenWays xs ys (evenCut (length xs) (length ys))
+  unfolding EvenWays evenItems evenCut
+  even-ways xs ys =
+      by-cases (ltb (length xs) 8)
+      (λ e. by-cases (ltb 8 (length ys))
+      (λ f. let a = ltb-true (length xs) 8 e in let b = ltb-true 8 (length ys) f in
+      simp (e, f) (inr (
+        λ (z : length xs + 1 ≡ length xs + length ys). omega arith,
+        rw (take-append-add xs ys 1, drop-append-add xs ys 1) refl,
+      )))
+      (λ f. simp (e, f) (inl (refl, refl))))
+      (λ e. by-cases (ltb (length ys) 8)
+      (λ f. by-cases (ltb 8 (length xs))
+      (λ g. let a = ltb-true 8 (length xs) g in let b = ltb-true (length ys) 8 f in
+      simp (e, f, g) (inr (
+        λ (z : length xs - 1 ≡ length xs + length ys). omega arith,
+        rw (take-append-le (length xs - 1) xs ys (omega arith), drop-append-le (length xs - 1) xs ys (omega arith)) refl,
+      )))
+      (λ g. simp (e, f, g) (inl (refl, refl))))
+      (λ f. let b = ltb-false (length ys) 8 f in
+      simp (e, f) (inr (λ (z : length xs ≡ length xs + length ys). omega arith, rw (take-append-seam xs ys, drop-append-seam xs ys) refl))))
+
+  -- (n and m are the numbers of their items)
+  module _ (xs ys : List A) (n m k : ℕ) (x : n ≡ length xs) (y : m ≡ length ys) (e : k ≡ evenCut n m) where
+    cut-is : k ≡ evenCut (length xs) (length ys)
+    cut-is = rw (x, y) at e
+
+    pub even-join : {us : List A} → k ≡ n + m → us ≡ take k (xs ++ ys) → us ∷ [] ≡ evenItems xs ys
+    unfolding EvenWays
+    even-join {us} f g =
+        let w : us ≡ xs ++ ys = g ∙ take-all k (xs ++ ys) (omega (arith, length-append xs ys)) in
+        let f' : k ≡ length xs + length ys = omega arith in
+        ⊎-elim (λ h. ap (λ (l : List A). l ∷ []) w ∙ sym (h .1)) (λ h. absurd (h .0 (sym cut-is ∙ f'))) (even-ways xs ys)
+
+    pub even-share : {us vs : List A} → k ≢ n + m → us ≡ take k (xs ++ ys) → vs ≡ drop k (xs ++ ys) → us ∷ vs ∷ [] ≡ evenItems xs ys
+    unfolding EvenWays
+    even-share {us} {vs} f g h =
+        let f' : k ≢ length xs + length ys = λ (z : k ≡ length xs + length ys). f (omega arith) in
+        ⊎-elim (λ w. absurd (f' (cut-is ∙ w .0))) (λ w. rw (g, h, cut-is) (sym (w .1))) (even-ways xs ys)
+
+  module _ (write : List ℕ → ℕ → List A → List ℕ) (entry : ℕ → List A → Entry) (b : List ℕ) (p q : ℕ) where
+    pub put-joined : {us : List A} {b1 y : List ℕ} {e : Entry} → b1 ≡ write b p us → y ≡ freePage b1 q → e ≡ entry p us → EvenDone (putEven write entry b p q (us ∷ [])) y (One e)
+    unfolding putEven
+    put-joined f g h = record { bytes = rw f at g; entries = ap (λ (x : Entry). x ∷ []) h }
+
+    pub put-shared : {us vs : List A} {b1 y : List ℕ} {e f : Entry} → b1 ≡ write b p us → y ≡ write b1 q vs → e ≡ entry p us → f ≡ entry q vs
+        → EvenDone (putEven write entry b p q (us ∷ vs ∷ [])) y (Two e f)
+    unfolding putEven
+    put-shared {us} {vs} {b1} {y} {e} {f} h k i j = record { bytes = cc; entries = cc }
+
+pub even-leaves : (d : ℕ) (b : List ℕ) (p q : ℕ) {a c : Leaf} {zs : List (List Record)} {y : List ℕ} {g : Grown} → a ≡ leafAt b p → c ≡ leafAt b q
+    → zs ≡ evenItems (recordsIn a) (recordsIn c) → EvenDone (putEven setLeaf (leafEntry d) b p q zs) y g → EvenDone (evenPages d 0 b p q) y g
+unfolding evenPages
+even-leaves d b p q a= c= e h = rw (e, a=, c=) at h
+
+pub even-inners : (d l v : ℕ) (b : List ℕ) (p q : ℕ) {a c : Inner} {zs : List (List Entry)} {y : List ℕ} {g : Grown} → 0 < l → v ≡ l → a ≡ innerAt b p → c ≡ innerAt b q
+    → zs ≡ evenItems (entriesIn a) (entriesIn c) → EvenDone (putEven (writeInner v) innerEntry b p q zs) y g → EvenDone (evenPages d l b p q) y g
+unfolding evenPages
+even-inners d zero v b p q z f a= c= e h = absurd (omega arith)
+even-inners d (suc l) v b p q z f a= c= e h = rw (f, e, a=, c=) at h
+
+pub even-level : (d l : ℕ) (b : List ℕ) (p q : ℕ) {y : List ℕ} {g : Grown} → l ≡ 0 → EvenDone (evenPages d 0 b p q) y g → EvenDone (evenPages d l b p q) y g
+even-level d l b p q e h = rw e h
+
+-- ---- the page above
+
+pub left-next : (i n : ℕ) → i + 1 < n → i ≡ leftOf i n
+unfolding leftOf
+left-next i n h = rw (lt-ltb (suc i) n (omega arith))
+
+pub left-before : (i n : ℕ) → n ≤ i + 1 → i - 1 ≡ leftOf i n
+unfolding leftOf
+left-before i n h = rw (le-ltb (suc i) n (omega arith))
+
+pub set-in : {A : Type 0} (slots : List A) (c i : ℕ) (e : A) → take c (set slots i e) ≡ set (take c slots) i e
+set-in slots c i e =
+    by-cases (leb c i)
+    (λ t. let h = leb-true c i t in take-set-le c slots i e h ∙ sym (set-out (take c slots) i e (omega (arith, length-take c slots))))
+    (λ t. take-set-lt c slots i e (leb-false c i t))
+
+pub leave-is : (l : ℕ) (b : List ℕ) (p : ℕ) (es : List Entry) {y : List ℕ} {x : Left} → y ≡ setInner b p l es → x .entry ≡ innerEntry p es → x .count ≡ length es → LeftDone (leave l b p es) y x
+leave-is l b p es f g h = record { bytes = f; entry = g; count = h }
+
+pub evened-is : (d l h : ℕ) (b : List ℕ) (p : ℕ) (es : List Entry) (i n : ℕ) {j u w v : ℕ} {fs : List Entry} {b1 y : List ℕ} {g : Grown} {x : Left}
+    → n ≡ length es → j ≡ leftOf i n → u ≡ childAt es j → w ≡ childAt es (j + 1) → EvenDone (evenPages d l b u w) b1 g
+    → v ≡ h → fs ≡ take j es ++ (grownList g ++ drop (j + 2) es) → LeftDone (leave v b1 p fs) y x → LeftDone (evenedOut d l h b p es i) y x
+unfolding evenedOut
+evened-is d l h b p es i n {j} {u} {w} {v} {fs} {b1} {y} {g} {x} n= j= u= w= o v= fs= q =
+    let two : j + 2 ≡ suc (suc j) = omega arith in
+    let fs' : fs ≡ take j es ++ (grownList g ++ drop (suc (suc j)) es) = fs= ∙ ap (λ (m : ℕ). take j es ++ (grownList g ++ drop m es)) two in
+    rw (fs', v=, o .bytes, o .entries, u=, w=, add-one j, j=, n=) at q
+
+pub mend-whole : (d l : ℕ) (b : List ℕ) (p : ℕ) (es : List Entry) (i : ℕ) (o : Left) {v : ℕ} {fs : List Entry} {y : List ℕ} {x : Left} → 0 < l → v ≡ l → fs ≡ set es i (o .entry) → 8 ≤ o .count
+    → LeftDone (leave v b p fs) y x → LeftDone (mend d (l - 1) p es i (deletedOf b o)) y x
+unfolding mend
+mend-whole d zero b p es i o z v= fs= h q = absurd (omega arith)
+mend-whole d (suc l) b p es i o z v= fs= h q = rw (sub-one, le-leb 8 (o .count) h) (rw (v=, fs=) at q)
+
+pub mend-evened : (d l : ℕ) (b : List ℕ) (p : ℕ) (es : List Entry) (i : ℕ) (o : Left) {v : ℕ} {fs : List Entry} {y : List ℕ} {x : Left} → 0 < l → v ≡ l → fs ≡ set es i (o .entry) → o .count < 8
+    → LeftDone (evenedOut d (l - 1) v b p fs i) y x → LeftDone (mend d (l - 1) p es i (deletedOf b o)) y x
+unfolding mend evenedOut
+mend-evened d zero b p es i o z v= fs= h q = absurd (omega arith)
+mend-evened d (suc l) b p es i o z v= fs= h q =
+    let n : length (set es i (o .entry)) ≡ length es = length-set es i (o .entry) in
+    rw (sub-one, lt-leb 8 (o .count) h) (rw (v=, fs=, n, sub-one) at q)
+
+-- ---- one step of the recursion
+
+pub delete-leaf : (d : ℕ) (b : List ℕ) (p : ℕ) (x : Record) {rs : List Record} {y : List ℕ} {z : Left} → rs ≡ deleteRecord (x .id) (recordsIn (leafAt b p))
+    → y ≡ setLeaf b p rs → z .entry ≡ leafEntry d p rs → z .count ≡ length rs → LeftDone (deleteAt d 0 b p x) y z
+unfolding deleteAt
+delete-leaf d b p x e f g h = record { bytes = rw e at f; entry = rw e at g; count = rw e at h }
+
+pub delete-zero : (d l : ℕ) (b : List ℕ) (p : ℕ) (x : Record) {y : List ℕ} {z : Left} → l ≡ 0 → LeftDone (deleteAt d 0 b p x) y z → LeftDone (deleteAt d l b p x) y z
+delete-zero d l b p x e h = rw e h
+
+pub delete-inner : (d l : ℕ) (b : List ℕ) (p : ℕ) (x : Record) {k i child : ℕ} {es : List Entry} {b1 y : List ℕ} {o z : Left}
+    → l ≢ 0 → k ≡ rankOf d x → es ≡ entriesIn (innerAt b p) → i ≡ choose k (entriesIn (innerAt b p)) → child ≡ childAt (entriesIn (innerAt b p)) i
+    → LeftDone (deleteAt d (l - 1) b child x) b1 o → LeftDone (mend d (l - 1) p es i (deletedOf b1 o)) y z → LeftDone (deleteAt d l b p x) y z
+unfolding deleteAt
+delete-inner d zero b p x n k= es= i= c= h q = absurd (n refl)
+delete-inner d (suc l) b p x {k} {i} {child} {es} {b1} {y} {o} {z} n k= es= i= c= h q =
+    let f : LeftDone (deleteAt d l b child x) b1 o = rw sub-one at h in
+    let q' : LeftDone (mend d l p es i (deletedOf b1 o)) y z = rw sub-one at q in
+    rw (f .bytes, f .entry, f .count, c=, i=, k=, es=) at q'
+
+-- ---- the root
+
+pub root-gives : (l : ℕ) (b : List ℕ) (p : ℕ) {c : ℕ} {es : List Entry} {b1 b2 y : List ℕ} → 0 < l → es ≡ entriesIn (innerAt b p) → c ≡ childAt es 0
+    → b1 ≡ setField root b c → b2 ≡ setField level b1 (l - 1) → y ≡ freePage b2 p → y ≡ lowerRoot l b p 1
+unfolding lowerRoot
+root-gives zero b p z es= c= b1= b2= y= = absurd (omega arith)
+root-gives (suc l) b p {c} {es} {b1} {b2} {y} z es= c= b1= b2= y= = let b2' : b2 ≡ setField level b1 l = rw sub-one at b2= in cc
+
+pub root-leaf : (l : ℕ) (b : List ℕ) (p n : ℕ) → l ≡ 0 → b ≡ lowerRoot l b p n
+unfolding lowerRoot
+root-leaf l b p n e = rw e
+
+pub root-stays : (l : ℕ) (b : List ℕ) (p n : ℕ) → n ≢ 1 → b ≡ lowerRoot l b p n
+unfolding lowerRoot
+root-stays zero b p n e = refl
+root-stays (suc l) b p n e = rw (ne-eqb n 1 e)
+
+pub root-one : (l : ℕ) (b : List ℕ) (p n : ℕ) {y : List ℕ} → n ≡ 1 → y ≡ lowerRoot l b p 1 → y ≡ lowerRoot l b p n
+root-one l b p n e h = rw e h
+
+pub total-less : (b : List ℕ) {n m : ℕ} {y : List ℕ} → n ≡ fieldAt total b → m ≡ n - 1 → y ≡ setField total b m → y ≡ takeFromTotal b
+unfolding takeFromTotal
+total-less b p q r = rw (q, p) at r
+
+pub delete-steps : (b : List ℕ) (x : Record) {d l p : ℕ} {b1 b2 y : List ℕ} {o : Left} → d ≡ fieldAt features b → l ≡ fieldAt level b → p ≡ fieldAt root b
+    → LeftDone (deleteAt d l b p x) b1 o → b2 ≡ lowerRoot l b1 p (o .count) → y ≡ takeFromTotal b2 → y ≡ deleteFrom b x
+unfolding deleteFrom
+delete-steps b x {d} {l} {p} {b1} {b2} {y} {o} d= l= p= h b2= y= =
+    y= ∙ ap takeFromTotal (b2= ∙ rw (h .bytes, h .count, d=, l=, p=))
+
+-- ---- tests
+
+pub other-no : (a i : ℕ) → a ≡ i → not (eqb a i) ≡ false
+other-no a i e = rw (eq-eqb a i e)
+
+pub other-yes : (a i : ℕ) → a ≢ i → not (eqb a i) ≡ true
+other-yes a i e = rw (ne-eqb a i e)

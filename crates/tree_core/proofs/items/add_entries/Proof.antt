@@ -1,0 +1,40 @@
+use mathlib.Core.Path.{_≡_, refl, sym, ap, _∙_}
+use mathlib.Core.List.{List, [], _∷_, _++_, append-assoc}
+use Prim.Native.Nat.{ℕ, _+_, _-_, _≤_, _<_, min}
+use native.Mathlib.Omega.{arith}
+use lib.ListN.{length, take, drop, length-append, length-take, length-drop}
+use lib.Seq.{slice, take-all}
+use denote.Ref.{now}
+use Rattle.tree_core.specs.Held.{Held}
+use Rattle.tree_core.proofs.HeldLaws.{unmapped, held-then, held-is, held-whole}
+use Rattle.pagestore.specs.declared.Entry.{Entry}
+use Rattle.tree_core.specs.Held.{heldEntries}
+use Rattle.tree_core.proofs.EntryLaws.{taken-in}
+use borrow.Author.Needs.{needs}
+use Rattle.tree_core.proofs.items.add_entries.Statement.{statement}
+use Rattle.tree_core.proofs.items.add_entries.Tie as tie
+use Rattle.tree_core.proofs.items.add_entries.Reads as reads
+use Rattle.tree_core.proofs.items.add_entries.Lts as lts
+use Rattle.tree_core.proofs.items.append_entries.Reads as append-entries-reads
+use Rattle.tree_core.proofs.keys.filled.Reads as filled-reads
+use Rattle.tree_core.proofs.keys.lesser.Reads as lesser-reads
+
+filled-requires : tie.Need-filled-requires
+filled-requires c κs = search needs
+
+lesser-requires : tie.Need-lesser-requires
+lesser-requires c κs = search needs
+
+append-entries-requires : tie.Need-append-entries-requires
+append-entries-requires c κs = search needs
+
+returns : tie.Need-returns
+returns c = let a = c .before .before .before .args in
+    let G = c .before .before .before .good in
+    let slots : length (a .inner .entries) ≡ 16 = search (unmapped, needs) in
+    let e = taken-in (a .inner .entries) (a .from) (a .to) (c .before .before .filled .result) (a .inner .count) slots (c .before .before .filled .ensures) (c .before .lesser .ensures) in
+    held-is (c .append-entries .ensures) (ap (λ (l : List Entry). heldEntries (a .all) ++ l) e)
+
+pub add-entries-spec : {M : Type 1} → statement M
+add-entries-spec =
+    tie.close (tie.spec filled-requires lesser-requires append-entries-requires returns)
