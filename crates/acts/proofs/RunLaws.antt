@@ -9,8 +9,8 @@ use lib.ListN.{length, take, drop}
 use lib.Seq.{drop-length}
 use lib.Dec.{leb}
 use borrow.Author.Tests.{leb-true, leb-false}
-use Rattle.lists.specs.Basics.{pick}
-use Rattle.lists.specs.Tests.{cases, false-true}
+use Rattle.lists.specs.Basics.{if}
+use Rattle.lists.specs.Tests.{false-true, by-cases}
 use Rattle.acts_text.specs.Bytes.{Written}
 use Rattle.acts_step.specs.Steps.{mostPrinted}
 use Rattle.acts_step.specs.Advances.{Ready, Closes, Takes, Advances, Flushed, Hands, adds, flush, both, Fresh}
@@ -167,7 +167,7 @@ pub record Uses (index₀ held₀ chunk out₀ : List ℕ) (t₀ : Progress) (in
 
 -- what is left to do
 abbrev pub left : List ℕ → Progress → ℕ
-left chunk t = pick (t .going) (suc (length chunk - t .at)) 0
+left chunk t = if (t .going) (suc (length chunk - t .at)) 0
 
 module _ (index held chunk out : List ℕ) (s t : Progress) (h : t .held ≡ s .held) (e : t .end ≡ s .end) where
   pub use-start : Fits index held out s → t .at ≡ 0 → Uses index held chunk out t index held out t
@@ -228,7 +228,7 @@ pub use-less : (chunk out : List ℕ) (t u r : Progress) → t .going ≡ true �
 use-less chunk out t u r on h k go o =
     let a = cleared-same k .1 .0 in
     let g : t .at < r .at = let b : u .at < length chunk = omega arith in let z = o go b (cleared-open k go) in omega arith in
-    cases (r .going) (λ e. rw (e, on) (omega arith)) (λ e. rw (e, on) (omega arith))
+    by-cases (r .going) (λ e. rw (e, on) (omega arith)) (λ e. rw (e, on) (omega arith))
 
 pub use-needs : {index held out : List ℕ} (n : ℕ) (t u : Progress) → Fits index held out t → t .at ≤ n → Cleared out t u → Fits index held out u × (u .at ≤ n)
 use-needs n t u f w k = let a = cleared-same k .1 .0 in (cleared-fits f k, omega arith)

@@ -7,7 +7,7 @@ use Prim.Native.Nat.{ℕ, _+_, _*_, _≤_}
 use lib.Dec.{eqb}
 use lib.IntN.{ℤ}
 use lib.ListN.{take}
-use Rattle.lists.specs.Basics.{pick}
+use Rattle.lists.specs.Basics.{if}
 use Rattle.pagestore.specs.Store.{newIndex}
 use Rattle.search.specs.Visit.{Answer as Found}
 use Rattle.index.specs.Asking.{Question, nearestOf}
@@ -41,7 +41,7 @@ questionIn a = nearestOf (pointOf a) (a .k)
 
 -- act 1 inserts, 2 deletes, 3 questions
 abbrev pub askedBy : ActLine → Act
-askedBy a = pick (eqb (a .act) 1) (insert (a .id) (pointOf a)) (pick (eqb (a .act) 2) (delete (a .id)) (question (questionIn a) rowsLent))
+askedBy a = if (eqb (a .act) 1) (insert (a .id) (pointOf a)) (if (eqb (a .act) 2) (delete (a .id)) (question (questionIn a) rowsLent))
 
 -- the act x of line n is done on index b: it leaves index c and prints t
 pub record Acted (x : Act) (b : List ℕ) (n : ℕ) (c t : List ℕ) : Type 0 where

@@ -10,8 +10,8 @@ ghost use Rattle.acts_step.specs.Printed.{rowLines};
 ghost use Rattle.acts_step.specs.Steps.{rowsLent, mostPrinted, askedBy, Acted, Asks, Puts};
 use acts_text::ActLine;
 use acts_text::output::put_result;
-use search_rows::row_of;
 use index::Criteria;
+use search_rows::row_of;
 
 // The rows lent to a question.
 const ROWS: usize = 64;

@@ -11,8 +11,8 @@ use lib.IntN.{ℤ}
 use lib.ListN.{length, take, drop, getD, set, replicate}
 use lib.Seq.{drop-cons, drop-drop, sets}
 use borrow.Author.Tests.{ltb-true, ltb-false, lt-ltb, le-ltb, eq-eqb, ne-eqb}
-use Rattle.lists.specs.Basics.{pick}
-use Rattle.lists.specs.Tests.{cases, false-true}
+use Rattle.lists.specs.Basics.{if}
+use Rattle.lists.specs.Tests.{false-true, by-cases}
 use Rattle.acts_text.specs.Bytes.{space, until}
 use Rattle.acts_text.specs.Fields.{bad, withDigit, valueFrom, illFormed, natural, negative, signed}
 use Rattle.acts_text.specs.Lines.{limit, most, leading, fieldLength, cell, row, noneBad, readableCells, cells, coordinates, unreadable, actOf}
@@ -72,7 +72,7 @@ unfolding readableCells
 readable-cells-sane b v h e = rw (ne-eqb (getD v 0 0) 0 h) e
 
 pub drop-next : (l : List ℕ) (k n : ℕ) → n ≡ min k (length l) → drop n l ≡ drop k l
-drop-next l k n e = cases (ltb k (length l))
+drop-next l k n e = by-cases (ltb k (length l))
     (λ h. let p = ltb-true k (length l) h in let q : n ≡ k = omega arith in ap (λ (i : ℕ). drop i l) q)
     (λ h. let p = ltb-false k (length l) h in drop-end l n (omega arith) ∙ sym (drop-end l k p))
 
@@ -126,12 +126,12 @@ act-good d l v cs a i k h m e r p q t u =
 
 negative-le : (m : ℕ) → negative m ≤ bad
 unfolding negative
-negative-le m = cases (eqb m 0) (λ e. rw e (omega arith)) (λ e. rw e (cases (eqb m bad) (λ t. rw t (omega arith)) (λ t. rw t (omega arith))))
+negative-le m = by-cases (eqb m 0) (λ e. rw e (omega arith)) (λ e. rw e (by-cases (eqb m bad) (λ t. rw t (omega arith)) (λ t. rw t (omega arith))))
 
 with-digit-le : (cap a b : ℕ) → cap ≤ bad → withDigit cap a b ≤ bad
 unfolding withDigit
-with-digit-le cap a b h = cases (ltb b 48) (λ e. rw e (omega arith)) (λ e. rw e (cases (ltb 57 b) (λ t. rw t (omega arith))
-    (λ t. rw t (cases (ltb cap (a * 10 + (b - 48))) (λ u. rw u (omega arith)) (λ u. let f = ltb-false cap (a * 10 + (b - 48)) u in rw u (omega arith))))))
+with-digit-le cap a b h = by-cases (ltb b 48) (λ e. rw e (omega arith)) (λ e. rw e (by-cases (ltb 57 b) (λ t. rw t (omega arith))
+    (λ t. rw t (by-cases (ltb cap (a * 10 + (b - 48))) (λ u. rw u (omega arith)) (λ u. let f = ltb-false cap (a * 10 + (b - 48)) u in rw u (omega arith))))))
 
 value-le : (cap a : ℕ) (f : List ℕ) → cap ≤ bad → a ≤ bad → valueFrom cap a f ≤ bad
 unfolding valueFrom
@@ -140,16 +140,16 @@ value-le cap a (b ∷ f) h k = value-le cap (withDigit cap a b) f h (with-digit-
 
 natural-le : (cap : ℕ) (f : List ℕ) → cap ≤ bad → natural cap f ≤ bad
 unfolding natural
-natural-le cap f h = cases (illFormed f) (λ e. rw e (omega arith)) (λ e. rw e (value-le cap 0 f h (omega arith)))
+natural-le cap f h = by-cases (illFormed f) (λ e. rw e (omega arith)) (λ e. rw e (value-le cap 0 f h (omega arith)))
 
 signed-le : (f : List ℕ) → signed f ≤ bad
 unfolding signed
-signed-le f = cases (eqb (getD f 0 0) 45) (λ e. rw e (negative-le (natural 32768 (drop 1 f)))) (λ e. rw e (natural-le 32767 f (omega arith)))
+signed-le f = by-cases (eqb (getD f 0 0) 45) (λ e. rw e (negative-le (natural 32768 (drop 1 f)))) (λ e. rw e (natural-le 32767 f (omega arith)))
 
 pub cell-le : (j : ℕ) (f : List ℕ) → cell j f ≤ bad
 unfolding cell
-cell-le j f = cases (eqb j 0) (λ e. rw e (natural-le 3 f (omega arith)))
-    (λ e. rw e (cases (ltb j 3) (λ t. rw t (natural-le 4294967295 f (omega arith))) (λ t. rw t (signed-le f))))
+cell-le j f = by-cases (eqb j 0) (λ e. rw e (natural-le 3 f (omega arith)))
+    (λ e. rw e (by-cases (ltb j 3) (λ t. rw t (natural-le 4294967295 f (omega arith))) (λ t. rw t (signed-le f))))
 
 pub row-le : (n j : ℕ) (l : List ℕ) (m : ℕ) → getD (row n j l) m 0 ≤ bad
 unfolding row
@@ -176,16 +176,16 @@ zeros-le (suc n) (suc m) = zeros-le n m
 pub none-bad-at : (v : List ℕ) (m : ℕ) → noneBad v ≡ true → getD v m 0 ≢ bad
 unfolding noneBad
 none-bad-at [] m h e = omega (arith, e)
-none-bad-at (x ∷ v) zero h e = false-true (sym (ap (λ (b : Bool). pick b false (noneBad v)) (eq-eqb x bad e)) ∙ h)
-none-bad-at (x ∷ v) (suc m) h e = cases (eqb x bad)
-    (λ t. false-true (sym (ap (λ (b : Bool). pick b false (noneBad v)) t) ∙ h))
-    (λ t. none-bad-at v m (sym (ap (λ (b : Bool). pick b false (noneBad v)) t) ∙ h) e)
+none-bad-at (x ∷ v) zero h e = false-true (sym (ap (λ (b : Bool). if b false (noneBad v)) (eq-eqb x bad e)) ∙ h)
+none-bad-at (x ∷ v) (suc m) h e = by-cases (eqb x bad)
+    (λ t. false-true (sym (ap (λ (b : Bool). if b false (noneBad v)) t) ∙ h))
+    (λ t. none-bad-at v m (sym (ap (λ (b : Bool). if b false (noneBad v)) t) ∙ h) e)
 
 pub readable-none-bad : (v : List ℕ) → readableCells v ≡ true → noneBad v ≡ true
 unfolding readableCells
-readable-none-bad v h = cases (eqb (getD v 0 0) 0)
-    (λ t. false-true (sym (ap (λ (b : Bool). pick b false (noneBad v)) t) ∙ h))
-    (λ t. sym (ap (λ (b : Bool). pick b false (noneBad v)) t) ∙ h)
+readable-none-bad v h = by-cases (eqb (getD v 0 0) 0)
+    (λ t. false-true (sym (ap (λ (b : Bool). if b false (noneBad v)) t) ∙ h))
+    (λ t. sym (ap (λ (b : Bool). if b false (noneBad v)) t) ∙ h)
 
 pub cells-fit : (n : ℕ) (l v : List ℕ) → v ≡ cells n l → readableCells v ≡ true → (m : ℕ) → getD v m 0 ≤ 4294967295
 unfolding cells

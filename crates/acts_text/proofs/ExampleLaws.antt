@@ -6,7 +6,7 @@ use Prim.Native.Nat.{ℕ}
 use lib.Dec.{eqb}
 use lib.IntN.{pos, negsuc}
 use lib.ListN.{replicate, drop}
-use Rattle.lists.specs.Basics.{pick, run}
+use Rattle.lists.specs.Basics.{if, tabulate}
 use Rattle.acts_text.specs.Bytes.{until}
 use Rattle.acts_text.specs.Decimal.{decimal}
 use Rattle.acts_text.specs.Fields.{withDigit, valueFrom, illFormed, natural, negative, signed, ofBits}
@@ -19,10 +19,10 @@ use Rattle.acts_text.specs.Examples.{unreadables, unnamed, wholeCase}
 -- a test holds of each line
 unfoldable every : (List ℕ → Bool) → List (List ℕ) → Bool
 every f [] = true
-every f (l ∷ ls) = pick (f l) (every f ls) false
+every f (l ∷ ls) = if (f l) (every f ls) false
 
 all-unreadable : every (λ l. not (actOf 2 l .readable)) unreadables ≡ true
-unfolding every until withDigit valueFrom illFormed natural negative signed ofBits fieldLength cell row cells noneBad readableCells coordinates run actOf
+unfolding every until withDigit valueFrom illFormed natural negative signed ofBits fieldLength cell row cells noneBad readableCells coordinates tabulate actOf
 all-unreadable = refl
 
 all-unnamed : every (λ l. eqb (namesIn l) 0) unnamed ≡ true
@@ -42,7 +42,7 @@ whole-acts : map (actOf 2) (drop 1 (linesOf wholeCase))
     ∷ record { readable = true; act = 2; id = 7; k = 0; d = 2; coords = pos 0 ∷ pos 0 ∷ replicate 14 (pos 0) }
     ∷ record { readable = true; act = 3; id = 0; k = 2; d = 2; coords = negsuc 99 ∷ negsuc 99 ∷ replicate 14 (pos 0) }
     ∷ []
-unfolding before linesOf until withDigit valueFrom illFormed natural negative signed ofBits fieldLength cell row cells noneBad readableCells coordinates run actOf
+unfolding before linesOf until withDigit valueFrom illFormed natural negative signed ofBits fieldLength cell row cells noneBad readableCells coordinates tabulate actOf
 whole-acts = refl
 
 -- `5 0 7 80000 1`

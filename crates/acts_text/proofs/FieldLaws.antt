@@ -11,7 +11,7 @@ use lib.ListN.{length, take, drop, getD, length-append, List·getD-append}
 use lib.Seq.{take-suc, take-all, getD-take}
 use borrow.Author.Tests.{eqb-true, eqb-false, ltb-true, ltb-false, lt-ltb, le-ltb, eq-eqb}
 use Rattle.lists.specs.Basics.{All, none, also, all-append}
-use Rattle.lists.specs.Tests.{cases, false-true}
+use Rattle.lists.specs.Tests.{false-true, by-cases}
 use Rattle.acts_text.specs.Decimal.{decimal, text, signedText}
 use Rattle.acts_text.specs.Fields.{bad, withDigit, valueFrom, illFormed, natural, negative, signed, ofBits}
 use Rattle.acts_text.proofs.DigitLaws.{with-digit-fits, with-digit-low, with-digit-high, with-digit-over, ill-formed-none, ill-formed-zero, ill-formed-not, natural-bad, natural-value, negative-none, negative-bad, negative-fits, signed-plain}
@@ -40,7 +40,7 @@ one cap n h k = with-last cap 0 n h (omega arith)
 value : (cap k n : ℕ) → n ≤ cap → n < room k → valueFrom cap 0 (decimal k n) ≡ n
 unfolding decimal room
 value cap zero n h r = one cap n h r
-value cap (suc k) n h r = cases (ltb n 10)
+value cap (suc k) n h r = by-cases (ltb n 10)
     (λ e. rw e (one cap n h (ltb-true n 10 e)))
     (λ e. let t = ltb-false n 10 e in rw e (value-snoc cap 0 (decimal k (n / 10)) (48 + n % 10)
     ∙ with-last cap (valueFrom cap 0 (decimal k (n / 10))) n h (value cap k (n / 10) (omega arith) (omega arith))))
@@ -48,12 +48,12 @@ value cap (suc k) n h r = cases (ltb n 10)
 some : (k n : ℕ) → 0 < length (decimal k n)
 unfolding decimal
 some zero n = omega arith
-some (suc k) n = cases (ltb n 10) (λ e. rw e (omega arith)) (λ e. rw e (simp length-append (omega arith)))
+some (suc k) n = by-cases (ltb n 10) (λ e. rw e (omega arith)) (λ e. rw e (simp length-append (omega arith)))
 
 head : (k n : ℕ) → 0 < n → n < room k → getD (decimal k n) 0 0 ≢ 48
 unfolding decimal room
 head zero n h r = λ e. omega (arith, e)
-head (suc k) n h r = cases (ltb n 10)
+head (suc k) n h r = by-cases (ltb n 10)
     (λ e. let t = ltb-true n 10 e in rw e (λ x. omega (arith, x)))
     (λ e. let t = ltb-false n 10 e in rw e (λ x. head k (n / 10) (omega arith) (omega arith) (sym (List·getD-append (decimal k (n / 10)) ((48 + n % 10) ∷ []) 0 0 (some k (n / 10))) ∙ x)))
 
@@ -75,11 +75,11 @@ record Taken (cap a b : ℕ) : Type 0 where
   is : withDigit cap a b ≡ a * 10 + (b - 48)
 
 is-taken : (cap a b : ℕ) → withDigit cap a b ≢ bad → Taken cap a b
-is-taken cap a b h = cases (ltb b 48)
+is-taken cap a b h = by-cases (ltb b 48)
     (λ e. absurd (h (sym (with-digit-low cap a b (ltb-true b 48 e)))))
-    (λ e. cases (ltb 57 b)
+    (λ e. by-cases (ltb 57 b)
     (λ t. absurd (h (sym (with-digit-high cap a b (ltb-false b 48 e) (ltb-true 57 b t)))))
-    (λ t. cases (ltb cap (a * 10 + (b - 48)))
+    (λ t. by-cases (ltb cap (a * 10 + (b - 48)))
     (λ u. absurd (h (sym (with-digit-over cap a b (ltb-false b 48 e) (ltb-false 57 b t) (ltb-true cap (a * 10 + (b - 48)) u)))))
     (λ u. record {
       low = ltb-false b 48 e;
@@ -132,7 +132,7 @@ led-head : (f : List ℕ) → illFormed f ≡ false → 1 < length f → getD f 
 led-head f m h e = false-true (sym (sym (lt-ltb 1 (length f) h) ∙ ill-formed-zero f (λ x. omega (arith, x)) e ∙ m))
 
 read-led : (cap : ℕ) (f : List ℕ) → natural cap f ≢ bad → illFormed f ≡ false
-read-led cap f h = cases (illFormed f) (λ e. absurd (h (sym (natural-bad cap f e)))) (λ e. e)
+read-led cap f h = by-cases (illFormed f) (λ e. absurd (h (sym (natural-bad cap f e)))) (λ e. e)
 
 whole : (cap k n : ℕ) (f : List ℕ) → cap < bad → length f ≡ suc n → n ≤ k → illFormed f ≡ false → valueFrom cap 0 f ≢ bad → f ≡ decimal k (valueFrom cap 0 f)
 whole cap k n f c l m e h =
@@ -153,7 +153,7 @@ fuel : (k j n : ℕ) → n < room k → n < room j → decimal k n ≡ decimal j
 unfolding decimal room
 fuel zero j n h i = sym (decimal-small j n h)
 fuel (suc k) zero n h i = decimal-small (suc k) n i
-fuel (suc k) (suc j) n h i = cases (ltb n 10) (λ e. rw e)
+fuel (suc k) (suc j) n h i = by-cases (ltb n 10) (λ e. rw e)
     (λ e. rw e (ap (λ (x : List ℕ). x ++ ((48 + n % 10) ∷ [])) (fuel k j (n / 10) (omega arith) (omega arith))))
 
 past : ℕ → ℕ
@@ -173,14 +173,14 @@ past-room (suc n) = omega (arith, past-room n)
 bad-on : (cap : ℕ) (f : List ℕ) → cap < bad → valueFrom cap bad f ≡ bad
 unfolding valueFrom
 bad-on cap [] c = refl
-bad-on cap (b ∷ f) c = cases (eqb (withDigit cap bad b) bad)
+bad-on cap (b ∷ f) c = by-cases (eqb (withDigit cap bad b) bad)
     (λ e. ap (λ (x : ℕ). valueFrom cap x f) (eqb-true (withDigit cap bad b) bad e) ∙ bad-on cap f c)
     (λ e. absurd (bad-stays cap bad b c (eqb-false (withDigit cap bad b) bad e) refl))
 
 within : (cap a : ℕ) (f : List ℕ) → cap < bad → a ≤ cap → valueFrom cap a f ≢ bad → valueFrom cap a f ≤ cap
 unfolding valueFrom
 within cap a [] c h n = h
-within cap a (b ∷ f) c h n = cases (eqb (withDigit cap a b) bad)
+within cap a (b ∷ f) c h n = by-cases (eqb (withDigit cap a b) bad)
     (λ e. absurd (n (ap (λ (x : ℕ). valueFrom cap x f) (eqb-true (withDigit cap a b) bad e) ∙ bad-on cap f c)))
     (λ e. let t = is-taken cap a b (eqb-false (withDigit cap a b) bad e) in within cap (withDigit cap a b) f c (rw (t .is) (t .fits)) n)
 
@@ -209,7 +209,7 @@ digit n = omega arith
 pub digits : (k n : ℕ) → All (λ b. 48 ≤ b) (decimal k n)
 unfolding decimal
 digits zero n = also (digit n) none
-digits (suc k) n = cases (ltb n 10) (λ e. rw e (also (digit n) none)) (λ e. rw e (all-append (digits k (n / 10)) (also (digit n) none)))
+digits (suc k) n = by-cases (ltb n 10) (λ e. rw e (also (digit n) none)) (λ e. rw e (all-append (digits k (n / 10)) (also (digit n) none)))
 
 first : (l : List ℕ) → All (λ b. 48 ≤ b) l → 0 < length l → 48 ≤ getD l 0 0
 first [] a h = absurd (omega (arith, h))
@@ -240,7 +240,7 @@ signed-below f e = rw (eq-eqb (getD f 0 0) 45 e)
 
 -- the writing of the number whose 16 bits are v is read as v
 pub signed-reads : (v : ℕ) → v < 65536 → signed (signedText (ofBits v)) ≡ v
-signed-reads v h = cases (ltb v 32768)
+signed-reads v h = by-cases (ltb v 32768)
     (λ e. let l = ltb-true v 32768 e in rw (bits-low v l) (signed-pos v l))
     (λ e. let g = ltb-false v 32768 e in let s : 65535 - (65535 - v) ≡ v = omega arith in rw (bits-high v g) (signed-neg (65535 - v) (omega arith) ∙ s))
 
@@ -250,7 +250,7 @@ split (x ∷ f) b e = ap (λ (y : ℕ). y ∷ f) e
 
 -- and a readable field is the writing of a number of 16 bits
 pub signed-writes : (f : List ℕ) → signed f ≢ bad → (f ≡ signedText (ofBits (signed f))) × (signed f < 65536)
-signed-writes f h = cases (eqb (getD f 0 0) 45) (λ e. below (eqb-true (getD f 0 0) 45 e)) (λ e. above (eqb-false (getD f 0 0) 45 e))
+signed-writes f h = by-cases (eqb (getD f 0 0) 45) (λ e. below (eqb-true (getD f 0 0) 45 e)) (λ e. above (eqb-false (getD f 0 0) 45 e))
   where
     above : getD f 0 0 ≢ 45 → (f ≡ signedText (ofBits (signed f))) × (signed f < 65536)
     above e =
@@ -278,5 +278,5 @@ pub length-decimal : (j k n : ℕ) → n < room k → length (decimal j n) ≤ s
 unfolding decimal room
 length-decimal zero k n h = omega arith
 length-decimal (suc j) zero n h = rw (lt-ltb n 10 h) (omega arith)
-length-decimal (suc j) (suc k) n h = cases (ltb n 10) (λ e. rw e (omega arith))
+length-decimal (suc j) (suc k) n h = by-cases (ltb n 10) (λ e. rw e (omega arith))
     (λ e. rw e (simp length-append (omega (arith, length-decimal j k (n / 10) (omega arith)))))

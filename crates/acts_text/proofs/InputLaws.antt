@@ -11,7 +11,7 @@ use lib.ListN.{length, take, drop, length-append, length-take, length-drop}
 use lib.Seq.{take-all, take-at, take-append-add, drop-drop}
 use borrow.Author.Tests.{eqb-true, eqb-false, ltb-true, ltb-false, ne-eqb}
 use Rattle.lists.specs.Basics.{All, none, also, all-append}
-use Rattle.lists.specs.Tests.{cases}
+use Rattle.lists.specs.Tests.{by-cases}
 use Rattle.acts_text.specs.Bytes.{newline, until, Stored}
 use Rattle.acts_text.specs.Input.{before, linesOf, kept, ended, current, lastLine, piece, Feeds}
 use Rattle.acts_text.specs.declared.Fed.{Fed}
@@ -33,12 +33,12 @@ lines-last (also {x = b} h (also k t)) = rw (ne-eqb b newline h) (ap (before b) 
 pub ended-append : (l s t : List ℕ) → ended l (s ++ t) ≡ ended l s ++ ended (current l s) t
 unfolding ended current
 ended-append l [] t = refl
-ended-append l (b ∷ s) t = cases (eqb b newline) (λ e. rw e (ap (λ (x : List (List ℕ)). l ∷ x) (ended-append [] s t))) (λ e. rw e (ended-append (kept (l ++ (b ∷ []))) s t))
+ended-append l (b ∷ s) t = by-cases (eqb b newline) (λ e. rw e (ap (λ (x : List (List ℕ)). l ∷ x) (ended-append [] s t))) (λ e. rw e (ended-append (kept (l ++ (b ∷ []))) s t))
 
 pub current-append : (l s t : List ℕ) → current l (s ++ t) ≡ current (current l s) t
 unfolding current
 current-append l [] t = refl
-current-append l (b ∷ s) t = cases (eqb b newline) (λ e. rw e (current-append [] s t)) (λ e. rw e (current-append (kept (l ++ (b ∷ []))) s t))
+current-append l (b ∷ s) t = by-cases (eqb b newline) (λ e. rw e (current-append [] s t)) (λ e. rw e (current-append (kept (l ++ (b ∷ []))) s t))
 
 take-more : (m : ℕ) (l x : List ℕ) → take m (take m l ++ x) ≡ take m (l ++ x)
 take-more zero l x = refl
@@ -56,7 +56,7 @@ kept-last (b ∷ l) = refl
 lines-from : {l : List ℕ} → All (λ b. b ≢ newline) l → (s : List ℕ) → map kept (linesOf (l ++ s)) ≡ ended (kept l) s ++ lastLine (current (kept l) s)
 unfolding ended current
 lines-from {l} a [] = ap (λ (x : List ℕ). map kept (linesOf x)) (append-nil l) ∙ ap (map kept) (lines-last a) ∙ kept-last l
-lines-from {l} a (b ∷ s) = cases (eqb b newline)
+lines-from {l} a (b ∷ s) = by-cases (eqb b newline)
     (λ e. let n = eqb-true b newline e in
     ap (λ (x : ℕ). map kept (linesOf (l ++ (x ∷ s)))) n ∙ ap (map kept) (lines-line a s) ∙ rw e (ap (λ (x : List (List ℕ)). kept l ∷ x) (lines-from none s)))
     (λ e. ap (λ (x : List ℕ). map kept (linesOf x)) (sym (append-assoc l (b ∷ []) s))
@@ -72,7 +72,7 @@ lines-kept s = lines-from none s
 until-le : (b : ℕ) (s : List ℕ) → until b s ≤ length s
 unfolding until
 until-le b [] = omega arith
-until-le b (x ∷ s) = cases (eqb x b) (λ e. rw e (omega arith)) (λ e. rw e (omega (arith, until-le b s)))
+until-le b (x ∷ s) = by-cases (eqb x b) (λ e. rw e (omega arith)) (λ e. rw e (omega (arith, until-le b s)))
 
 abbrev Ends : List ℕ → List ℕ → Type 0
 Ends l s = (ended (kept l) s ≡ kept (l ++ take (until newline s) s) ∷ ended [] (drop (suc (until newline s)) s)) × (current (kept l) s ≡ current [] (drop (suc (until newline s)) s))
@@ -80,7 +80,7 @@ Ends l s = (ended (kept l) s ≡ kept (l ++ take (until newline s) s) ∷ ended 
 ends : (l s : List ℕ) → until newline s < length s → Ends l s
 unfolding until ended current
 ends l [] h = absurd (omega (arith, h))
-ends l (b ∷ s) h = cases (eqb b newline)
+ends l (b ∷ s) h = by-cases (eqb b newline)
     (λ e. rw e (ap (λ (x : List ℕ). kept x ∷ ended [] s) (sym (append-nil l)), refl))
     (λ e. let i = ends (l ++ (b ∷ [])) s (let g = rw e at h in omega (arith, g)) in
     rw (e, kept-more l (b ∷ [])) (i .0 ∙ ap (λ (x : List ℕ). kept x ∷ ended [] (drop (suc (until newline s)) s)) (append-assoc l (b ∷ []) (take (until newline s) s)), i .1))
@@ -91,13 +91,13 @@ Goes l s = (ended (kept l) s ≡ []) × (current (kept l) s ≡ kept (l ++ s))
 goes : (l s : List ℕ) → length s ≤ until newline s → Goes l s
 unfolding until ended current
 goes l [] h = (refl, ap kept (sym (append-nil l)))
-goes l (b ∷ s) h = cases (eqb b newline)
+goes l (b ∷ s) h = by-cases (eqb b newline)
     (λ e. absurd (let g = rw e at h in omega (arith, g)))
     (λ e. let i = goes (l ++ (b ∷ [])) s (let g = rw e at h in omega (arith, g)) in
     rw (e, kept-more l (b ∷ [])) (i .0, i .1 ∙ ap kept (append-assoc l (b ∷ []) s)))
 
 take-min : (a b : ℕ) (l : List ℕ) → take (min a b) l ≡ take b (take a l)
-take-min a b l = cases (ltb a b)
+take-min a b l = by-cases (ltb a b)
     (λ h. let p = ltb-true a b h in let e : min a b ≡ a = omega arith in rw e (sym (take-all b (take a l) (simp length-take (omega arith)))))
     (λ h. let p = ltb-false a b h in let e : min a b ≡ b = omega arith in rw e (shorter b a l p))
   where

@@ -11,9 +11,9 @@ use lib.ListN.{length, take, drop, getD, set, replicate, length-append, length-t
 use lib.Seq.{sets, take-all, take-at, drop-at}
 use borrow.Author.Tests.{eqb-true, ltb-true, ltb-false, lt-ltb, le-ltb, ne-eqb}
 use Rattle.lists.specs.Basics.{All, none, also}
-use Rattle.lists.specs.Runs.{run-ext, run-take}
-use Rattle.lists.specs.FlatLaws.{map-append}
-use Rattle.lists.specs.Tests.{cases, false-true}
+use Rattle.lists.specs.Tabulated.{tabulate-ext, tabulate-take}
+use Rattle.lists.specs.ConcatMapLaws.{map-append}
+use Rattle.lists.specs.Tests.{false-true, by-cases}
 use Rattle.acts_text.specs.Decimal.{text, signedText}
 use Rattle.acts_text.specs.Fields.{bad, ofBits}
 use Rattle.acts_text.specs.Lines.{most, row, noneBad, readableCells, cells, coordinates, limit, unreadable, actOf}
@@ -52,8 +52,8 @@ coordinates-are : (a i k : ℕ) (xs : List ℕ) → length xs ≡ 16 → coordin
 unfolding coordinates ofBits
 coordinates-are a i k xs h =
     let l : length (map ofBits xs) ≡ 16 = length-map xs ofBits ∙ h in
-    run-ext 16 (λ m. ofBits (getD (a ∷ i ∷ k ∷ xs) (3 + m) 0)) (λ m. getD (map ofBits xs) m (pos 0)) (λ m g. ap ofBits (getD-third a i k xs m) ∙ sym (List·getD-map ofBits xs m 0))
-    ∙ run-take (map ofBits xs) (pos 0) 16 (omega arith) ∙ take-all 16 (map ofBits xs) (omega arith)
+    tabulate-ext 16 (λ m. ofBits (getD (a ∷ i ∷ k ∷ xs) (3 + m) 0)) (λ m. getD (map ofBits xs) m (pos 0)) (λ m g. ap ofBits (getD-third a i k xs m) ∙ sym (List·getD-map ofBits xs m 0))
+    ∙ tabulate-take (map ofBits xs) (pos 0) 16 (omega arith) ∙ take-all 16 (map ofBits xs) (omega arith)
 
 none-bad-cons : (v : ℕ) (zs : List ℕ) → v ≢ bad → noneBad zs ≡ true → noneBad (v ∷ zs) ≡ true
 unfolding noneBad
@@ -110,7 +110,7 @@ texts-coordinates j [] h = refl
 texts-coordinates j (c ∷ cs) h = rw (le-ltb j 3 h) (ap (λ (x : List (List ℕ)). signedText (ofBits c) ∷ x) (texts-coordinates (j + 1) cs (omega arith)))
 
 bits-coordinate : (v : ℕ) → v < 65536 → Coordinate (ofBits v)
-bits-coordinate v h = cases (ltb v 32768)
+bits-coordinate v h = by-cases (ltb v 32768)
     (λ e. let g = ltb-true v 32768 e in rw (bits-low v g) (omega arith))
     (λ e. let g = ltb-false v 32768 e in rw (bits-high v g) (omega arith))
 
@@ -150,11 +150,11 @@ record Parts (d : ℕ) (l : List ℕ) : Type 0 where
   good : readableCells (cells (3 + d) l) ≡ true
 
 parts : (d : ℕ) (l : List ℕ) → actOf d l .readable ≡ true → Parts d l
-parts d l h = cases (ltb limit (length l))
+parts d l h = by-cases (ltb limit (length l))
     (λ e. not-this (act-long d l (ltb-true limit (length l) e)))
-    (λ e. cases (ltb most d)
+    (λ e. by-cases (ltb most d)
     (λ t. not-this (act-wide d l (ltb-false limit (length l) e) (ltb-true most d t)))
-    (λ t. cases (readableCells (cells (3 + d) l))
+    (λ t. by-cases (readableCells (cells (3 + d) l))
     (λ u. record { short = ltb-false limit (length l) e; few = ltb-false most d t; good = u })
     (λ u. not-this (act-bad d l (ltb-false limit (length l) e) (ltb-false most d t) u))))
   where
@@ -191,15 +191,15 @@ act-writes d l h =
 
 thin : (v : ℕ) → v < 65536 → length (signedText (ofBits v)) ≤ 10
 unfolding room
-thin v h = cases (ltb v 32768)
+thin v h = by-cases (ltb v 32768)
     (λ e. let g = ltb-true v 32768 e in rw (bits-low v g) (length-decimal 19 9 v (omega arith)))
     (λ e. let g = ltb-false v 32768 e in rw (bits-high v g) (omega (arith, length-decimal 19 8 (suc (65535 - v)) (omega arith))))
 
 cell-thin : (j v : ℕ) → v < cellRoom j → length (cellText j v) ≤ 10
 unfolding cellText cellRoom room
-cell-thin j v h = cases (eqb j 0)
+cell-thin j v h = by-cases (eqb j 0)
     (λ e. let z = eqb-true j 0 e in let l : ltb j 3 ≡ true = lt-ltb j 3 (omega arith) in rw l (length-decimal 19 9 v (let g = rw e at h in omega arith)))
-    (λ e. cases (ltb j 3)
+    (λ e. by-cases (ltb j 3)
     (λ t. rw t (length-decimal 19 9 v (let g = rw (e, t) at h in omega arith)))
     (λ t. rw t (thin v (let g = rw (e, t) at h in omega arith))))
 
@@ -215,7 +215,7 @@ line-thin {j} (next {v = v} {vs = vs} h r) = omega (arith, length-joined (cellTe
 
 room-below : (j : ℕ) → cellRoom j ≤ bad
 unfolding cellRoom
-room-below j = cases (eqb j 0) (λ e. rw e (omega arith)) (λ e. rw e (cases (ltb j 3) (λ t. rw t (omega arith)) (λ t. rw t (omega arith))))
+room-below j = by-cases (eqb j 0) (λ e. rw e (omega arith)) (λ e. rw e (by-cases (ltb j 3) (λ t. rw t (omega arith)) (λ t. rw t (omega arith))))
 
 room-fine : {j : ℕ} {vs : List ℕ} → RoomFrom j vs → noneBad vs ≡ true
 unfolding noneBad
@@ -283,12 +283,12 @@ act-reads d a g =
 
 -- what is kept of a line is enough to read it
 pub act-kept : (d : ℕ) (l : List ℕ) → actOf d (kept l) ≡ actOf d l
-act-kept d l = cases (ltb 257 (length l))
+act-kept d l = by-cases (ltb 257 (length l))
     (λ e. let g = ltb-true 257 (length l) e in let m = length-take 257 l in sym (act-long d (kept l) (omega arith)) ∙ act-long d l (omega arith))
     (λ e. ap (actOf d) (take-all 257 l (ltb-false 257 (length l) e)))
 
 -- a line of values in their ranges is within the limit, which so never decides by itself
 pub line-short : (d : ℕ) (a : ActLine) → Ranged d a → length (lineText a) ≤ limit
-line-short d a g = cases (ltb limit (length (lineText a)))
+line-short d a g = by-cases (ltb limit (length (lineText a)))
     (λ e. false-true (ap (λ (x : ActLine). x .readable) (act-long d (lineText a) (ltb-true limit (length (lineText a)) e) ∙ act-reads d a g) ∙ g .says))
     (λ e. ltb-false limit (length (lineText a)) e)

@@ -10,8 +10,9 @@ use lib.Dec.{ltb, eqb}
 use lib.ListN.{length, take, length-take}
 use lib.Seq.{take-all}
 use borrow.Author.Tests.{eqb-true, eqb-false, ltb-true, ltb-false, ne-eqb}
-use Rattle.lists.specs.Basics.{pick}
-use Rattle.lists.specs.Tests.{cases, false-true}
+use Rattle.lists.specs.Basics.{if}
+use Rattle.lists.specs.Tests.{false-true, by-cases}
+use Rattle.lists.specs.Equal.{same, same-is}
 use Rattle.acts_text.specs.Decimal.{decimal}
 use Rattle.acts_text.specs.Names.{names, allNames, isPrefix, featuresIn, namesIn}
 use Rattle.acts_text.specs.Input.{kept}
@@ -20,41 +21,26 @@ use Rattle.acts_text.proofs.PrefixLaws.{names-in, names-out, prefix-lon
 -- the test holds of each number below n
 unfoldable allBelow : ℕ → (ℕ → Bool) → Bool
 allBelow zero f = true
-allBelow (suc n) f = pick (f n) (allBelow n f) false
+allBelow (suc n) f = if (f n) (allBelow n f) false
 
 all-below : (n : ℕ) (f : ℕ → Bool) → allBelow n f ≡ true → (m : ℕ) → m < n → f m ≡ true
 unfolding allBelow
 all-below zero f h m l = absurd (omega arith)
-all-below (suc n) f h m l = cases (f n)
-    (λ e. cases (eqb m n) (λ t. ap f (eqb-true m n t) ∙ e)
-    (λ t. let d = eqb-false m n t in all-below n f (sym (ap (λ (b : Bool). pick b (allBelow n f) false) e) ∙ h) m (omega arith)))
-    (λ e. false-true (sym (ap (λ (b : Bool). pick b (allBelow n f) false) e) ∙ h))
-
-unfoldable same : List ℕ → List ℕ → Bool
-same [] [] = true
-same [] (y ∷ ys) = false
-same (x ∷ xs) [] = false
-same (x ∷ xs) (y ∷ ys) = pick (eqb x y) (same xs ys) false
-
-same-are : (xs ys : List ℕ) → same xs ys ≡ true → xs ≡ ys
-unfolding same
-same-are [] [] h = refl
-same-are [] (y ∷ ys) h = false-true h
-same-are (x ∷ xs) [] h = false-true h
-same-are (x ∷ xs) (y ∷ ys) h = cases (eqb x y)
-    (λ e. ap (λ (z : ℕ). z ∷ xs) (eqb-true x y e) ∙ ap (λ (zs : List ℕ). y ∷ zs) (same-are xs ys (sym (ap (λ (b : Bool). pick b (same xs ys) false) e) ∙ h)))
-    (λ e. false-true (sym (ap (λ (b : Bool). pick b (same xs ys) false) e) ∙ h))
+all-below (suc n) f h m l = by-cases (f n)
+    (λ e. by-cases (eqb m n) (λ t. ap f (eqb-true m n t) ∙ e)
+    (λ t. let d = eqb-false m n t in all-below n f (sym (ap (λ (b : Bool). if b (allBelow n f) false) e) ∙ h) m (omega arith)))
+    (λ e. false-true (sym (ap (λ (b : Bool). if b (allBelow n f) false) e) ∙ h))
 
 -- a length that some line of names has is that of `names d`, with d at most 16, and the table begins with it
 unfoldable right : ℕ → Bool
-right n = pick (eqb (featuresIn n) 0) true (pick (ltb 16 (featuresIn n)) false (same (take n allNames) (names (featuresIn n))))
+right n = if (eqb (featuresIn n) 0) true (if (ltb 16 (featuresIn n)) false (same (take n allNames) (names (featuresIn n))))
 
 all-right : allBelow 63 right ≡ true
 unfolding allBelow right same names decimal featuresIn
 all-right = refl
 
 unfoldable back : ℕ → Bool
-back d = pick (eqb d 0) true (eqb (namesIn (names d)) d)
+back d = if (eqb d 0) true (eqb (namesIn (names d)) d)
 
 all-back : allBelow 17 back ≡ true
 unfolding allBelow back names decimal isPrefix featuresIn namesIn
@@ -65,28 +51,28 @@ pub names-reads : (d : ℕ) → 1 ≤ d → d ≤ 16 → namesIn (names d) ≡ d
 unfolding back
 names-reads d h k =
     let e : eqb d 0 ≡ false = ne-eqb d 0 (λ x. omega (arith, x)) in
-    eqb-true (namesIn (names d)) d (sym (ap (λ (b : Bool). pick b true (eqb (namesIn (names d)) d)) e) ∙ all-below 17 back all-back d (omega arith))
+    eqb-true (namesIn (names d)) d (sym (ap (λ (b : Bool). if b true (eqb (namesIn (names d)) d)) e) ∙ all-below 17 back all-back d (omega arith))
 
 prefix-take : (l t : List ℕ) → isPrefix l t ≡ true → (l ≡ take (length l) t) × (length l ≤ length t)
 unfolding isPrefix
 prefix-take [] t h = (refl, omega arith)
 prefix-take (x ∷ l) [] h = false-true h
-prefix-take (x ∷ l) (y ∷ t) h = cases (eqb x y)
-    (λ e. let i = prefix-take l t (sym (ap (λ (b : Bool). pick b (isPrefix l t) false) e) ∙ h) in let g = i .1 in
+prefix-take (x ∷ l) (y ∷ t) h = by-cases (eqb x y)
+    (λ e. let i = prefix-take l t (sym (ap (λ (b : Bool). if b (isPrefix l t) false) e) ∙ h) in let g = i .1 in
     (ap (λ (z : ℕ). z ∷ l) (eqb-true x y e) ∙ ap (λ (zs : List ℕ). y ∷ zs) (i .0), omega arith))
-    (λ e. false-true (sym (ap (λ (b : Bool). pick b (isPrefix l t) false) e) ∙ h))
+    (λ e. false-true (sym (ap (λ (b : Bool). if b (isPrefix l t) false) e) ∙ h))
 
 right-one : (n : ℕ) → featuresIn n ≢ 0 → right n ≡ true → (take n allNames ≡ names (featuresIn n)) × (featuresIn n ≤ 16)
 unfolding right
 right-one n z h =
-    let e : pick (ltb 16 (featuresIn n)) false (same (take n allNames) (names (featuresIn n))) ≡ true = sym (ap (λ (b : Bool). pick b true (pick (ltb 16 (featuresIn n)) false (same (take n allNames) (names (featuresIn n))))) (ne-eqb (featuresIn n) 0 z)) ∙ h in
-    cases (ltb 16 (featuresIn n))
-    (λ t. false-true (sym (ap (λ (b : Bool). pick b false (same (take n allNames) (names (featuresIn n)))) t) ∙ e))
-    (λ t. (same-are (take n allNames) (names (featuresIn n)) (sym (ap (λ (b : Bool). pick b false (same (take n allNames) (names (featuresIn n)))) t) ∙ e), ltb-false 16 (featuresIn n) t))
+    let e : if (ltb 16 (featuresIn n)) false (same (take n allNames) (names (featuresIn n))) ≡ true = sym (ap (λ (b : Bool). if b true (if (ltb 16 (featuresIn n)) false (same (take n allNames) (names (featuresIn n))))) (ne-eqb (featuresIn n) 0 z)) ∙ h in
+    by-cases (ltb 16 (featuresIn n))
+    (λ t. false-true (sym (ap (λ (b : Bool). if b false (same (take n allNames) (names (featuresIn n)))) t) ∙ e))
+    (λ t. (same-is (take n allNames) (names (featuresIn n)) (sym (ap (λ (b : Bool). if b false (same (take n allNames) (names (featuresIn n)))) t) ∙ e), ltb-false 16 (featuresIn n) t))
 
 -- and a line that is read as d is the line of d names, and d is at most 16
 pub names-writes : (l : List ℕ) → namesIn l ≢ 0 → (l ≡ names (namesIn l)) × (namesIn l ≤ 16)
-names-writes l h = cases (isPrefix l allNames)
+names-writes l h = by-cases (isPrefix l allNames)
     (λ e. let n : featuresIn (length l) ≡ namesIn l = names-in (featuresIn (length l)) l e refl in
     let p = prefix-take l allNames e in
     let g : length l ≤ 62 = p .1 in
@@ -97,7 +83,7 @@ names-writes l h = cases (isPrefix l allNames)
 
 -- what is kept of a line is enough to read it
 pub names-kept : (l : List ℕ) → namesIn (kept l) ≡ namesIn l
-names-kept l = cases (ltb 257 (length l))
+names-kept l = by-cases (ltb 257 (length l))
     (λ e. let g = ltb-true 257 (length l) e in let m = length-take 257 l in
     sym (names-out (kept l) (sym (prefix-long (kept l) allNames (omega arith)))) ∙ names-out l (sym (prefix-long l allNames (omega arith))))
     (λ e. ap namesIn (take-all 257 l (ltb-false 257 (length l) e)))

@@ -10,7 +10,7 @@ use lib.Dec.{eqb}
 use lib.ListN.{length, drop, getD}
 use lib.Seq.{drop-cons}
 use borrow.Author.Tests.{le-leb, lt-leb, eq-eqb, ne-eqb}
-use Rattle.lists.specs.Tests.{cases}
+use Rattle.lists.specs.Tests.{by-cases}
 use Rattle.acts_text.specs.Names.{lead, ten, isPrefix, allNames, featuresIn, namesIn}
 use Rattle.acts_text.proofs.DigitLaws.{drop-end}
 
@@ -30,7 +30,7 @@ pub prefix-long : (l t : List ℕ) → length t < length l → false ≡ isPrefi
 unfolding isPrefix
 prefix-long [] t h = absurd (omega (arith, h))
 prefix-long (a ∷ l) [] h = refl
-prefix-long (a ∷ l) (b ∷ t) h = cases (eqb a b) (λ e. rw e (prefix-long l t (omega (arith, h)))) (λ e. rw e)
+prefix-long (a ∷ l) (b ∷ t) h = by-cases (eqb a b) (λ e. rw e (prefix-long l t (omega (arith, h)))) (λ e. rw e)
 
 pub names-in : (v : ℕ) (l : List ℕ) → isPrefix l allNames ≡ true → v ≡ featuresIn (length l) → v ≡ namesIn l
 unfolding namesIn

@@ -10,8 +10,8 @@ use lib.IntN.{ℤ, pos, negsuc}
 use lib.ListN.{length, take, drop, getD}
 use lib.Seq.{take-length, take-at, split-at}
 use borrow.Author.Tests.{eqb-true, eqb-false, ltb-true, ltb-false, lt-ltb, eq-eqb, ne-eqb}
-use Rattle.lists.specs.Basics.{pick, All, none, also}
-use Rattle.lists.specs.Tests.{cases, false-true}
+use Rattle.lists.specs.Basics.{if, All, none, also}
+use Rattle.lists.specs.Tests.{false-true, by-cases}
 use Rattle.acts_text.specs.Bytes.{space, until}
 use Rattle.acts_text.specs.Decimal.{text, signedText}
 use Rattle.acts_text.specs.Fields.{bad, natural, signed, ofBits}
@@ -25,26 +25,26 @@ use Rattle.acts_text.proofs.FieldLaws.{natural-reads, natural-writes, s
 
 -- the writing of a value in column j
 unfoldable pub cellText : ℕ → ℕ → List ℕ
-cellText j v = pick (ltb j leading) (text v) (signedText (ofBits v))
+cellText j v = if (ltb j leading) (text v) (signedText (ofBits v))
 
 -- the values that column j can have: below this bound
 unfoldable pub cellRoom : ℕ → ℕ
-cellRoom j = pick (eqb j 0) 4 (pick (ltb j leading) 4294967296 65536)
+cellRoom j = if (eqb j 0) 4 (if (ltb j leading) 4294967296 65536)
 
 pub cell-reads : (j v : ℕ) → v < cellRoom j → cell j (cellText j v) ≡ v
 unfolding cell cellText cellRoom
-cell-reads j v h = cases (eqb j 0)
+cell-reads j v h = by-cases (eqb j 0)
     (λ e. let z = eqb-true j 0 e in let l : ltb j 3 ≡ true = lt-ltb j 3 (omega arith) in rw (e, l) (natural-reads 3 v (omega arith) (let g = rw e at h in omega arith)))
-    (λ e. cases (ltb j 3)
+    (λ e. by-cases (ltb j 3)
     (λ t. rw (e, t) (natural-reads 4294967295 v (omega arith) (let g = rw (e, t) at h in omega arith)))
     (λ t. rw (e, t) (signed-reads v (let g = rw (e, t) at h in omega arith))))
 
 pub cell-writes : (j : ℕ) (f : List ℕ) → cell j f ≢ bad → (f ≡ cellText j (cell j f)) × (cell j f < cellRoom j)
 unfolding cell cellText cellRoom
-cell-writes j f h = cases (eqb j 0)
+cell-writes j f h = by-cases (eqb j 0)
     (λ e. let z = eqb-true j 0 e in let l : ltb j 3 ≡ true = lt-ltb j 3 (omega arith) in
     let w = natural-writes 3 f (omega arith) (rw e at h) in rw (e, l) (w .0, let g = w .1 in omega arith))
-    (λ e. cases (ltb j 3)
+    (λ e. by-cases (ltb j 3)
     (λ t. let w = natural-writes 4294967295 f (omega arith) (rw (e, t) at h) in rw (e, t) (w .0, let g = w .1 in omega arith))
     (λ t. rw (e, t) (signed-writes f (rw (e, t) at h))))
 
@@ -53,7 +53,7 @@ empty-bad cap = sym (natural-bad cap [] (sym (ill-formed-none [] refl)))
 
 pub cell-empty : (j : ℕ) → cell j [] ≡ bad
 unfolding cell signed
-cell-empty j = cases (eqb j 0) (λ e. rw e (empty-bad 3)) (λ e. rw e (cases (ltb j 3) (λ t. rw t (empty-bad 4294967295)) (λ t. rw t (empty-bad 32767))))
+cell-empty j = by-cases (eqb j 0) (λ e. rw e (empty-bad 3)) (λ e. rw e (by-cases (ltb j 3) (λ t. rw t (empty-bad 4294967295)) (λ t. rw t (empty-bad 32767))))
 
 -- no byte of a field is a space
 
@@ -73,7 +73,7 @@ signed-solid (negsuc m) = also differs (solid (digits 19 (suc m)))
 
 pub cell-solid : (j v : ℕ) → All (λ b. b ≢ 32) (cellText j v)
 unfolding cellText
-cell-solid j v = cases (ltb j 3) (λ e. rw e (solid (digits 19 v))) (λ e. rw e (signed-solid (ofBits v)))
+cell-solid j v = by-cases (ltb j 3) (λ e. rw e (solid (digits 19 v))) (λ e. rw e (signed-solid (ofBits v)))
 
 pub until-skips : {f : List ℕ} → All (λ b. b ≢ 32) f → (r : List ℕ) → until 32 (f ++ (32 ∷ r)) ≡ length f
 unfolding until
@@ -83,7 +83,7 @@ until-skips (also {x = b} h t) r = rw (ne-eqb b 32 h) (ap suc (until-skips t r))
 pub until-hits : (b : ℕ) (l : List ℕ) → until b l < length l → getD l (until b l) 0 ≡ b
 unfolding until
 until-hits b [] h = absurd (omega (arith, h))
-until-hits b (x ∷ l) h = cases (eqb x b)
+until-hits b (x ∷ l) h = by-cases (eqb x b)
     (λ e. rw e (eqb-true x b e))
     (λ e. rw e (until-hits b l (let g = rw e at h in omega (arith, g))))
 
@@ -116,11 +116,11 @@ length-row (suc n) j l = ap suc (length-row n (j + 1) (drop (suc (fieldLength n 
 
 pub bad-head : (v : ℕ) (vs : List ℕ) → noneBad (v ∷ vs) ≡ true → v ≢ bad
 unfolding noneBad
-bad-head v vs h e = false-true (sym (ap (λ (b : Bool). pick b false (noneBad vs)) (eq-eqb v bad e)) ∙ h)
+bad-head v vs h e = false-true (sym (ap (λ (b : Bool). if b false (noneBad vs)) (eq-eqb v bad e)) ∙ h)
 
 pub bad-tail : (v : ℕ) (vs : List ℕ) → noneBad (v ∷ vs) ≡ true → noneBad vs ≡ true
 unfolding noneBad
-bad-tail v vs h = sym (ap (λ (b : Bool). pick b false (noneBad vs)) (ne-eqb v bad (bad-head v vs h))) ∙ h
+bad-tail v vs h = sym (ap (λ (b : Bool). if b false (noneBad vs)) (ne-eqb v bad (bad-head v vs h))) ∙ h
 
 pub row-room : (n j : ℕ) (l : List ℕ) → noneBad (row n j l) ≡ true → RoomFrom j (row n j l)
 unfolding row
@@ -152,7 +152,7 @@ module _ (n j : ℕ) (l : List ℕ) (u c : ℕ) (vs : List ℕ) (eu : u ≡ fiel
   at-space = eu ∙ field-length-word (suc n) l (λ e. omega (arith, e))
 
   pub row-inside : u < length l
-  row-inside = cases (ltb u (length l)) (λ t. ltb-true u (length l) t)
+  row-inside = by-cases (ltb u (length l)) (λ t. ltb-true u (length l) t)
       (λ t. let g = ltb-false u (length l) t in
       absurd (empty-row n (j + 1) (sym (ap noneBad (ev ∙ ap (row (suc n) (j + 1)) (drop-end l (suc u) (omega arith)))) ∙ bad-tail c vs ok)))
 

@@ -5,7 +5,7 @@ use mathlib.Core.List.{List, [], _∷_, _++_}
 use lib.Dec.{eqb}
 use lib.ListN.{length, take, drop}
 use lib.Seq.{sets}
-use Rattle.lists.specs.Basics.{pick}
+use Rattle.lists.specs.Basics.{if}
 
 abbrev pub newline : ℕ
 newline = 10
@@ -26,7 +26,7 @@ nineDigit = 57
 -- how many bytes stand before the first b
 unfoldable pub until : ℕ → List ℕ → ℕ
 until b [] = 0
-until b (x ∷ l) = pick (eqb x b) 0 (suc (until b l))
+until b (x ∷ l) = if (eqb x b) 0 (suc (until b l))
 
 -- t is l with the bytes w from index at on and every other byte as before; r is the index after them
 pub record Written (l t : List ℕ) (at r : ℕ) (w : List ℕ) : Type 0 where

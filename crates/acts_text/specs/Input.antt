@@ -4,7 +4,7 @@ use mathlib.Core.Path.{_≡_}
 use mathlib.Core.List.{List, [], _∷_, _++_}
 use lib.Dec.{ltb, eqb}
 use lib.ListN.{length, take, drop}
-use Rattle.lists.specs.Basics.{pick}
+use Rattle.lists.specs.Basics.{if}
 use Rattle.acts_text.specs.Bytes.{newline, until, Written}
 use Rattle.acts_text.specs.Lines.{limit}
 use Rattle.acts_text.specs.declared.Fed.{Fed}
@@ -17,7 +17,7 @@ before b (l ∷ ls) = (b ∷ l) ∷ ls
 -- the lines of an input, without their newlines
 unfoldable pub linesOf : List ℕ → List (List ℕ)
 linesOf [] = []
-linesOf (b ∷ s) = pick (eqb b newline) ([] ∷ linesOf s) (before b (linesOf s))
+linesOf (b ∷ s) = if (eqb b newline) ([] ∷ linesOf s) (before b (linesOf s))
 
 -- what is kept of a line: enough to tell that it is over the limit
 abbrev pub kept : List ℕ → List ℕ
@@ -26,12 +26,12 @@ kept l = take (suc limit) l
 -- the lines that end within a chunk, as kept, where l is kept of the current line
 unfoldable pub ended : List ℕ → List ℕ → List (List ℕ)
 ended l [] = []
-ended l (b ∷ s) = pick (eqb b newline) (l ∷ ended [] s) (ended (kept (l ++ (b ∷ []))) s)
+ended l (b ∷ s) = if (eqb b newline) (l ∷ ended [] s) (ended (kept (l ++ (b ∷ []))) s)
 
 -- what is kept of the current line after a chunk
 unfoldable pub current : List ℕ → List ℕ → List ℕ
 current l [] = l
-current l (b ∷ s) = pick (eqb b newline) (current [] s) (current (kept (l ++ (b ∷ []))) s)
+current l (b ∷ s) = if (eqb b newline) (current [] s) (current (kept (l ++ (b ∷ []))) s)
 
 -- the line that the end of input ends: none behind a last newline
 unfoldable pub lastLine : List ℕ → List (List ℕ)

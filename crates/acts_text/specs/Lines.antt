@@ -7,7 +7,7 @@ use lib.Dec.{ltb, eqb}
 use lib.IntN.{ℤ, pos}
 use lib.ListN.{length, getD, drop, take, replicate}
 use lib.Seq.{sets}
-use Rattle.lists.specs.Basics.{pick, run}
+use Rattle.lists.specs.Basics.{if, tabulate}
 use Rattle.acts_text.specs.Bytes.{space, until}
 use Rattle.acts_text.specs.Fields.{bad, natural, signed, ofBits}
 use Rattle.acts_text.specs.declared.ActLine.{ActLine}
@@ -26,11 +26,11 @@ leading = 3
 
 -- the length of a field behind which n more fields come: up to the first space, and of the last field all that is left
 unfoldable pub fieldLength : ℕ → List ℕ → ℕ
-fieldLength n l = pick (eqb n 0) (length l) (until space l)
+fieldLength n l = if (eqb n 0) (length l) (until space l)
 
 -- column j: act is at most 3 (`readableCells` says that it is not 0), the other leading ones have 32 bits, coordinates 16
 unfoldable pub cell : ℕ → List ℕ → ℕ
-cell j f = pick (eqb j 0) (natural 3 f) (pick (ltb j leading) (natural 4294967295 f) (signed f))
+cell j f = if (eqb j 0) (natural 3 f) (if (ltb j leading) (natural 4294967295 f) (signed f))
 
 -- the values of n columns, from column j on
 unfoldable pub row : ℕ → ℕ → List ℕ → List ℕ
@@ -44,15 +44,15 @@ cells n l = sets (replicate (leading + most) 0) 0 (row n 0 l)
 -- none of the values is bad
 unfoldable pub noneBad : List ℕ → Bool
 noneBad [] = true
-noneBad (v ∷ vs) = pick (eqb v bad) false (noneBad vs)
+noneBad (v ∷ vs) = if (eqb v bad) false (noneBad vs)
 
 -- all columns are readable, and the act is not 0
 unfoldable pub readableCells : List ℕ → Bool
-readableCells vs = pick (eqb (getD vs 0 0) 0) false (noneBad vs)
+readableCells vs = if (eqb (getD vs 0 0) 0) false (noneBad vs)
 
 -- the coordinates among the values
 unfoldable pub coordinates : List ℕ → List ℤ
-coordinates vs = run most (λ i. ofBits (getD vs (leading + i) 0))
+coordinates vs = tabulate most (λ i. ofBits (getD vs (leading + i) 0))
 
 -- what an unreadable line gives
 abbrev pub unreadable : ActLine
@@ -64,5 +64,5 @@ lineOf d vs = record { readable = true; act = getD vs 0 0; id = getD vs 1 0; k =
 
 -- what a line says, where d coordinates are named
 unfoldable pub actOf : ℕ → List ℕ → ActLine
-actOf d l = pick (ltb limit (length l)) unreadable (pick (ltb most d) unreadable
-    (pick (readableCells (cells (leading + d) l)) (lineOf d (cells (leading + d) l)) unreadable))
+actOf d l = if (ltb limit (length l)) unreadable (if (ltb most d) unreadable
+    (if (readableCells (cells (leading + d) l)) (lineOf d (cells (leading + d) l)) unreadable))

@@ -5,7 +5,7 @@ use mathlib.Core.Bool.{Bool, true, false}
 use mathlib.Core.List.{List, [], _∷_, _++_}
 use lib.Dec.{leb, eqb}
 use lib.ListN.{length}
-use Rattle.lists.specs.Basics.{pick}
+use Rattle.lists.specs.Basics.{if}
 use Rattle.acts_text.specs.Bytes.{space}
 use Rattle.acts_text.specs.Decimal.{text}
 
@@ -22,7 +22,7 @@ allNames = 97 ∷ 99 ∷ 116 ∷ 32 ∷ 105 ∷ 100 ∷ 32 ∷ 107 ∷ 32 ∷ 99
 unfoldable pub isPrefix : List ℕ → List ℕ → Bool
 isPrefix [] t = true
 isPrefix (a ∷ l) [] = false
-isPrefix (a ∷ l) (b ∷ t) = pick (eqb a b) (isPrefix l t) false
+isPrefix (a ∷ l) (b ∷ t) = if (eqb a b) (isPrefix l t) false
 
 -- the bytes of `act id k`
 abbrev pub lead : ℕ
@@ -34,8 +34,8 @@ ten = lead + 30
 
 -- how many coordinates a line of names of n bytes has, or 0 if none has n bytes: behind `act id k`, ` c0` to ` c9` have 3 bytes, ` c10` and up 4
 unfoldable pub featuresIn : ℕ → ℕ
-featuresIn n = pick (leb n lead) 0 (pick (leb n ten) (pick (eqb ((n - lead) % 3) 0) ((n - lead) / 3) 0) (pick (eqb ((n - ten) % 4) 0) (10 + (n - ten) / 4) 0))
+featuresIn n = if (leb n lead) 0 (if (leb n ten) (if (eqb ((n - lead) % 3) 0) ((n - lead) / 3) 0) (if (eqb ((n - ten) % 4) 0) (10 + (n - ten) / 4) 0))
 
 -- the d of a line of names, or 0 for a line that is none
 unfoldable pub namesIn : List ℕ → ℕ
-namesIn l = pick (isPrefix l allNames) (featuresIn (length l)) 0
+namesIn l = if (isPrefix l allNames) (featuresIn (length l)) 0

@@ -8,12 +8,12 @@ ghost use Rattle.index.specs.Outcomes.{madeWith, insertedWith, deletedWith};
 ghost use Rattle.index.specs.Questions.{Questioned};
 ghost use Rattle.index.specs.Trusted.{trustedInsert, trustedDelete, TrustedQuestioned};
 ghost use Rattle.index.specs.Vouched.{vouchedInsert, vouchedDelete, vouchedDeletedWith};
-use search_rows::Row;
 use index::Criteria;
 use index::trusted;
 use index::vouched;
 use index_answer::Answer;
 use index_answer::Tally;
+use search_rows::Row;
 
 // Makes an empty index of some features in the bytes lent.
 #[no_mangle]

@@ -11,7 +11,7 @@ use borrow.Author.Tests.{eq-eqb, ne-eqb, lt-ltb, le-ltb, ltb-false, le-leb, lt-l
 use lib.Dec.{leb, ltb}
 use lib.ListN.{length, getD, set, length-set}
 use lib.Seq.{getD-set-same, getD-set-other}
-use Rattle.lists.specs.Basics.{pick, tick}
+use Rattle.lists.specs.Basics.{if, indicator}
 use Rattle.geometry.proofs.HeightLaws.{Bisect, bisect-start, bisect-end}
 use Rattle.geometry.proofs.ConvexLaws.{at-convex}
 use Rattle.geometry.proofs.PackedLaws.{asked-few, axis-low, axis-high}
@@ -33,7 +33,7 @@ lanes-cover d = omega arith
 pub lanes-enough : (d : ℕ) → d ≤ 16 → d ≤ summed (lanesOf d)
 lanes-enough d l = by (leb (lanesOf d) 8) refl (leb (lanesOf d) 16) refl
   where
-    by : (x : Bool) → leb (lanesOf d) 8 ≡ x → (y : Bool) → leb (lanesOf d) 16 ≡ y → d ≤ pick x 4 (pick y 8 16)
+    by : (x : Bool) → leb (lanesOf d) 8 ≡ x → (y : Bool) → leb (lanesOf d) 16 ≡ y → d ≤ if x 4 (if y 8 16)
     by true e y f = omega (arith, leb-true (lanesOf d) 8 e)
     by false e true f = omega (arith, leb-true (lanesOf d) 16 f)
     by false e false f = l
@@ -52,19 +52,19 @@ pub falls-none : (a xs : List ℕ) → Blank 512 xs → Falls a xs 0
 falls-none a xs b =
     record { long = b .long; small = λ x. omega (arith, b .zeros x); each = λ k i l h. absurd (let z : k < 0 = l in omega arith); past = λ x l. b .zeros x }
 
-side-small : (t : Bool) (r : ℕ) → r ≤ 1001 → pick t (oddOf r) (oddOf (r - 1)) ≤ 2001
+side-small : (t : Bool) (r : ℕ) → r ≤ 1001 → if t (oddOf r) (oddOf (r - 1)) ≤ 2001
 side-small true r l = omega arith
 side-small false r l = omega arith
 
 -- off its own axis, and on it
-from-off : (a : List ℕ) (i m : ℕ) → m ≢ axisNo (sizeOf a) i → fromAt a i m ≡ getD a (48 + m) 0 - tick (ltb (axisNo (sizeOf a) i) m)
+from-off : (a : List ℕ) (i m : ℕ) → m ≢ axisNo (sizeOf a) i → fromAt a i m ≡ getD a (48 + m) 0 - indicator (ltb (axisNo (sizeOf a) i) m)
 unfolding fromAt rowAt
 from-off a i m n = rw (ne-eqb m (axisNo (sizeOf a) i) n)
 
-odd-side : (r j m : ℕ) → m ≢ j → pick (ltb m j) (oddOf r) (oddOf (r - 1)) ≡ oddOf (r - tick (ltb j m))
+odd-side : (r j m : ℕ) → m ≢ j → if (ltb m j) (oddOf r) (oddOf (r - 1)) ≡ oddOf (r - indicator (ltb j m))
 odd-side r j m n = by (decLt m j)
   where
-    by : Dec (m < j) → pick (ltb m j) (oddOf r) (oddOf (r - 1)) ≡ oddOf (r - tick (ltb j m))
+    by : Dec (m < j) → if (ltb m j) (oddOf r) (oddOf (r - 1)) ≡ oddOf (r - indicator (ltb j m))
     by (yes l) = rw (lt-ltb m j l, le-ltb j m (omega arith)) (omega arith)
     by (no l) = rw (le-ltb m j (omega arith), lt-ltb j m (omega arith))
 
@@ -83,7 +83,7 @@ axis-other : (d i m : ℕ) → i ≢ m → i ≢ m + d → i < d + d → m ≢ a
 unfolding axisNo
 axis-other d i m n o l = by (ltb i d) refl
   where
-    by : (b : Bool) → ltb i d ≡ b → m ≢ pick b i (i - d)
+    by : (b : Bool) → ltb i d ≡ b → m ≢ if b i (i - d)
     by true e = omega arith
     by false e = let k = ltb-false i d e in omega arith
 
@@ -214,8 +214,8 @@ module _ (falls weights : List ℕ) (t : ℕ) where
 
 -- one lane of a turn
 pub lane-is : (falls weights owns ends : List ℕ) (k step i h t sum v : ℕ) → t ≡ 2 * h + (2 * step - 2) → sum ≡ sumTo k (pullAt falls weights i t)
-    → v ≡ pick (leb sum (getD owns i 0 * (t + 2001 - getD ends i 0))) h (h + step) → v ≡ halvedAt falls weights owns ends k step i h
-lane-is falls weights owns ends k step i h t sum v e s r = rw (← e) (r ∙ ap (λ (x : ℕ). pick (leb x (getD owns i 0 * (t + 2001 - getD ends i 0))) h (h + step)) s)
+    → v ≡ if (leb sum (getD owns i 0 * (t + 2001 - getD ends i 0))) h (h + step) → v ≡ halvedAt falls weights owns ends k step i h
+lane-is falls weights owns ends k step i h t sum v e s r = rw (← e) (r ∙ ap (λ (x : ℕ). if (leb x (getD owns i 0 * (t + 2001 - getD ends i 0))) h (h + step)) s)
 
 -- the whole bisection
 pub record Halving (a : List ℕ) (n size : ℕ) (heights : List ℕ) : Type 0 where
@@ -263,15 +263,15 @@ movable a falls weights owns ends heights n size v z k h =
 pub copied-nearest : (a hs xs ys : List ℕ) → length (askedOf a) ≤ 16 → Nearest (askedOf a) hs → Filled (copied hs) 0 32 xs ys → Nearest (askedOf a) ys
 copied-nearest a hs xs ys few n f = λ i l. rw (f .inside i (omega arith) (omega arith)) (n i l)
 
-pub stays : (s r q x y : ℕ) → r ≡ q → s ≤ r → x ≡ pick (leb s q) x y
+pub stays : (s r q x y : ℕ) → r ≡ q → s ≤ r → x ≡ if (leb s q) x y
 stays s r q x y e l = rw (le-leb s q (omega arith))
 
-pub moves : (s r q x y : ℕ) → r ≡ q → r < s → y ≡ pick (leb s q) x y
+pub moves : (s r q x y : ℕ) → r ≡ q → r < s → y ≡ if (leb s q) x y
 moves s r q x y e l = rw (lt-leb s q (omega arith))
 
 -- one lane of a row
 pub lane-place : (axes : List ℕ) (m reach i place before after v : ℕ) → place ≡ m → before ≡ oddOf reach → after ≡ oddOf (reach - 1)
-    → v ≡ pick (ltb place (getD axes i 0)) before after
+    → v ≡ if (ltb place (getD axes i 0)) before after
     → (y : ℕ) → v ≡ sideIn axes m reach (32 * m + i) y
 lane-place axes m reach i place before after v p b f e y =
     let z : 32 * m + i - 32 * m ≡ i = omega arith in

@@ -9,7 +9,7 @@ use native.Mathlib.Decide.{ℕ-discrete}
 use borrow.Author.Tests.{ltb-true, ltb-false, leb-true, leb-false}
 use lib.Dec.{leb, ltb}
 use lib.ListN.{getD}
-use Rattle.lists.specs.Basics.{pick}
+use Rattle.lists.specs.Basics.{if}
 use Rattle.geometry.proofs.ConvexLaws.{Convex, rises, at-convex}
 use Rattle.geometry.proofs.HeightLaws.{Bisect, bisect-low, bisect-high}
 use Rattle.geometry.proofs.PackedLaws.{axis-low, axis-high}
@@ -44,22 +44,22 @@ module _ (f : ℕ → ℕ) (conv : Convex f) where
       rw (k, ← e) (bisect-high f conv 0 1000 b (b + s) m i (omega arith) (omega arith) t)
 
   lane-turn : (b s m S R : ℕ) (test : Bool) → 0 < s → m + 1 ≡ b + (s - s / 2) → Bisect f 0 1000 b (b + s) → f m + R ≡ f (m + 1) + S → leb S R ≡ test
-      → Bisect f 0 1000 (pick test b (b + (s - s / 2))) (pick test b (b + (s - s / 2)) + s / 2)
+      → Bisect f 0 1000 (if test b (b + (s - s / 2))) (if test b (b + (s - s / 2)) + s / 2)
   lane-turn b s m S R true z e i g t = lane-stays b s m z e i (omega (arith, g, leb-true S R t))
   lane-turn b s m S R false z e i g t = lane-moves b s m z e i (omega (arith, g, leb-false S R t))
 
 -- the sides of a pyramid
-side-at : (p q r : ℕ → ℕ) (d i : ℕ) (xs : List ℕ) → Sides p q d d xs → i < d + d → getD xs i 0 ≡ pick (ltb i d) (p (axisNo d i)) (q (axisNo d i))
+side-at : (p q r : ℕ → ℕ) (d i : ℕ) (xs : List ℕ) → Sides p q d d xs → i < d + d → getD xs i 0 ≡ if (ltb i d) (p (axisNo d i)) (q (axisNo d i))
 side-at p q r d i xs s l = by (ltb i d) refl
   where
-    by : (b : Bool) → ltb i d ≡ b → getD xs i 0 ≡ pick b (p (axisNo d i)) (q (axisNo d i))
+    by : (b : Bool) → ltb i d ≡ b → getD xs i 0 ≡ if b (p (axisNo d i)) (q (axisNo d i))
     by true e = let k = ltb-true i d e in rw (← axis-low d i k) (s .below i k)
     by false e =
         let k = ltb-false i d e in
         let z : i - d + d ≡ i = omega arith in
         rw (← axis-high d i k) (rw z at (s .above (i - d) (omega arith)))
 
-both : (b : Bool) (x : ℕ) → pick b x x ≡ x
+both : (b : Bool) (x : ℕ) → if b x x ≡ x
 both true x = refl
 both false x = refl
 
@@ -106,6 +106,6 @@ pub halved-room : (falls weights owns ends : List ℕ) (k i b s : ℕ) → b + s
 halved-room falls weights owns ends k i b s l =
     by (leb (sumTo k (pullAt falls weights i (2 * b + (2 * (s - s / 2) - 2)))) (getD owns i 0 * (2 * b + (2 * (s - s / 2) - 2) + 2001 - getD ends i 0)))
   where
-    by : (t : Bool) → pick t b (b + (s - s / 2)) + s / 2 ≤ 1000
+    by : (t : Bool) → if t b (b + (s - s / 2)) + s / 2 ≤ 1000
     by true = omega arith
     by false = omega arith

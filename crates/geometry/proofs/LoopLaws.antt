@@ -12,8 +12,8 @@ use lib.Dec.{leb, ltb}
 use lib.IntN.{ℤ, pos, natAbs}
 use lib.ListN.{length, getD, take, drop, set, replicate, length-append, length-map, length-replicate, drop-of-length-le}
 use lib.Seq.{drop-cons, take-length, length-take-le}
-use Rattle.lists.specs.Basics.{pick}
-use Rattle.lists.specs.Counts.{by-cases}
+use Rattle.lists.specs.Basics.{if}
+use Rattle.lists.specs.Tests.{by-cases}
 use Rattle.geometry.proofs.StoredLaws.{length-point, point-at, coord-gap, coord-neg}
 use Rattle.geometry.specs.Points.{heightOf, axisAt, axisOf, pyramidOf, distance}
 use Rattle.geometry.specs.Stored.{coordOf, pointOf, stored, slotsOf, inRange}
@@ -92,15 +92,15 @@ unfolding distance
 dist-end q p m l = rw (point-end q m l)
 
 -- the test of range
-range-cons : (p : List ℤ) (m : ℕ) → m < length p → inRange (drop m p) ≡ pick (leb (natAbs (getD p m (pos 0))) 1000) (inRange (drop (m + 1) p)) false
+range-cons : (p : List ℤ) (m : ℕ) → m < length p → inRange (drop m p) ≡ if (leb (natAbs (getD p m (pos 0))) 1000) (inRange (drop (m + 1) p)) false
 unfolding inRange
 range-cons p m l = rw (add-one, drop-cons p m (pos 0) l)
 
 pub range-more : (p : List ℤ) (m : ℕ) → m < length p → leb (natAbs (getD p m (pos 0))) 1000 ≡ true → inRange (drop m p) ≡ inRange (drop (m + 1) p)
-range-more p m l e = range-cons p m l ∙ ap (λ (b : Bool). pick b (inRange (drop (m + 1) p)) false) e
+range-more p m l e = range-cons p m l ∙ ap (λ (b : Bool). if b (inRange (drop (m + 1) p)) false) e
 
 pub range-out : (p : List ℤ) (m : ℕ) → m < length p → leb (natAbs (getD p m (pos 0))) 1000 ≡ false → inRange (drop m p) ≡ false
-range-out p m l e = range-cons p m l ∙ ap (λ (b : Bool). pick b (inRange (drop (m + 1) p)) false) e
+range-out p m l e = range-cons p m l ∙ ap (λ (b : Bool). if b (inRange (drop (m + 1) p)) false) e
 
 pub range-end : (p : List ℤ) (m : ℕ) → length p ≤ m → inRange (drop m p) ≡ true
 unfolding inRange
@@ -144,6 +144,6 @@ pub top-axis : (t h j : ℕ) → t ≡ h * 16 + (15 - j) → j < 16 → 15 - t %
 top-axis t h j e l = omega arith
 
 -- the first coordinate of greatest magnitude and its sign make the pyramid number
-pub pyramid-is : (p : List ℕ) (j : ℕ) → j < length p → j ≡ axisOf (pointOf p) → pick (ltb (getD p j 0) 1000) j (j + length p) ≡ pyramidOf (pointOf p)
+pub pyramid-is : (p : List ℕ) (j : ℕ) → j < length p → j ≡ axisOf (pointOf p) → if (ltb (getD p j 0) 1000) j (j + length p) ≡ pyramidOf (pointOf p)
 unfolding pyramidOf
 pyramid-is p j l e = rw (← e, length-point p, point-at p j l, coord-neg (getD p j 0))

@@ -10,7 +10,7 @@ use borrow.Author.Tests.{eqb-true, eqb-false, lt-ltb, le-ltb}
 use lib.Dec.{ltb, eqb}
 use lib.ListN.{length, getD, set, length-set}
 use lib.Seq.{getD-set-same, getD-set-other}
-use Rattle.lists.specs.Basics.{pick}
+use Rattle.lists.specs.Basics.{if}
 use Rattle.geometry.proofs.ConvexLaws.{Convex, rises, falls, at-convex}
 use Rattle.geometry.proofs.HeightLaws.{bisect-end}
 use Rattle.geometry.proofs.PackedLaws.{asked-length}
@@ -43,8 +43,8 @@ far-end : (a : List ℕ) → Bounded a → (i q : ℕ) → 0 < sizeOf a → axis
 unfolding ownFrom endAt
 far-end a p i q l e = rw e (by (ltb i (sizeOf a)) (ends-ordered a p 0 l) (low-le a p 0 l))
   where
-    by : (b : Bool) → getD a 0 0 ≤ getD a 16 0 → getD a 0 0 ≤ 2000 → pick b (1000 - getD a 16 0) (getD a 0 0 - 1000) ≡ suc q
-        → (2 * q + 2001) - pick b (4000 - 2 * getD a 0 0) (2 * getD a 16 0) ≡ 0
+    by : (b : Bool) → getD a 0 0 ≤ getD a 16 0 → getD a 0 0 ≤ 2000 → if b (1000 - getD a 16 0) (getD a 0 0 - 1000) ≡ suc q
+        → (2 * q + 2001) - if b (4000 - 2 * getD a 0 0) (2 * getD a 16 0) ≡ 0
     by true o t x = omega arith
     by false o t x = omega arith
 
@@ -52,7 +52,7 @@ own-le : (a : List ℕ) → Bounded a → (i : ℕ) → 0 < sizeOf a → ownFrom
 unfolding ownFrom
 own-le a p i l = by (ltb i (sizeOf a)) (low-le a p 0 l)
   where
-    by : (b : Bool) → getD a 0 0 ≤ 2000 → pick b (1000 - getD a 16 0) (getD a 0 0 - 1000) ≤ 1000
+    by : (b : Bool) → getD a 0 0 ≤ 2000 → if b (1000 - getD a 16 0) (getD a 0 0 - 1000) ≤ 1000
     by true o = omega arith
     by false o = omega arith
 
@@ -69,7 +69,7 @@ module _ (a : List ℕ) (p : Bounded a) (one : sizeOf a ≡ 1) (i : ℕ) (l : i 
       let o = ap (λ (x : ℕ). getD a 32 0 * (oddOf x - 2 * h)) (from-own a i 0 (sym axis)) in
       omega (arith, s, t, u, o)
 
-  pub one-height : (r : ℕ) → r ≡ pick (eqb (getD a 32 0) 0) 0 (ownFrom a i 0) → LeastAt (sliceAt (askedOf a) i) 0 1000 r
+  pub one-height : (r : ℕ) → r ≡ if (eqb (getD a 32 0) 0) 0 (ownFrom a i 0) → LeastAt (sliceAt (askedOf a) i) 0 1000 r
   one-height r e = by (eqb (getD a 32 0) 0) refl e
     where
       f : ℕ → ℕ
@@ -78,7 +78,7 @@ module _ (a : List ℕ) (p : Bounded a) (one : sizeOf a ≡ 1) (i : ℕ) (l : i 
       none : (x : ℕ) → getD a 32 0 ≡ 0 → getD a 32 0 * x ≡ 0
       none x z = ap (λ (w : ℕ). w * x) z ∙ omega arith
 
-      by : (b : Bool) → eqb (getD a 32 0) 0 ≡ b → r ≡ pick b 0 (ownFrom a i 0) → LeastAt (sliceAt (askedOf a) i) 0 1000 r
+      by : (b : Bool) → eqb (getD a 32 0) 0 ≡ b → r ≡ if b 0 (ownFrom a i 0) → LeastAt (sliceAt (askedOf a) i) 0 1000 r
       by true t q =
           let z = eqb-true (getD a 32 0) 0 t in
           turning (sliceAt (askedOf a) i) (at-convex (askedOf a) i) r (omega arith)
@@ -103,16 +103,16 @@ own-above : (a : List ℕ) → sizeOf a ≡ 1 → ownFrom a 1 0 ≡ getD a 0 0 -
 unfolding ownFrom
 own-above a e = rw (le-ltb 1 (sizeOf a) (omega arith))
 
-pub one-nearest : (a xs : List ℕ) (u v : ℕ) → Bounded a → sizeOf a ≡ 1 → length xs ≡ 32 → u ≡ pick (eqb (getD a 32 0) 0) 0 (1000 - getD a 16 0)
-    → v ≡ pick (eqb (getD a 32 0) 0) 0 (getD a 0 0 - 1000)
+pub one-nearest : (a xs : List ℕ) (u v : ℕ) → Bounded a → sizeOf a ≡ 1 → length xs ≡ 32 → u ≡ if (eqb (getD a 32 0) 0) 0 (1000 - getD a 16 0)
+    → v ≡ if (eqb (getD a 32 0) 0) 0 (getD a 0 0 - 1000)
     → Nearest (askedOf a) (set (set xs 0 u) 1 v)
 one-nearest a xs u v p one n eu ev = λ i l. by i (omega (arith, asked-length a (p .packed))) l
   where
-    low : getD (set (set xs 0 u) 1 v) 0 0 ≡ pick (eqb (getD a 32 0) 0) 0 (ownFrom a 0 0)
-    low = getD-set-other (set xs 0 u) 1 0 v 0 (omega arith) ∙ (getD-set-same xs 0 u 0 (omega arith) ∙ (eu ∙ ap (λ (x : ℕ). pick (eqb (getD a 32 0) 0) 0 x) (sym (own-below a one))))
+    low : getD (set (set xs 0 u) 1 v) 0 0 ≡ if (eqb (getD a 32 0) 0) 0 (ownFrom a 0 0)
+    low = getD-set-other (set xs 0 u) 1 0 v 0 (omega arith) ∙ (getD-set-same xs 0 u 0 (omega arith) ∙ (eu ∙ ap (λ (x : ℕ). if (eqb (getD a 32 0) 0) 0 x) (sym (own-below a one))))
 
-    high : getD (set (set xs 0 u) 1 v) 1 0 ≡ pick (eqb (getD a 32 0) 0) 0 (ownFrom a 1 0)
-    high = getD-set-same (set xs 0 u) 1 v 0 (omega (arith, length-set xs 0 u)) ∙ (ev ∙ ap (λ (x : ℕ). pick (eqb (getD a 32 0) 0) 0 x) (sym (own-above a one)))
+    high : getD (set (set xs 0 u) 1 v) 1 0 ≡ if (eqb (getD a 32 0) 0) 0 (ownFrom a 1 0)
+    high = getD-set-same (set xs 0 u) 1 v 0 (omega (arith, length-set xs 0 u)) ∙ (ev ∙ ap (λ (x : ℕ). if (eqb (getD a 32 0) 0) 0 x) (sym (own-above a one)))
 
     by : (i : ℕ) → i < sizeOf a + sizeOf a → i < length (askedOf a) + length (askedOf a) → LeastAt (sliceAt (askedOf a) i) 0 1000 (getD (set (set xs 0 u) 1 v) i 0)
     by zero l k = one-height a p one 0 l _ low

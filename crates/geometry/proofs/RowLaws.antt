@@ -10,7 +10,7 @@ use native.Mathlib.Decide.{ℕ-discrete, decLe, decLt}
 use borrow.Author.Tests.{eq-eqb, ne-eqb, lt-ltb, le-ltb}
 use lib.Dec.{ltb, eqb}
 use lib.ListN.{length, getD}
-use Rattle.lists.specs.Basics.{pick, tick}
+use Rattle.lists.specs.Basics.{if, indicator}
 use Rattle.geometry.specs.Features.{Feature, gapTo, costOf}
 use Rattle.geometry.specs.Slices.{onAxis, reachOf, sideBy, sliceBy}
 use Rattle.geometry.specs.Questions.{sumTo}
@@ -67,7 +67,7 @@ sum-swap (suc n) j f g l e = by (λ u. sum-swap n j f g (omega arith) (λ m k v.
 
 -- what a coordinate has to come down from beside axis j, by its feature
 abbrev pub sideFrom : ℕ → ℕ → Feature → ℕ
-sideFrom j m f = pick (eqb m j) 0 (reachOf f - tick (ltb j m))
+sideFrom j m f = if (eqb m j) 0 (reachOf f - indicator (ltb j m))
 
 side-sum : (h : ℕ) (fs : List Feature) (z : Feature) → sideBy (suc h) fs ≡ sumTo (length fs) (λ (m : ℕ). costOf (getD fs m z) (reachOf (getD fs m z) - 1 - h))
 unfolding sideBy sumTo

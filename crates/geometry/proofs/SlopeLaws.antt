@@ -11,7 +11,7 @@ use lib.Dec.{ltb}
 use lib.IntN.{ℤ, natAbs}
 use lib.ListN.{length, getD}
 use lib.Signed.{_≤ℤ_}
-use Rattle.lists.specs.Basics.{pick}
+use Rattle.lists.specs.Basics.{if}
 use Rattle.geometry.proofs.IntLaws.{le-parts}
 use Rattle.geometry.proofs.GapLaws.{axis-gap-low, axis-gap-high}
 use Rattle.geometry.proofs.StoredLaws.{coord-parts, coord-magnitude}
@@ -152,8 +152,8 @@ module _ (a : List ℕ) (p : Bounded a) where
   axis-turn i j h l e k = rw (← e) (by (ltb i (sizeOf a)))
     where
       by : (b : Bool)
-          → gapTo (featureIn a j) (onAxis b h) * gapTo (featureIn a j) (onAxis b h) + ((2 * h + 2001) - pick b (4000 - 2 * getD a j 0) (2 * getD a (16 + j) 0))
-          ≡ gapTo (featureIn a j) (onAxis b (suc h)) * gapTo (featureIn a j) (onAxis b (suc h)) + (oddOf (pick b (1000 - getD a (16 + j) 0) (getD a j 0 - 1000)) - 2 * h)
+          → gapTo (featureIn a j) (onAxis b h) * gapTo (featureIn a j) (onAxis b h) + ((2 * h + 2001) - if b (4000 - 2 * getD a j 0) (2 * getD a (16 + j) 0))
+          ≡ gapTo (featureIn a j) (onAxis b (suc h)) * gapTo (featureIn a j) (onAxis b (suc h)) + (oddOf (if b (1000 - getD a (16 + j) 0) (getD a j 0 - 1000)) - 2 * h)
       by true =
           turn-below (getD a j 0) (getD a (16 + j) 0) h _ _ (ends-ordered j l) (low-le j l) k
           (axis-gap-low (getD a j 0) (getD a (16 + j) 0) true h refl (omega arith)) (axis-gap-low (getD a j 0) (getD a (16 + j) 0) true (suc h) refl k)

@@ -10,7 +10,7 @@ use native.Mathlib.Decide.{decLt, ℕ-discrete}
 use borrow.Author.Tests.{lt-ltb, le-ltb, eq-eqb, ne-eqb}
 use lib.IntN.{ℤ, pos, negsuc, natAbs}
 use lib.ListN.{length, getD}
-use Rattle.lists.specs.Basics.{pick}
+use Rattle.lists.specs.Basics.{if}
 use Rattle.geometry.proofs.PairLaws.{InSlice, own, slice-height, slice-pyramid, slice-inside, side-of, side-range, height-range}
 use Rattle.geometry.proofs.SliceLaws.{HasPoints, slice-below, nearSlice, nearSlice-length, nearSlice-in, nearSlice-dist}
 use Rattle.geometry.specs.Points.{InRange, isNeg, heightOf, axisOf, pyramidOf, PairLe}
@@ -18,13 +18,13 @@ use Rattle.geometry.specs.Features.{Feature, distTo, Ordered, IsBound}
 use Rattle.geometry.specs.Slices.{axisNo, signNo, sliceAt, Real, lowestOf}
 
 -- the axis and the sign of a pyramid number made of them
-number-of : (d j : ℕ) (s : Bool) → j < d → (axisNo d (pick s j (j + d)) ≡ j) × (signNo d (pick s j (j + d)) ≡ s)
+number-of : (d j : ℕ) (s : Bool) → j < d → (axisNo d (if s j (j + d)) ≡ j) × (signNo d (if s j (j + d)) ≡ s)
 unfolding axisNo signNo
 number-of d j true l = (rw (lt-ltb j d l), lt-ltb j d l)
 number-of d j false l = (rw (le-ltb (j + d) d (omega arith)) (omega arith), le-ltb (j + d) d (omega arith))
 
 Back : ℕ → ℕ → Type 0
-Back d i = (axisNo d i < d) × (pick (signNo d i) (axisNo d i) (axisNo d i + d) ≡ i)
+Back d i = (axisNo d i < d) × (if (signNo d i) (axisNo d i) (axisNo d i + d) ≡ i)
 
 number-back : (d i : ℕ) → i < d + d → Back d i
 number-back d i l = by (decLt i d)
@@ -37,7 +37,7 @@ centre-no : (d : ℕ) → (axisNo d d ≡ 0) × (signNo d d ≡ false)
 unfolding axisNo signNo
 centre-no d = (rw (le-ltb d d (omega arith)) (omega arith), le-ltb d d (omega arith))
 
-number-lt : (d j : ℕ) (s : Bool) → j < d → pick s j (j + d) < d + d
+number-lt : (d j : ℕ) (s : Bool) → j < d → if s j (j + d) < d + d
 number-lt d j true l = omega arith
 number-lt d j false l = omega arith
 
@@ -60,7 +60,7 @@ module _ (fs : List Feature) (p : List ℤ) (e : length p ≡ length fs) (l : 0 
   mine : InSlice (axisOf p) (isNeg (getD p (axisOf p) (pos 0))) (heightOf p) p
   mine = own p (omega arith)
 
-  number : pyramidOf p ≡ pick (isNeg (getD p (axisOf p) (pos 0))) (axisOf p) (axisOf p + length p)
+  number : pyramidOf p ≡ if (isNeg (getD p (axisOf p) (pos 0))) (axisOf p) (axisOf p + length p)
   number = slice-pyramid _ _ (axisOf p) p mine
 
   inside : axisOf p < length p

@@ -13,7 +13,7 @@ use lib.Signed.{ltZ, leZ}
 use mir.Syntax.{w16}
 use mir.Val.{SFits, toZ, ofZ}
 use mir.Facts.{toZ-ofZ}
-use Rattle.lists.specs.Basics.{pick}
+use Rattle.lists.specs.Basics.{if}
 use Rattle.geometry.proofs.IntLaws.{lower, gap-pos, gap-parts}
 use Rattle.geometry.specs.Features.{upper}
 use Rattle.geometry.specs.Points.{InRange, isNeg}
@@ -102,7 +102,7 @@ unfolding slotsOf
 slots-back p r = slots-from p (replicate (16 - length p) 0) r
 
 -- the test of range, as a fact
-in-range-by : (c : ℤ) (cs : List ℤ) (b : Bool) → leb (natAbs c) 1000 ≡ b → (inRange cs ≡ true → InRange cs) → pick b (inRange cs) false ≡ true → InRange (c ∷ cs)
+in-range-by : (c : ℤ) (cs : List ℤ) (b : Bool) → leb (natAbs c) 1000 ≡ b → (inRange cs ≡ true → InRange cs) → if b (inRange cs) false ≡ true → InRange (c ∷ cs)
 in-range-by c cs true f ih g = (leb-true (natAbs c) 1000 f, ih g)
 in-range-by c cs false f ih g = absurd (let y : _≡_ {A = ℕ} 0 1 = cc in omega arith)
 

@@ -10,7 +10,7 @@ use borrow.Author.Tests.{eq-eqb, ne-eqb, lt-ltb, le-ltb, le-leb, lt-leb, leb-tru
 use lib.Dec.{leb, ltb, eqb}
 use lib.ListN.{length, getD, drop, set, replicate, length-set, List·getD-eq-default}
 use lib.Seq.{getD-take, getD-drop, getD-set-same, getD-set-other}
-use Rattle.lists.specs.Basics.{pick, tick}
+use Rattle.lists.specs.Basics.{if, indicator}
 use Rattle.geometry.proofs.GapLaws.{reach-stored}
 use Rattle.geometry.proofs.QuestionLaws.{feature-at, reach-at-place}
 use Rattle.geometry.proofs.PackedLaws.{asked-length, asked-few, first-length}
@@ -32,7 +32,7 @@ pub axis-in : (d i : ℕ) → i < d + d → axisNo d i < d
 unfolding axisNo
 axis-in d i l = by (ltb i d) refl
   where
-    by : (b : Bool) → ltb i d ≡ b → pick b i (i - d) < d
+    by : (b : Bool) → ltb i d ≡ b → if b i (i - d) < d
     by true e = ltb-true i d e
     by false e = omega (arith, ltb-false i d e)
 
@@ -57,7 +57,7 @@ module _ (a : List ℕ) (p : Packed a) where
 
   side-is : (j m : ℕ) (z : Feature) → m < sizeOf a → sideFrom j m (getD (askedOf a) m z) ≡ rowAt a j m
   unfolding rowAt
-  side-is j m z l = rw (feature-in m z l) (ap (λ (x : ℕ). pick (eqb m j) 0 (x - tick (ltb j m))) (reach-is m l))
+  side-is j m z l = rw (feature-in m z l) (ap (λ (x : ℕ). if (eqb m j) 0 (x - indicator (ltb j m))) (reach-is m l))
 
   -- a slice: the axis, and the row
   pub slice-asked : (i j h : ℕ) → i < sizeOf a + sizeOf a → j ≡ axisNo (sizeOf a) i
@@ -78,7 +78,7 @@ pub row-past : (a : List ℕ) (j m : ℕ) → sizeOf a ≤ m → rowAt a j m ≡
 unfolding rowAt
 row-past a j m l = by (eqb m j) (List·getD-eq-default a 0 {n = 48 + m} (omega arith))
   where
-    by : (b : Bool) → getD a (48 + m) 0 ≡ 0 → pick b 0 (getD a (48 + m) 0 - tick (ltb j m)) ≡ 0
+    by : (b : Bool) → getD a (48 + m) 0 ≡ 0 → if b 0 (getD a (48 + m) 0 - indicator (ltb j m)) ≡ 0
     by true e = refl
     by false e = omega (arith, e)
 
@@ -92,7 +92,7 @@ free w x h e = let z : x - h ≡ 0 = omega arith in rw z (omega arith)
 wide-enough : (d : ℕ) → 1 < d → d ≤ 16 → d ≤ widthOf d
 wide-enough d l k = by (leb d 1) refl (leb d 4) refl (leb d 8) refl
   where
-    by : (x : Bool) → leb d 1 ≡ x → (y : Bool) → leb d 4 ≡ y → (z : Bool) → leb d 8 ≡ z → d ≤ pick x 0 (pick y 4 (pick z 8 16))
+    by : (x : Bool) → leb d 1 ≡ x → (y : Bool) → leb d 4 ≡ y → (z : Bool) → leb d 8 ≡ z → d ≤ if x 0 (if y 4 (if z 8 16))
     by true e y f z g = absurd (omega (arith, leb-true d 1 e))
     by false e true f z g = leb-true d 4 f
     by false e false f true g = leb-true d 8 g
@@ -101,7 +101,7 @@ wide-enough d l k = by (leb d 1) refl (leb d 4) refl (leb d 8) refl
 pub width-le : (d : ℕ) → widthOf d ≤ 16
 width-le d = by (leb d 1) (leb d 4) (leb d 8)
   where
-    by : (x y z : Bool) → pick x 0 (pick y 4 (pick z 8 16)) ≤ 16
+    by : (x y z : Bool) → if x 0 (if y 4 (if z 8 16)) ≤ 16
     by true y z = omega arith
     by false true z = omega arith
     by false false true = omega arith
@@ -174,17 +174,17 @@ width-8 d l k t = rw (lt-leb d 1 l, lt-leb d 4 k, le-leb d 8 t)
 pub width-16 : (d : ℕ) → 1 < d → 4 < d → 8 < d → 16 ≡ widthOf d
 width-16 d l k t = rw (lt-leb d 1 l, lt-leb d 4 k, lt-leb d 8 t)
 
-pub row-same : (r m j : ℕ) → m ≡ j → 0 ≡ pick (eqb m j) 0 (r - tick (ltb j m))
+pub row-same : (r m j : ℕ) → m ≡ j → 0 ≡ if (eqb m j) 0 (r - indicator (ltb j m))
 row-same r m j e = rw (eq-eqb m j e)
 
-pub row-after : (r m j : ℕ) → m ≢ j → j < m → r - 1 ≡ pick (eqb m j) 0 (r - tick (ltb j m))
+pub row-after : (r m j : ℕ) → m ≢ j → j < m → r - 1 ≡ if (eqb m j) 0 (r - indicator (ltb j m))
 row-after r m j n l = rw (ne-eqb m j n, lt-ltb j m l)
 
-pub row-before : (r m j : ℕ) → m ≢ j → m ≤ j → r ≡ pick (eqb m j) 0 (r - tick (ltb j m))
+pub row-before : (r m j : ℕ) → m ≢ j → m ≤ j → r ≡ if (eqb m j) 0 (r - indicator (ltb j m))
 row-before r m j n l = rw (ne-eqb m j n, le-ltb j m l) (omega arith)
 
 -- one place of a row
-pub row-place : (reach places : List ℕ) (j m v : ℕ) → Counted places → m < 16 → v ≡ pick (eqb (getD places m 0) j) 0 (getD reach m 0 - tick (ltb j (getD places m 0)))
+pub row-place : (reach places : List ℕ) (j m v : ℕ) → Counted places → m < 16 → v ≡ if (eqb (getD places m 0) j) 0 (getD reach m 0 - indicator (ltb j (getD places m 0)))
     → (y : ℕ) → v ≡ rowIn reach j (rowFrom j + m) y
 row-place reach places j m v c l e y =
     let z : rowFrom j + m - rowFrom j ≡ m = omega arith in

@@ -4,24 +4,24 @@ use mathlib.Core.List.{List}
 use Prim.Native.Nat.{ℕ, _+_, _*_, _-_, _/_, _≤_, _<_}
 use lib.Dec.{leb, ltb, eqb}
 use lib.ListN.{length, getD}
-use Rattle.lists.specs.Basics.{pick}
+use Rattle.lists.specs.Basics.{if}
 use Rattle.geometry.specs.Features.{Ordered, Asks}
 use Rattle.geometry.specs.Slices.{axisNo}
 use Rattle.geometry.specs.Questions.{sizeOf, askedOf, Packed, sumTo, rowAt, Filled}
 
 -- what coordinate m has to come down from in pyramid i, on its axis too, and what its square falls by from height 0 to 1
 unfoldable pub ownFrom : List ℕ → ℕ → ℕ → ℕ
-ownFrom a i m = pick (ltb i (sizeOf a)) (1000 - getD a (16 + m) 0) (getD a m 0 - 1000)
+ownFrom a i m = if (ltb i (sizeOf a)) (1000 - getD a (16 + m) 0) (getD a m 0 - 1000)
 
 unfoldable pub fromAt : List ℕ → ℕ → ℕ → ℕ
-fromAt a i m = pick (eqb m (axisNo (sizeOf a) i)) (ownFrom a i m) (rowAt a (axisNo (sizeOf a) i) m)
+fromAt a i m = if (eqb m (axisNo (sizeOf a) i)) (ownFrom a i m) (rowAt a (axisNo (sizeOf a) i) m)
 
 abbrev pub oddOf : ℕ → ℕ
 oddOf x = 2 * x - 1
 
 -- twice the far end of the axis, towards the pyramid, as it is stored
 unfoldable pub endAt : List ℕ → ℕ → ℕ
-endAt a i = pick (ltb i (sizeOf a)) (4000 - 2 * getD a (axisNo (sizeOf a) i) 0) (2 * getD a (16 + axisNo (sizeOf a) i) 0)
+endAt a i = if (ltb i (sizeOf a)) (4000 - 2 * getD a (axisNo (sizeOf a) i) 0) (2 * getD a (16 + axisNo (sizeOf a) i) 0)
 
 -- a question as the lanes need it
 pub record Bounded (a : List ℕ) : Type 0 where
@@ -68,7 +68,7 @@ weightOf a k = getD a (32 + k) 0
 
 -- what a lane of falls gets in the row of coordinate m, from the lane's axis and the coordinate's reach
 abbrev pub sideIn : List ℕ → ℕ → ℕ → ℕ → ℕ → ℕ
-sideIn axes m reach x y = pick (ltb m (getD axes (x - 32 * m) 0)) (oddOf reach) (oddOf (reach - 1))
+sideIn axes m reach x y = if (ltb m (getD axes (x - 32 * m) 0)) (oddOf reach) (oddOf (reach - 1))
 
 abbrev pub same : ℕ → ℕ → ℕ → ℕ
 same v x y = v
@@ -79,7 +79,7 @@ pullAt falls weights i t m = getD weights (i + 32 * m) 0 * (getD falls (i + 32 *
 
 -- a lane after a turn: it stays where the distance does not fall from height h + step - 1 on, summed over k coordinates
 abbrev pub settledAt : ℕ → ℕ → ℕ → ℕ → ℕ → ℕ → ℕ
-settledAt sum weight end t step h = pick (leb sum (weight * (t + 2001 - end))) h (h + step)
+settledAt sum weight end t step h = if (leb sum (weight * (t + 2001 - end))) h (h + step)
 
 abbrev pub halvedAt : List ℕ → List ℕ → List ℕ → List ℕ → ℕ → ℕ → ℕ → ℕ → ℕ
 halvedAt falls weights owns ends k step i h = settledAt (sumTo k (pullAt falls weights i (2 * h + (2 * step - 2)))) (getD owns i 0) (getD ends i 0) (2 * h + (2 * step - 2)) step h
@@ -89,7 +89,7 @@ Halved falls weights owns ends k step n xs ys = Filled (halvedAt falls weights o
 
 -- how many coordinates are summed for n lanes
 abbrev pub summed : ℕ → ℕ
-summed n = pick (leb n 8) 4 (pick (leb n 16) 8 16)
+summed n = if (leb n 8) 4 (if (leb n 16) 8 16)
 
 -- lanes that a turn may move: tables as long as they are, what falls bounded, and no height above 1,000 after the turn
 pub record Movable (falls weights owns ends : List ℕ) (n step : ℕ) (heights : List ℕ) : Type 0 where

@@ -4,7 +4,7 @@ use mathlib.Core.List.{List, [], _∷_}
 use Prim.Native.Nat.{ℕ, zero, suc, max, _+_, _*_, _-_, _≤_, _<_}
 use lib.Dec.{leb, ltb, eqb}
 use lib.ListN.{length, getD, take, drop}
-use Rattle.lists.specs.Basics.{pick, tick}
+use Rattle.lists.specs.Basics.{if, indicator}
 use Rattle.geometry.specs.Features.{Feature, Ordered, Asks}
 use Rattle.geometry.specs.Slices.{Nearest, lowestOf, leastIn}
 use Rattle.geometry.specs.Stored.{coordOf}
@@ -83,14 +83,14 @@ sumTo (suc n) f = sumTo n f + f n
 
 -- what coordinate m has to come down from beside axis j: magnitudes before the axis stay below the height; nothing on the axis, and past the last
 unfoldable pub rowAt : List ℕ → ℕ → ℕ → ℕ
-rowAt a j m = pick (eqb m j) 0 (getD a (reachesFrom + m) 0 - tick (ltb j m))
+rowAt a j m = if (eqb m j) 0 (getD a (reachesFrom + m) 0 - indicator (ltb j m))
 
 -- where the row of axis j stands in near, and how many of its places are summed
 abbrev pub rowFrom : ℕ → ℕ
 rowFrom j = 32 + 16 * j
 
 abbrev pub widthOf : ℕ → ℕ
-widthOf d = pick (leb d 1) 0 (pick (leb d 4) 4 (pick (leb d 8) 8 16))
+widthOf d = if (leb d 1) 0 (if (leb d 4) 4 (if (leb d 8) 8 16))
 
 -- what place m of a row that stands at a place of near costs at height h
 abbrev pub rowCost : List ℕ → List ℕ → ℕ → ℕ → ℕ → ℕ

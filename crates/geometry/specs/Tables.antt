@@ -4,12 +4,12 @@ use mathlib.Core.List.{List}
 use Prim.Native.Nat.{ℕ, zero, suc, min, _+_, _-_, _≤_, _<_}
 use lib.Dec.{ltb, eqb}
 use lib.ListN.{length, getD}
-use Rattle.lists.specs.Basics.{pick, tick}
+use Rattle.lists.specs.Basics.{if, indicator}
 use Rattle.geometry.specs.Questions.{reachesFrom, rowFrom, nearPlaces, Rows}
 
 -- what is stored at place x of near for the row of axis j, from the reaches
 abbrev pub rowIn : List ℕ → ℕ → ℕ → ℕ → ℕ
-rowIn reach j x y = pick (eqb (x - rowFrom j) j) 0 (getD reach (x - rowFrom j) 0 - tick (ltb j (x - rowFrom j)))
+rowIn reach j x y = if (eqb (x - rowFrom j) j) 0 (getD reach (x - rowFrom j) 0 - indicator (ltb j (x - rowFrom j)))
 
 -- 0, 1, .. 15
 pub record Counted (r : List ℕ) : Type 0 where

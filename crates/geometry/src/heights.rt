@@ -4,7 +4,7 @@ ghost use mathlib.Core.Path.{_≡_};
 ghost use Prim.Native.Nat.{ℕ, _+_, _*_, _-_, _<_, _≤_};
 ghost use lib.Dec.{ltb, eqb};
 ghost use lib.ListN.{length, getD};
-ghost use Rattle.lists.specs.Basics.{pick};
+ghost use Rattle.lists.specs.Basics.{if};
 ghost use Rattle.geometry.specs.Slices.{axisNo, Nearest};
 ghost use Rattle.geometry.specs.Questions.{sizeOf, askedOf, sumTo, nearPlaces, Filled};
 ghost use Rattle.geometry.specs.Lanes.{oddOf, sideIn, same, copied, endBelow, endAbove, weightOf, pullAt, settledAt, summed, lanesOf};
@@ -63,7 +63,7 @@ fn axes_of(d: usize, n: usize) -> [u16; 32]
 }
 
 fn side_fall(m: u16, j: u16, before: u16, after: u16) -> u16
-    ensures { λ r. ⌜ r ≡ pick (ltb m j) before after ⌝ }
+    ensures { λ r. ⌜ r ≡ if (ltb m j) before after ⌝ }
 {
     if m < j { before } else { after }
 }
@@ -346,7 +346,7 @@ fn nearest_lanes(asked: &[u16]) -> [u16; 32]
 
 // The height at which an axis first has its range, or 0 where each is as near.
 fn reached(weight: u16, x: u16) -> u16
-    ensures { λ r. ⌜ r ≡ pick (eqb weight 0) 0 x ⌝ }
+    ensures { λ r. ⌜ r ≡ if (eqb weight 0) 0 x ⌝ }
 {
     if weight == 0 { 0 } else { x }
 }

@@ -6,7 +6,7 @@ ghost use Prim.Native.Nat.{min, max, _+_, _*_, _-_, _<_, _≤_};
 ghost use lib.IntN.{natAbs};
 ghost use lib.Dec.{leb};
 ghost use lib.ListN.{length};
-ghost use Rattle.lists.specs.Basics.{pick};
+ghost use Rattle.lists.specs.Basics.{if};
 ghost use Rattle.geometry.specs.Points.{heightOf, axisOf, pyramidOf};
 ghost use Rattle.geometry.specs.Stored.{coordOf, pointOf, stored, slotsOf, inRange};
 use crate::Height;
@@ -126,7 +126,7 @@ fn top_lead(p: &[u16]) -> u32
 // The number of the pyramid on axis j of d, on the side below 0 or not.
 pub fn pyramid_no(j: usize, d: usize, below: bool) -> u8
     requires { ⌜ (j < d) × (d ≤ 16) ⌝ }
-    ensures { λ r. ⌜ r ≡ pick below j (j + d) ⌝ }
+    ensures { λ r. ⌜ r ≡ if below j (j + d) ⌝ }
 {
     if below { j as u8 } else { (j + d) as u8 }
 }

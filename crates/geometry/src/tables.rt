@@ -3,7 +3,7 @@ ghost use mathlib.Core.Path.{_≡_};
 ghost use Prim.Native.Nat.{_+_, _*_, _-_, _<_, _≤_};
 ghost use lib.Dec.{ltb, eqb};
 ghost use lib.ListN.{length};
-ghost use Rattle.lists.specs.Basics.{pick, tick};
+ghost use Rattle.lists.specs.Basics.{if, indicator};
 ghost use Rattle.geometry.specs.Questions.{Packed, nearPlaces, wholePlaces, rowFrom, Filled, Heights, Wholes};
 ghost use Rattle.geometry.specs.Tables.{rowIn, Counted, Reached, RowRoom, Rowed, RowsOver};
 use crate::points::above;
@@ -20,7 +20,7 @@ const ROW: usize = 16;
 
 // What coordinate m has to come down from beside axis j.
 fn row_at(reach: u16, m: u16, j: u16) -> u16
-    ensures { λ r. ⌜ r ≡ pick (eqb m j) 0 (reach - tick (ltb j m)) ⌝ }
+    ensures { λ r. ⌜ r ≡ if (eqb m j) 0 (reach - indicator (ltb j m)) ⌝ }
 {
     if m == j {
         return 0;

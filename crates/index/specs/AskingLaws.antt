@@ -4,11 +4,11 @@ use mathlib.Core.Bool.{true}
 use mathlib.Core.List.{List, [], _∷_, _++_, map, append-nil}
 use Prim.Native.Nat.{ℕ, zero, suc, _≤_}
 use lib.ListN.{length}
-use Rattle.lists.specs.Basics.{All, flat, flat-append}
+use Rattle.lists.specs.Basics.{All, concatMap, concatMap-append}
 use Rattle.lists.specs.Counts.{mult}
-use Rattle.lists.specs.Sorting.{count, keep}
-use Rattle.lists.specs.SortingLaws.{keep-append}
-use Rattle.lists.specs.FlatLaws.{map-append}
+use Rattle.lists.specs.Sorting.{count, filter}
+use Rattle.lists.specs.SortingLaws.{filter-append}
+use Rattle.lists.specs.ConcatMapLaws.{map-append}
 use Rattle.geometry.specs.Points.{distance}
 use Rattle.geometry.specs.Features.{plain}
 use Rattle.geometry.proofs.SliceLaws.{plain-distance, plain-length}
@@ -44,19 +44,19 @@ module _ (w : Question) where
   bare-leaf n [] = refl
   bare-leaf n (r ∷ rs) = ap (λ (xs : List (ℕ × ℕ)). bareOf w r ∷ xs) (bare-leaf n rs)
 
-  bare-rows : (n : ℕ) (ts : List (Item 1)) → map bare (rowsFrom (sought w) n ts) ≡ map (bareOf w) (keep (candidate (sought w)) (flat leafItems ts))
-  unfolding rowsFrom rowsAmong flat keep
+  bare-rows : (n : ℕ) (ts : List (Item 1)) → map bare (rowsFrom (sought w) n ts) ≡ map (bareOf w) (filter (candidate (sought w)) (concatMap leafItems ts))
+  unfolding rowsFrom rowsAmong concatMap filter
   bare-rows n [] = refl
   bare-rows n (t ∷ ts) =
       let c = candidate (sought w) in
-      map-append bare (map (rowOf (sought w) n) (keep c (t .1))) (rowsFrom (sought w) (suc n) ts)
-      ∙ ap₂ (λ (x y : List (ℕ × ℕ)). x ++ y) (bare-leaf n (keep c (t .1))) (bare-rows (suc n) ts)
-      ∙ sym (ap (map (bareOf w)) (keep-append c (t .1) (flat leafItems ts)) ∙ map-append (bareOf w) (keep c (t .1)) (keep c (flat leafItems ts)))
+      map-append bare (map (rowOf (sought w) n) (filter c (t .1))) (rowsFrom (sought w) (suc n) ts)
+      ∙ ap₂ (λ (x y : List (ℕ × ℕ)). x ++ y) (bare-leaf n (filter c (t .1))) (bare-rows (suc n) ts)
+      ∙ sym (ap (map (bareOf w)) (filter-append c (t .1) (concatMap leafItems ts)) ∙ map-append (bareOf w) (filter c (t .1)) (filter c (concatMap leafItems ts)))
 
   pub live-rows : (v : View) → map bare (rowsOf v (sought w)) ≡ map (bareOf w) (liveCandidates v (sought w))
   unfolding rowsOf leavesOf live
   live-rows v =
-      bare-rows 0 (leaves (v .level) (treeOf v)) ∙ ap (λ (rs : List Record). map (bareOf w) (keep (candidate (sought w)) rs)) (sym (records-leaves (v .level) (treeOf v)))
+      bare-rows 0 (leaves (v .level) (treeOf v)) ∙ ap (λ (rs : List Record). map (bareOf w) (filter (candidate (sought w)) rs)) (sym (records-leaves (v .level) (treeOf v)))
 
 -- ---- WHAT THE SEARCH FINDS
 

@@ -4,7 +4,7 @@ use mathlib.Core.Bool.{Bool, true}
 use mathlib.Core.Logic.{inl, inr}
 use mathlib.Core.List.{List, [], _∷_}
 use Prim.Native.Nat.{ℕ}
-use Rattle.lists.specs.Tests.{cases, false-true}
+use Rattle.lists.specs.Tests.{false-true, by-cases}
 use Rattle.sound_faults.specs.Decidable.{Either, le?, eq?, both?, permitted?, sound-index?}
 use Rattle.index.specs.Asking.{Question}
 use Rattle.index.specs.Refusals.{Rule, First, makeRules, insertRules, deleteRules, questionRules, askedRules, checkRules}
@@ -20,7 +20,7 @@ first-some (rule ∷ rules) (inl h, d) = let r = first-some rules d in (r .0, in
 first-some (rule ∷ rules) (inr w, d) = (rule .0, inl (refl, w))
 
 true? : (t : Bool) → Either (t ≡ true)
-true? t = cases t (λ e. inl e) (λ e. inr (λ h. false-true (sym e ∙ h)))
+true? t = by-cases t (λ e. inl e) (λ e. inr (λ h. false-true (sym e ∙ h)))
 
 -- the rules of an act on index b
 abbrev pub rulesOf : Act → List ℕ → List Rule

@@ -8,7 +8,7 @@ use lib.Dec.{eqb}
 use lib.ListN.{length, take, drop}
 use lib.Seq.{take-at}
 use borrow.Author.Tests.{ne-eqb}
-use Rattle.lists.specs.Basics.{pick}
+use Rattle.lists.specs.Basics.{if}
 use Rattle.search_rows.specs.declared.Row.{Row}
 use Rattle.search_rows.specs.Held.{rowsIn}
 use Rattle.search.specs.Visit.{Answer as Found, found}
@@ -28,11 +28,11 @@ use Rattle.index.specs.Questions.{written, Places, QuestionedBy, Outcome
 module _ (lent : List Row) (ds ts : List ℕ) (c : ℕ) (f : Found) where
   -- a refused question leaves the rows, one carried out writes those found
   rows-by : (n : ℕ) → rowsIn ds ts c ≡ unlessRefused n f nothingFound .rows → c ≡ length (unlessRefused n f nothingFound .rows) → (n ≡ 0 → filled ds ts c lent ≡ rowsIn ds ts c ++ drop c lent)
-      → pick (eqb n 0) (filled ds ts c lent) lent ≡ written (unlessRefused n f nothingFound .rows) lent
+      → if (eqb n 0) (filled ds ts c lent) lent ≡ written (unlessRefused n f nothingFound .rows) lent
   rows-by zero rows count h = h refl ∙ (λ i. rows i ++ drop (count i) lent)
   rows-by (suc n) rows count h = rw (ne-eqb (suc n) 0 (λ (e : suc n ≡ 0). omega arith))
 
-tally-by : (n : ℕ) (t u : Tally) → pick (eqb n 0) t u ≡ unlessRefused n t u
+tally-by : (n : ℕ) (t u : Tally) → if (eqb n 0) t u ≡ unlessRefused n t u
 tally-by zero t u = refl
 tally-by (suc n) t u = rw (ne-eqb (suc n) 0 (λ (e : suc n ≡ 0). omega arith))
 

@@ -9,7 +9,7 @@ use native.Mathlib.Omega.{arith}
 use lib.Dec.{leb, eqb}
 use lib.ListN.{length}
 use borrow.Author.Tests.{leb-true, ne-eqb}
-use Rattle.lists.specs.Basics.{pick, All, none, also}
+use Rattle.lists.specs.Basics.{if, All, none, also}
 use Rattle.lists.specs.Counts.{mult, all-of-mult}
 use Rattle.lists.specs.Sorting.{count}
 use Rattle.lists.specs.Tests.{false-true}
@@ -18,7 +18,7 @@ use Rattle.pagestore.specs.Store.{View, viewOf}
 use Rattle.tree_model.specs.Sound.{SoundIndex}
 use Rattle.tree_laws.specs.SpacePromises.{pages-given}
 use Rattle.index.specs.Asking.{Question}
-use Rattle.index.specs.Refusals.{Rule, First, liveTimes, pagesToEven, deleteRules, questionRules, askedRules}
+use Rattle.index.specs.Refusals.{Rule, First, liveTimes, pagesToRebalance, deleteRules, questionRules, askedRules}
 
 pub first-one : (rules : List Rule) (m n : ℕ) → First rules m → First rules n → m ≡ n
 first-one [] m n e f = e ∙ sym f
@@ -34,10 +34,10 @@ unfolding count
 none-new ys none = refl
 none-new ys (also {x = q} h a) = let z = none-new ys a in rw (ne-eqb (mult q ys) 0 (λ e. omega (arith, h, e))) (omega arith)
 
--- evening out two leaves takes no page: on a sound index each page that a delete leaves in the tree was in it before
-pub evening-takes-none : (b : List ℕ) (i : ℕ) → SoundIndex b → 0 < liveTimes b i → pagesToEven b i ≡ 0
-unfolding pagesToEven
-evening-takes-none b i s h = none-new _ (all-of-mult _ (λ q g. omega (arith, pages-given b i s h q)))
+-- rebalancing out two leaves takes no page: on a sound index each page that a delete leaves in the tree was in it before
+pub rebalancing-takes-none : (b : List ℕ) (i : ℕ) → SoundIndex b → 0 < liveTimes b i → pagesToRebalance b i ≡ 0
+unfolding pagesToRebalance
+rebalancing-takes-none b i s h = none-new _ (all-of-mult _ (λ q g. omega (arith, pages-given b i s h q)))
 
 -- so 12 is never given
 pub never-twelve : (b : List ℕ) (i n : ℕ) → First (deleteRules b i) n → n ≢ 12
@@ -45,7 +45,7 @@ never-twelve b i n (inl e) z = omega (arith, e .0)
 never-twelve b i n (inr (p, inl e)) z = omega (arith, e .0)
 never-twelve b i n (inr (p, inr (s, inl e))) z = omega (arith, e .0)
 never-twelve b i n (inr (p, inr (s, inr (o, inl e)))) z = omega (arith, e .0)
-never-twelve b i n (inr (p, inr (s, inr (o, inr (l, inl e))))) z = e .1 (omega (arith, evening-takes-none b i s l))
+never-twelve b i n (inr (p, inr (s, inr (o, inr (l, inl e))))) z = e .1 (omega (arith, rebalancing-takes-none b i s l))
 never-twelve b i n (inr (p, inr (s, inr (o, inr (l, inr (w, e)))))) z = omega (arith, e)
 
 -- all conditions
@@ -56,9 +56,9 @@ Hold (rule ∷ rules) = (rule .1) × Hold rules
 -- no rule has the number of success
 abbrev pub numbered : List Rule → Bool
 numbered [] = true
-numbered (rule ∷ rules) = pick (leb 1 (rule .0)) (numbered rules) false
+numbered (rule ∷ rules) = if (leb 1 (rule .0)) (numbered rules) false
 
-numbered-parts : (t u : Bool) → pick t u false ≡ true → (t ≡ true) × (u ≡ true)
+numbered-parts : (t u : Bool) → if t u false ≡ true → (t ≡ true) × (u ≡ true)
 numbered-parts true u e = (refl, e)
 numbered-parts false u e = false-true e
 

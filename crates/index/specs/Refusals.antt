@@ -37,9 +37,9 @@ recordOf i p = record { id = i; coords = slotsOf p }
 abbrev pub liveTimes : List ℕ → ℕ → ℕ
 liveTimes b i = mult i (map identOf (live (viewOf b)))
 
--- how many pages the delete of identifier i takes for evening out: those in the tree afterwards that are not in it before
-unfoldable pub pagesToEven : List ℕ → ℕ → ℕ
-pagesToEven b i = count (λ p. eqb (mult p (treePages b)) 0) (treePages (deleteIdent b i))
+-- how many pages the delete of identifier i takes for rebalancing out: those in the tree afterwards that are not in it before
+unfoldable pub pagesToRebalance : List ℕ → ℕ → ℕ
+pagesToRebalance b i = count (λ p. eqb (mult p (treePages b)) 0) (treePages (deleteIdent b i))
 
 -- b: the bytes lent. d: features. i: an identifier. p: a point. w: a question. n: rows lent.
 
@@ -67,7 +67,7 @@ deleteRules b i =
     ∷ (2, SoundIndex b)
     ∷ (5, 1 ≤ i)
     ∷ (7, 0 < liveTimes b i)
-    ∷ (12, pagesToEven b i ≤ length (freeAt b))
+    ∷ (12, pagesToRebalance b i ≤ length (freeAt b))
     ∷ []
 
 -- those of a question that look at no index and not at its point

@@ -19,8 +19,8 @@ use Rattle.index_answer.specs.declared.Answer.{Answer}
 use Rattle.index_answer.specs.declared.Tally.{Tally}
 use Rattle.index_answer.specs.Delivered.{Delivered}
 use Rattle.index.specs.Asking.{Question}
-use Rattle.index.specs.Refusals.{Rule, First, liveTimes, pagesToEven, insertRules, deleteRules, questionRules, askedRules}
-use Rattle.index.specs.RefusalLaws.{evening-takes-none, all-hold, put-in, later, Carried, asked-carried}
+use Rattle.index.specs.Refusals.{Rule, First, liveTimes, pagesToRebalance, insertRules, deleteRules, questionRules, askedRules}
+use Rattle.index.specs.RefusalLaws.{rebalancing-takes-none, all-hold, put-in, later, Carried, asked-carried}
 use Rattle.index.specs.Answers.{AnswersIfSound}
 use Rattle.index.specs.Questions.{Places, QuestionOutcome, Questioned}
 use Rattle.index.specs.QuestionLaws.{handed-over}
@@ -119,7 +119,7 @@ module _ (b : List ℕ) (s : SoundIndex b) where
 
   -- 12 holds where the identifier is live
   pub delete-same : (i n : ℕ) → First (trustedDelete b i) n → First (deleteRules b i) n
-  delete-same i n f = put-in (liveRules i) [] (12, pagesToEven b i ≤ length (freeAt b)) n (λ w. omega (arith, evening-takes-none b i s (w .1 .1 .1 .0))) (live-same i n f)
+  delete-same i n f = put-in (liveRules i) [] (12, pagesToRebalance b i ≤ length (freeAt b)) n (λ w. omega (arith, rebalancing-takes-none b i s (w .1 .1 .1 .0))) (live-same i n f)
 
   pub question-same : (w : Question) (m n : ℕ) → First (trustedQuestion b w m) n → First (questionRules b w m) n
   question-same w m n (inl e) = inl e

@@ -11,7 +11,7 @@ use lib.IntN.{ℤ, natAbs}
 use lib.ListN.{length, take, length-take}
 use borrow.Author.Tests.{ltb-true, ltb-false, lt-ltb, le-ltb, le-leb}
 use Rattle.lists.specs.Basics.{All, none, also}
-use Rattle.lists.specs.Tests.{cases, decide}
+use Rattle.lists.specs.Tests.{decide, by-cases}
 use Rattle.geometry.specs.Stored.{coordOf, pointOf, stored, slotsOf, inRange}
 use Rattle.geometry.proofs.StoredLaws.{length-point, coord-magnitude, in-range, slots-back}
 use Rattle.pagestore.specs.declared.Record.{Record}
@@ -26,7 +26,7 @@ use Rattle.tree_laws.specs.LookupPromises.{find-ident, find-none}
 use Rattle.tree_laws.specs.KeyedPromises.{Twin, holds-found, found-holds, found-all, found-fits, delete-twin}
 use Rattle.search.proofs.SoundLaws.{tree-level}
 use Rattle.index.specs.Refusals.{First, recordOf, liveTimes, insertRules, deleteRules}
-use Rattle.index.specs.RefusalLaws.{evening-takes-none, first-one, all-hold, none-fails, put-in}
+use Rattle.index.specs.RefusalLaws.{rebalancing-takes-none, first-one, all-hold, none-fails, put-in}
 use Rattle.index.specs.PointLaws.{slots-own}
 use Rattle.index.specs.Trusted.{Suits, trustedInsert, pairRules, roomRules}
 use Rattle.index.specs.TrustedLaws.{insert-same}
@@ -36,7 +36,7 @@ use Rattle.index.specs.Vouched.{vouchedInsert, vouchedDelete, LiveAt}
 
 slot-back : (x : ℕ) → stored (coordOf x) ≡ x
 slot-back x =
-    cases (ltb x 1000)
+    by-cases (ltb x 1000)
     (λ e. let h = ltb-true x 1000 e in rw e (omega arith))
     (λ e. let h = ltb-false x 1000 e in rw e (omega arith))
 
@@ -101,7 +101,7 @@ module _ (b : List ℕ) (s : SoundIndex b) (i : ℕ) (p : List ℤ) where
 
     deletes : First (deleteRules b i) 0
     unfolding viewOf
-    deletes = none-fails (deleteRules b i) (s .lent, (s, (some, (h .0, (omega (arith, evening-takes-none b i s (h .0)), tt)))))
+    deletes = none-fails (deleteRules b i) (s .lent, (s, (some, (h .0, (omega (arith, rebalancing-takes-none b i s (h .0)), tt)))))
 
     pub delete-vouched : (n : ℕ) → First (vouchedDelete b i p) n → First (deleteRules b i) n
     delete-vouched n f = subst (First (deleteRules b i)) (first-one (vouchedDelete b i p) 0 n carried f) deletes

@@ -6,10 +6,10 @@ use crate::Returned;
 use crate::checking::refuse_index;
 use crate::refusing::refused;
 use crate::trusted;
-use search_rows::Row;
 use index_answer::Answer;
 use index_answer::Tally;
 use index_answer::deliver;
+use search_rows::Row;
 
 // A question before it is handed over, with so many rows lent: its rows, as distances and tags, go to two arrays.
 pub fn question_outcome(

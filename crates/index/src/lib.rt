@@ -1,9 +1,9 @@
 // The acts on an index: each has a stated outcome for every input, and refuses with the first number that applies in its order.
 // An act is the check and then the act without it (`trusted`), which a caller that holds its index alone may use by itself. A caller that also
 // keeps the identifiers and their points may insert and delete without a look for the identifier (`vouched`).
-use search_rows::Row;
 use index_answer::Answer;
 use index_answer::Tally;
+use search_rows::Row;
 
 mod asking;
 mod checking;

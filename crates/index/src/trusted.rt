@@ -14,12 +14,12 @@ use crate::refusing::record_of;
 use crate::refusing::refuse_insert;
 use crate::refusing::refuse_question;
 use crate::refusing::refused;
-use search_rows::Row;
 use index_answer::Answer;
 use index_answer::Tally;
 use index_answer::deliver;
 use pagestore::root_level;
 use search::search;
+use search_rows::Row;
 use tree::find;
 
 // Inserts an identifier with its point.

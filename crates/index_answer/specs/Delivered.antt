@@ -4,7 +4,7 @@ use mathlib.Core.Bool.{Bool, true, false}
 use mathlib.Core.List.{List}
 use Prim.Native.Nat.{ℕ}
 use lib.Dec.{eqb}
-use Rattle.lists.specs.Basics.{pick}
+use Rattle.lists.specs.Basics.{if}
 use Rattle.search_rows.specs.declared.Row.{Row}
 use Rattle.index_answer.specs.declared.Answer.{Answer}
 use Rattle.index_answer.specs.declared.Tally.{Tally}
@@ -16,10 +16,10 @@ abbrev pub carriedOut : Answer → Bool
 carriedOut a = eqb (a .code) 0
 
 abbrev pub rowsAfter : Answer → List ℕ → List ℕ → List Row → List Row
-rowsAfter a distances tags old = pick (carriedOut a) (filled distances tags (a .count) old) old
+rowsAfter a distances tags old = if (carriedOut a) (filled distances tags (a .count) old) old
 
 abbrev pub tallyAfter : Answer → Tally → Tally
-tallyAfter a old = pick (carriedOut a) (counted old (a .leaves)) old
+tallyAfter a old = if (carriedOut a) (counted old (a .leaves)) old
 
 -- the answer, the rows and the tally after the answer a is handed over, with candidates in two arrays
 pub record Delivered (a : Answer) (distances tags : List ℕ) (rows : List Row) (tally : Tally) (answer : Answer) (rows' : List Row) (tally' : Tally) : Type 0 where

@@ -9,8 +9,8 @@ use lib.Dec.{lit≤}
 use lib.IntN.{pos}
 use lib.ListN.{length}
 use borrow.Author.Tests.{le-leb}
-use Rattle.lists.specs.Basics.{All, none, also, all-map, all-append, upFrom}
-use Rattle.lists.specs.FlatLaws.{all-mapped, all-both}
+use Rattle.lists.specs.Basics.{All, none, also, all-map, all-append, rangeFrom}
+use Rattle.lists.specs.ConcatMapLaws.{all-mapped, all-both}
 use Rattle.geometry.specs.Examples as geometry
 use Rattle.geometry.proofs.ExampleLaws as geometry-laws
 use Rattle.geometry.specs.Stored.{inRange}
@@ -57,9 +57,9 @@ all-fit : All Fits search.examples
 all-fit =
     also (fit 9 1 (9 ∷ []) 1 (lit≤ tt) (lit≤ tt) (lit≤ tt))
     (also (fit 9 2 (9 ∷ 8 ∷ []) 2 (lit≤ tt) (lit≤ tt) (lit≤ tt))
-    (also (fit 1 9 (upFrom 1 9) 1 (lit≤ tt) (lit≤ tt) (lit≤ tt))
+    (also (fit 1 9 (rangeFrom 1 9) 1 (lit≤ tt) (lit≤ tt) (lit≤ tt))
     (also (fit 9 18 (9 ∷ 8 ∷ 10 ∷ 7 ∷ 11 ∷ 6 ∷ 12 ∷ 5 ∷ 13 ∷ 4 ∷ 14 ∷ 3 ∷ 15 ∷ 2 ∷ 16 ∷ 1 ∷ 17 ∷ []) 2 (lit≤ tt) (lit≤ tt) (lit≤ tt))
-    (also (fit 1 18 (upFrom 1 17) 2 (lit≤ tt) (lit≤ tt) (lit≤ tt))
+    (also (fit 1 18 (rangeFrom 1 17) 2 (lit≤ tt) (lit≤ tt) (lit≤ tt))
     none))))
 
 upward-seventeen : (e : search.Example) → Fits e × search.Holds e → Holds (asked e)

@@ -8,9 +8,9 @@ use native.Mathlib.Omega.{arith}
 use lib.Dec.{eqb}
 use lib.ListN.{length}
 use borrow.Author.Tests.{eqb-true, eqb-false, ne-eqb}
-use Rattle.lists.specs.Basics.{pick, tick}
-use Rattle.lists.specs.Tests.{cases}
+use Rattle.lists.specs.Basics.{if, indicator}
 use Rattle.lists.specs.Counts.{mult}
+use Rattle.lists.specs.Tests.{by-cases}
 use Rattle.pagestore.specs.declared.Record.{Record}
 use Rattle.pagestore.specs.Store.{View, viewOf, newIndex}
 use Rattle.tree_model.specs.Trees.{identOf, live}
@@ -26,8 +26,8 @@ use Rattle.index_laws.specs.Series.{Stands, act-stands, new-stands, seri
 
 -- how often an identifier is live after an act that is carried out, having been live n times
 abbrev pub timesBy : ℕ → Act → ℕ → ℕ
-timesBy i (insert j p) n = pick (eqb i j) 1 n
-timesBy i (delete j) n = pick (eqb i j) 0 n
+timesBy i (insert j p) n = if (eqb i j) 1 n
+timesBy i (delete j) n = if (eqb i j) 0 n
 timesBy i (question w m) n = n
 timesBy i check n = n
 
@@ -37,13 +37,13 @@ timesAfter i [] n = n
 timesAfter i (o ∷ os) n = timesAfter i os (unlessRefused (o .code) (timesBy i (o .act) n) n)
 
 -- the records without one of identifier j
-times-delete : (i j : ℕ) (rs : List Record) → 0 < mult j (map identOf rs) → mult i (map identOf (deleteRecord j rs)) + tick (eqb i j) ≡ mult i (map identOf rs)
+times-delete : (i j : ℕ) (rs : List Record) → 0 < mult j (map identOf rs) → mult i (map identOf (deleteRecord j rs)) + indicator (eqb i j) ≡ mult i (map identOf rs)
 unfolding deleteRecord mult
 times-delete i j [] h = absurd (omega arith)
 times-delete i j (r ∷ rs) h =
-    cases (eqb (r .id) j)
+    by-cases (eqb (r .id) j)
     (λ e. let s : r .id ≡ j = eqb-true (r .id) j e in rw (e, s) (omega arith))
-    (λ e. let w : tick (eqb j (r .id)) ≡ 0 = ap tick (ne-eqb j (r .id) (λ s. eqb-false (r .id) j e (sym s))) in
+    (λ e. let w : indicator (eqb j (r .id)) ≡ 0 = ap indicator (ne-eqb j (r .id) (λ s. eqb-false (r .id) j e (sym s))) in
     let t = times-delete i j rs (omega arith) in rw e (omega arith))
 
 module _ (d : ℕ) (rs : List Record) (b : List ℕ) (s : Stands d rs b) (i : ℕ) where
@@ -59,7 +59,7 @@ module _ (d : ℕ) (rs : List Record) (b : List ℕ) (s : Stands d rs b) (i : �
       let w = all-hold (insertRules b j p) refl (h .1) in
       let none : liveTimes b j ≡ 0 = w .1 .1 .1 .1 .1 .0 in
       ident-ins d (recordOf j p) rs i
-      ∙ cases (eqb i j)
+      ∙ by-cases (eqb i j)
       (λ e. let same : i ≡ j = eqb-true i j e in
       let z : mult i (map identOf rs) ≡ 0 = ap (λ (x : ℕ). mult x (map identOf rs)) same ∙ sym (held-times j) ∙ none in rw e (omega arith))
       (λ e. rw e (omega arith))
@@ -70,9 +70,9 @@ module _ (d : ℕ) (rs : List Record) (b : List ℕ) (s : Stands d rs b) (i : �
       let t = times-delete i j rs (omega (arith, held-times j)) in
       let most : liveTimes b i ≤ 1 = s .sound .distinct i in
       let g = held-times i in
-      cases (eqb i j)
-      (λ e. let one : tick (eqb i j) ≡ 1 = ap tick e in rw e (omega arith))
-      (λ e. let none : tick (eqb i j) ≡ 0 = ap tick e in rw e (omega arith))
+      by-cases (eqb i j)
+      (λ e. let one : indicator (eqb i j) ≡ 1 = ap indicator e in rw e (omega arith))
+      (λ e. let none : indicator (eqb i j) ≡ 0 = ap indicator e in rw e (omega arith))
   act-times (delete j) (suc n) f c h = refl
   act-times (question w m) zero f c h = refl
   act-times (question w m) (suc n) f c h = refl

@@ -42,11 +42,6 @@ module _ {A : Type 0} where
   head-any d e [] l = absurd (omega arith)
   head-any d e (x ∷ xs) l = refl
 
-  pub head-map : {B : Type 0} (f : A → B) (d : A) (xs : List A) → headOr (f d) (map f xs) ≡ f (headOr d xs)
-  unfolding headOr
-  head-map f d [] = refl
-  head-map f d (x ∷ xs) = refl
-
   pub last-map : {B : Type 0} (f : A → B) (d : A) (xs : List A) → lastOr (f d) (map f xs) ≡ f (lastOr d xs)
   unfolding lastOr
   last-map f d [] = refl

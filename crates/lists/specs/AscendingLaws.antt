@@ -7,16 +7,16 @@ use lib.Dec.{ltb}
 use lib.ListN.{length, getD}
 use borrow.Author.Tests.{ltb-true, ltb-false}
 use Rattle.lists.specs.Ascending.{headOr, lastOr, Ascending, none, one, more, asc-tail}
-use Rattle.lists.specs.Counts.{by-cases}
+use Rattle.lists.specs.Tests.{by-cases}
 
 -- the first and the last number; 0 where there is none
-abbrev pub hd : List ℕ → ℕ
-hd = headOr 0
+abbrev pub headNo : List ℕ → ℕ
+headNo = headOr 0
 
-abbrev pub lst : List ℕ → ℕ
-lst = lastOr 0
+abbrev pub lastNo : List ℕ → ℕ
+lastNo = lastOr 0
 
-pub asc-append : (xs ys : List ℕ) → Ascending xs → Ascending ys → (0 < length xs → 0 < length ys → lst xs < hd ys) → Ascending (xs ++ ys)
+pub asc-append : (xs ys : List ℕ) → Ascending xs → Ascending ys → (0 < length xs → 0 < length ys → lastNo xs < headNo ys) → Ascending (xs ++ ys)
 unfolding headOr lastOr
 asc-append [] ys h g l = g
 asc-append (x ∷ []) [] h g l = one
@@ -24,32 +24,20 @@ asc-append (x ∷ []) (y ∷ ys) h g l = more (l (omega arith) (omega arith)) g
 asc-append (x ∷ y ∷ xs) ys (more m h) g l = more m (asc-append (y ∷ xs) ys h g (λ a b. l (omega arith) b))
 
 -- the last of the first list is below the first of the second
-pub asc-cross : (xs ys : List ℕ) → 0 < length xs → 0 < length ys → Ascending (xs ++ ys) → lst xs < hd ys
+pub asc-cross : (xs ys : List ℕ) → 0 < length xs → 0 < length ys → Ascending (xs ++ ys) → lastNo xs < headNo ys
 unfolding headOr lastOr
 asc-cross [] ys a b h = absurd (omega arith)
 asc-cross (x ∷ xs) [] a b h = absurd (omega arith)
 asc-cross (x ∷ []) (y ∷ ys) a b (more m h) = m
 asc-cross (x ∷ z ∷ xs) (y ∷ ys) a b (more m h) = asc-cross (z ∷ xs) (y ∷ ys) (omega arith) b h
 
-pub asc-ends : (xs : List ℕ) → 2 ≤ length xs → Ascending xs → hd xs < lst xs
+pub asc-ends : (xs : List ℕ) → 2 ≤ length xs → Ascending xs → headNo xs < lastNo xs
 unfolding headOr lastOr
 asc-ends [] l h = absurd (omega arith)
 asc-ends (x ∷ []) l h = absurd (omega arith)
 asc-ends (x ∷ y ∷ []) l (more m h) = m
 asc-ends (x ∷ y ∷ z ∷ xs) l (more m h) =
     let ih : y < lastOr y (z ∷ xs) = asc-ends (y ∷ z ∷ xs) (omega arith) h in omega arith
-
--- by neighbours
-pub asc-pairs : (xs : List ℕ) → ((j : ℕ) → suc j < length xs → getD xs j 0 < getD xs (suc j) 0) → Ascending xs
-asc-pairs [] f = none
-asc-pairs (x ∷ []) f = one
-asc-pairs (x ∷ y ∷ xs) f = more (f 0 (omega arith)) (asc-pairs (y ∷ xs) (λ j h. f (suc j) (omega arith)))
-
-pub pairs-asc : {xs : List ℕ} → Ascending xs → (j : ℕ) → suc j < length xs → getD xs j 0 < getD xs (suc j) 0
-pairs-asc none j h = absurd (omega arith)
-pairs-asc one j h = absurd (omega arith)
-pairs-asc (more l a) zero h = l
-pairs-asc (more l a) (suc j) h = pairs-asc a j (omega arith)
 
 -- a list ascends or not
 head-less : {x y : ℕ} {xs : List ℕ} → Ascending (x ∷ y ∷ xs) → x < y

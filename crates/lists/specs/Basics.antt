@@ -9,14 +9,14 @@ use lib.ListN.{length, getD, set, length-append}
 use lib.Seq.{getD-set-same, getD-set-other}
 
 -- the first of two values if the test holds, else the second
-abbrev pub pick {ℓ} : {A : Type ℓ} → Bool → A → A → A
-pick true a b = a
-pick false a b = b
+abbrev pub if {ℓ} : {A : Type ℓ} → Bool → A → A → A
+if true a b = a
+if false a b = b
 
 -- 1 if the test holds, else 0
-abbrev pub tick : Bool → ℕ
-tick true = 1
-tick false = 0
+abbrev pub indicator : Bool → ℕ
+indicator true = 1
+indicator false = 0
 
 -- P holds of each element
 pub data All {A : Type 0} (P : A → Type 0) : List A → Type 0 where
@@ -24,19 +24,19 @@ pub data All {A : Type 0} (P : A → Type 0) : List A → Type 0 where
   also : {x : A} {xs : List A} → P x → All P xs → All P (x ∷ xs)
 
 -- the lists f x, joined
-unfoldable pub flat {ℓ} : {A : Type 0} {B : Type ℓ} → (A → List B) → List A → List B
-flat f [] = []
-flat f (x ∷ xs) = f x ++ flat f xs
+unfoldable pub concatMap {ℓ} : {A : Type 0} {B : Type ℓ} → (A → List B) → List A → List B
+concatMap f [] = []
+concatMap f (x ∷ xs) = f x ++ concatMap f xs
 
 -- f at 0, 1, .. up to n - 1
-unfoldable pub run {ℓ} : {A : Type ℓ} → ℕ → (ℕ → A) → List A
-run zero f = []
-run (suc n) f = run n f ++ (f n ∷ [])
+unfoldable pub tabulate {ℓ} : {A : Type ℓ} → ℕ → (ℕ → A) → List A
+tabulate zero f = []
+tabulate (suc n) f = tabulate n f ++ (f n ∷ [])
 
 -- a, a + 1, .. : n of them
-unfoldable pub upFrom : ℕ → ℕ → List ℕ
-upFrom a zero = []
-upFrom a (suc n) = a ∷ upFrom (suc a) n
+unfoldable pub rangeFrom : ℕ → ℕ → List ℕ
+rangeFrom a zero = []
+rangeFrom a (suc n) = a ∷ rangeFrom (suc a) n
 
 module _ {A : Type 0} {P : A → Type 0} where
   pub all-head : {x : A} {xs : List A} → All P (x ∷ xs) → P x
@@ -61,20 +61,20 @@ pub all-map : {A : Type 0} {P Q : A → Type 0} → ((x : A) → P x → Q x) �
 all-map f none = none
 all-map f (also h t) = also (f _ h) (all-map f t)
 
-pub flat-append {ℓ} : {A : Type 0} {B : Type ℓ} (f : A → List B) (xs ys : List A) → flat f (xs ++ ys) ≡ flat f xs ++ flat f ys
-unfolding flat
-flat-append f [] ys = refl
-flat-append f (x ∷ xs) ys = rw (flat-append f xs ys, append-assoc)
+pub concatMap-append {ℓ} : {A : Type 0} {B : Type ℓ} (f : A → List B) (xs ys : List A) → concatMap f (xs ++ ys) ≡ concatMap f xs ++ concatMap f ys
+unfolding concatMap
+concatMap-append f [] ys = refl
+concatMap-append f (x ∷ xs) ys = rw (concatMap-append f xs ys, append-assoc)
 
-pub length-run {ℓ} : {A : Type ℓ} (n : ℕ) (f : ℕ → A) → length (run n f) ≡ n
-unfolding run
-length-run zero f = refl
-length-run (suc n) f = omega (arith, length-append (run n f) (f n ∷ []), length-run n f)
+pub length-tabulate {ℓ} : {A : Type ℓ} (n : ℕ) (f : ℕ → A) → length (tabulate n f) ≡ n
+unfolding tabulate
+length-tabulate zero f = refl
+length-tabulate (suc n) f = omega (arith, length-append (tabulate n f) (f n ∷ []), length-tabulate n f)
 
-pub length-up : (a n : ℕ) → length (upFrom a n) ≡ n
-unfolding upFrom
-length-up a zero = refl
-length-up a (suc n) = ap suc (length-up (suc a) n)
+pub length-rangeFrom : (a n : ℕ) → length (rangeFrom a n) ≡ n
+unfolding rangeFrom
+length-rangeFrom a zero = refl
+length-rangeFrom a (suc n) = ap suc (length-rangeFrom (suc a) n)
 
 -- what holds of each element below i, and of the one stored at i, holds below i + 1
 pub below-stored {ℓ} : {A : Type ℓ} (P : ℕ → A → Type 0) (l : List A) (i : ℕ) (v d : A) → i < length l → ((k : ℕ) → k < i → P k (getD l k d)) → P i v → (k : ℕ) → k < i + 1 → P k (getD (set l i v) k d)

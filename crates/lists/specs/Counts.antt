@@ -8,17 +8,18 @@ use native.Mathlib.Omega.{arith}
 use lib.Dec.{ltb, eqb}
 use lib.ListN.{length}
 use borrow.Author.Tests.{ltb-true, lt-ltb, eqb-true, eqb-false, eq-eqb, ne-eqb}
-use Rattle.lists.specs.Basics.{tick, All, none, also, upFrom}
+use Rattle.lists.specs.Basics.{indicator, All, none, also, rangeFrom}
+use Rattle.lists.specs.Tests.{by-cases}
 
 -- how often q stands in the list
 unfoldable pub mult : ℕ → List ℕ → ℕ
 mult q [] = 0
-mult q (x ∷ xs) = tick (eqb q x) + mult q xs
+mult q (x ∷ xs) = indicator (eqb q x) + mult q xs
 
--- the two cases of a test, each with its equation
-pub by-cases : {P : Type 0} (t : Bool) → (t ≡ true → P) → (t ≡ false → P) → P
-by-cases true f g = f refl
-by-cases false f g = g refl
+-- none stands in the list that has none
+pub mult-none : (q : ℕ) → mult q [] ≡ 0
+unfolding mult
+mult-none q = refl
 
 pub mult-append : (q : ℕ) (xs ys : List ℕ) → mult q (xs ++ ys) ≡ mult q xs + mult q ys
 unfolding mult
@@ -35,12 +36,12 @@ mult-self q xs = rw (eq-eqb q q refl)
 
 pub mult-not : (q p : ℕ) (xs : List ℕ) → q ≢ p → mult q (p ∷ xs) ≡ mult q xs
 unfolding mult
-mult-not q p xs f = omega (arith, ap tick (ne-eqb q p f))
+mult-not q p xs f = omega (arith, ap indicator (ne-eqb q p f))
 
 -- what stands nowhere in a list is not its first element
 pub absent : (q p : ℕ) (xs : List ℕ) → mult q (p ∷ xs) ≡ 0 → q ≢ p
 unfolding mult
-absent q p xs h e = omega (arith, ap tick (eq-eqb q p e))
+absent q p xs h e = omega (arith, ap indicator (eq-eqb q p e))
 
 pub all-of-mult : {P : ℕ → Type 0} (xs : List ℕ) → ((q : ℕ) → 0 < mult q xs → P q) → All P xs
 all-of-mult [] f = none
@@ -50,28 +51,28 @@ pub mult-of-all : {P : ℕ → Type 0} {xs : List ℕ} → All P xs → (q : ℕ
 unfolding mult
 mult-of-all none q h = absurd (omega arith)
 mult-of-all {P} (also {x = x} {xs = xs} a t) q h =
-    by-cases (eqb q x) (λ e. let g : q ≡ x = eqb-true q x e in rw g a) (λ e. mult-of-all t q (omega (arith, ap tick e)))
+    by-cases (eqb q x) (λ e. let g : q ≡ x = eqb-true q x e in rw g a) (λ e. mult-of-all t q (omega (arith, ap indicator e)))
 
 -- ---- numbers counted up
 
-pub up-below : (q a n : ℕ) → q < a → mult q (upFrom a n) ≡ 0
-unfolding upFrom mult
-up-below q a zero h = refl
-up-below q a (suc n) h = mult-not q a (upFrom (suc a) n) (λ (e : q ≡ a). omega arith) ∙ up-below q (suc a) n (omega arith)
+pub rangeFrom-below : (q a n : ℕ) → q < a → mult q (rangeFrom a n) ≡ 0
+unfolding rangeFrom mult
+rangeFrom-below q a zero h = refl
+rangeFrom-below q a (suc n) h = mult-not q a (rangeFrom (suc a) n) (λ (e : q ≡ a). omega arith) ∙ rangeFrom-below q (suc a) n (omega arith)
 
-pub up-past : (q a n : ℕ) → a + n ≤ q → mult q (upFrom a n) ≡ 0
-unfolding upFrom mult
-up-past q a zero h = refl
-up-past q a (suc n) h = mult-not q a (upFrom (suc a) n) (λ (e : q ≡ a). omega arith) ∙ up-past q (suc a) n (omega arith)
+pub rangeFrom-past : (q a n : ℕ) → a + n ≤ q → mult q (rangeFrom a n) ≡ 0
+unfolding rangeFrom mult
+rangeFrom-past q a zero h = refl
+rangeFrom-past q a (suc n) h = mult-not q a (rangeFrom (suc a) n) (λ (e : q ≡ a). omega arith) ∙ rangeFrom-past q (suc a) n (omega arith)
 
-pub up-within : (q a n : ℕ) → a ≤ q → q < a + n → mult q (upFrom a n) ≡ 1
-unfolding upFrom mult
-up-within q a zero h g = absurd (omega arith)
-up-within q a (suc n) h g =
+pub rangeFrom-within : (q a n : ℕ) → a ≤ q → q < a + n → mult q (rangeFrom a n) ≡ 1
+unfolding rangeFrom mult
+rangeFrom-within q a zero h g = absurd (omega arith)
+rangeFrom-within q a (suc n) h g =
     by-cases (eqb q a)
-    (λ e. let same : q ≡ a = eqb-true q a e in omega (arith, ap tick e, up-below q (suc a) n (omega arith)))
+    (λ e. let same : q ≡ a = eqb-true q a e in omega (arith, ap indicator e, rangeFrom-below q (suc a) n (omega arith)))
     (λ e. let other : q ≢ a = eqb-false q a e in
-    mult-not q a (upFrom (suc a) n) other ∙ up-within q (suc a) n (omega (arith, other)) (omega arith))
+    mult-not q a (rangeFrom (suc a) n) other ∙ rangeFrom-within q (suc a) n (omega (arith, other)) (omega arith))
 
 -- ---- distinct numbers below n are at most n
 
@@ -95,24 +96,24 @@ unfolding sum
 sum-zero zero = refl
 sum-zero (suc n) = omega (arith, sum-zero n)
 
-sum-past : (x n : ℕ) → n ≤ x → sum (λ q. tick (eqb q x)) n ≡ 0
+sum-past : (x n : ℕ) → n ≤ x → sum (λ q. indicator (eqb q x)) n ≡ 0
 unfolding sum
 sum-past x zero h = refl
-sum-past x (suc n) h = omega (arith, sum-past x n (omega arith), ap tick (ne-eqb n x (λ (e : n ≡ x). omega arith)))
+sum-past x (suc n) h = omega (arith, sum-past x n (omega arith), ap indicator (ne-eqb n x (λ (e : n ≡ x). omega arith)))
 
-sum-one : (x n : ℕ) → x < n → sum (λ q. tick (eqb q x)) n ≡ 1
+sum-one : (x n : ℕ) → x < n → sum (λ q. indicator (eqb q x)) n ≡ 1
 unfolding sum
 sum-one x zero h = absurd (omega arith)
 sum-one x (suc n) h =
     by-cases (eqb n x)
-    (λ e. let same : n ≡ x = eqb-true n x e in omega (arith, ap tick e, sum-past x n (omega arith)))
-    (λ e. let other : n ≢ x = eqb-false n x e in let l : x < n = omega (arith, other) in omega (arith, ap tick e, sum-one x n l))
+    (λ e. let same : n ≡ x = eqb-true n x e in omega (arith, ap indicator e, sum-past x n (omega arith)))
+    (λ e. let other : n ≢ x = eqb-false n x e in let l : x < n = omega (arith, other) in omega (arith, ap indicator e, sum-one x n l))
 
 sum-length : (n : ℕ) {xs : List ℕ} → All (λ x. x < n) xs → sum (λ q. mult q xs) n ≡ length xs
 unfolding mult
 sum-length n none = sum-zero n
 sum-length n (also {x = x} {xs = xs} h t) =
-    sum-add (λ q. tick (eqb q x)) (λ q. mult q xs) n ∙ omega (arith, sum-one x n h, sum-length n t)
+    sum-add (λ q. indicator (eqb q x)) (λ q. mult q xs) n ∙ omega (arith, sum-one x n h, sum-length n t)
 
 pub pigeons : (n : ℕ) {xs : List ℕ} → All (λ x. x < n) xs → ((q : ℕ) → mult q xs ≤ 1) → length xs ≤ n
 pigeons n {xs} a h = omega (arith, sum-length n a, sum-le (λ q. mult q xs) n h)
@@ -122,10 +123,10 @@ unfolding sum
 sum-ext f g zero h = refl
 sum-ext f g (suc n) h = omega (arith, h n (omega arith), sum-ext f g n (λ q l. h q (omega arith)))
 
-sum-above : (n : ℕ) → sum (λ q. tick (ltb 0 q)) (suc n) ≡ n
+sum-above : (n : ℕ) → sum (λ q. indicator (ltb 0 q)) (suc n) ≡ n
 unfolding sum
 sum-above zero = refl
-sum-above (suc n) = omega (arith, ap tick (lt-ltb 0 (suc n) (omega arith)), sum-above n)
+sum-above (suc n) = omega (arith, ap indicator (lt-ltb 0 (suc n) (omega arith)), sum-above n)
 
 and-true : (t : Bool) → t && true ≡ t
 and-true true = refl
@@ -136,11 +137,11 @@ and-false true = refl
 and-false false = refl
 
 -- a list with each number from 1 up to n once, and no other
-pub length-once : (n : ℕ) (xs : List ℕ) → ((q : ℕ) → mult q xs ≡ tick (ltb 0 q && ltb q (suc n))) → length xs ≡ n
+pub length-once : (n : ℕ) (xs : List ℕ) → ((q : ℕ) → mult q xs ≡ indicator (ltb 0 q && ltb q (suc n))) → length xs ≡ n
 length-once n xs h =
     let few : All (λ x. x < suc n) xs =
     all-of-mult xs (λ q g. by-cases (ltb q (suc n)) (λ e. ltb-true q (suc n) e)
-    (λ e. absurd (let z : mult q xs ≡ 0 = h q ∙ ap tick (ap (λ (t : Bool). ltb 0 q && t) e ∙ and-false (ltb 0 q)) in omega arith))) in
+    (λ e. absurd (let z : mult q xs ≡ 0 = h q ∙ ap indicator (ap (λ (t : Bool). ltb 0 q && t) e ∙ and-false (ltb 0 q)) in omega arith))) in
     sym (sum-length (suc n) few)
-    ∙ sum-ext (λ q. mult q xs) (λ q. tick (ltb 0 q)) (suc n) (λ q l. h q ∙ ap tick (ap (λ (t : Bool). ltb 0 q && t) (lt-ltb q (suc n) l) ∙ and-true (ltb 0 q)))
+    ∙ sum-ext (λ q. mult q xs) (λ q. indicator (ltb 0 q)) (suc n) (λ q l. h q ∙ ap indicator (ap (λ (t : Bool). ltb 0 q && t) (lt-ltb q (suc n) l) ∙ and-true (ltb 0 q)))
     ∙ sum-above n

@@ -7,14 +7,14 @@ use native.Mathlib.Omega.{arith}
 use native.Mathlib.Numerals.{add-one}
 use lib.ListN.{length, getD, take, drop, length-take, drop-of-length-le}
 use lib.Seq.{drop-cons, getD-take}
-use Rattle.lists.specs.Basics.{pick}
-use Rattle.lists.specs.Counts.{by-cases}
-use Rattle.lists.specs.Sorting.{ins}
+use Rattle.lists.specs.Basics.{if}
+use Rattle.lists.specs.Sorting.{insertBy}
+use Rattle.lists.specs.Tests.{by-cases}
 
 module _ {A : Type 0} (t : A → Bool) where
   unfoldable pub leading : List A → ℕ
   leading [] = 0
-  leading (x ∷ xs) = pick (t x) (suc (leading xs)) 0
+  leading (x ∷ xs) = if (t x) (suc (leading xs)) 0
 
   pub leading-le : (xs : List A) → leading xs ≤ length xs
   unfolding leading
@@ -22,7 +22,7 @@ module _ {A : Type 0} (t : A → Bool) where
   leading-le (x ∷ xs) = by-cases (t x) (λ e. rw e (omega (arith, leading-le xs))) (λ e. rw e (omega arith))
 
   -- A loop that has passed i of the elements xs: it goes on at one that passes the test, and stops at one that does not, or at the end.
-  at-next : (d : A) (xs : List A) (i : ℕ) → i < length xs → leading (drop i xs) ≡ pick (t (getD xs i d)) (suc (leading (drop (suc i) xs))) 0
+  at-next : (d : A) (xs : List A) (i : ℕ) → i < length xs → leading (drop i xs) ≡ if (t (getD xs i d)) (suc (leading (drop (suc i) xs))) 0
   unfolding leading
   at-next d xs i h = rw (drop-cons xs i d h)
 
@@ -49,7 +49,7 @@ module _ {A : Type 0} (t : A → Bool) where
 
 -- what is put into its place in an order stands behind the elements that come before it
 pub ins-leading : {A : Type 0} (before : A → A → Bool) (x : A) (xs : List A)
-    → take (leading (λ y. before y x) xs) xs ++ (x ∷ drop (leading (λ y. before y x) xs) xs) ≡ ins before x xs
-unfolding leading ins
+    → take (leading (λ y. before y x) xs) xs ++ (x ∷ drop (leading (λ y. before y x) xs) xs) ≡ insertBy before x xs
+unfolding leading insertBy
 ins-leading before x [] = refl
 ins-leading {A} before x (y ∷ ys) = by-cases (before y x) (λ e. rw e (ap (λ (l : List A). y ∷ l) (ins-leading before x ys))) (λ e. rw e)

@@ -7,17 +7,14 @@ use native.Mathlib.Omega.{arith}
 use lib.Dec.{eqb}
 use lib.ListN.{length, getD}
 use borrow.Author.Tests.{eqb-true, eqb-false, eq-eqb}
-use Rattle.lists.specs.Basics.{tick, All, none, also, flat, all-left, all-right}
-use Rattle.lists.specs.Counts.{mult, by-cases, mult-append, mult-self, mult-not}
+use Rattle.lists.specs.Basics.{indicator, All, none, also, concatMap, all-left, all-right}
+use Rattle.lists.specs.Counts.{mult, mult-append, mult-self, mult-not}
+use Rattle.lists.specs.Tests.{by-cases, decide}
 
 -- x is the i-th of xs, counted from 0
 pub data At {A : Type 0} : List A → ℕ → A → Type 0 where
   here : {x : A} {xs : List A} → At (x ∷ xs) 0 x
   next : {x y : A} {xs : List A} {i : ℕ} → At xs i y → At (x ∷ xs) (suc i) y
-
--- two numbers are the same or not
-pub same? : {P : Type 0} (a b : ℕ) → (a ≡ b → P) → (a ≢ b → P) → P
-same? a b f g = by-cases (eqb a b) (λ e. f (eqb-true a b e)) (λ e. g (eqb-false a b e))
 
 -- ---- places
 
@@ -51,10 +48,10 @@ module _ {A : Type 0} where
   map-spot f (x ∷ xs) here = (x, here, refl)
   map-spot f (x ∷ xs) (next a) = let r = map-spot f xs a in (r .0, next (r .1), r .2)
 
-  pub all-flat-spot : {B : Type 0} {P : B → Type 0} (f : A → List B) {xs : List A} {i : ℕ} {x : A} → At xs i x → All P (flat f xs) → All P (f x)
-  unfolding flat
-  all-flat-spot f (here {x = x} {xs = xs}) h = all-left (f x) (flat f xs) h
-  all-flat-spot f (next {x = x} {xs = xs} a) h = all-flat-spot f a (all-right (f x) (flat f xs) h)
+  pub all-concatMap-spot : {B : Type 0} {P : B → Type 0} (f : A → List B) {xs : List A} {i : ℕ} {x : A} → At xs i x → All P (concatMap f xs) → All P (f x)
+  unfolding concatMap
+  all-concatMap-spot f (here {x = x} {xs = xs}) h = all-left (f x) (concatMap f xs) h
+  all-concatMap-spot f (next {x = x} {xs = xs} a) h = all-concatMap-spot f a (all-right (f x) (concatMap f xs) h)
 
 -- ---- how often
 
@@ -75,40 +72,31 @@ pub mult-find : (q : ℕ) (xs : List ℕ) → 0 < mult q xs → (i : ℕ) × At 
 unfolding mult
 mult-find q [] h = absurd (omega arith)
 mult-find q (x ∷ xs) h =
-    same? q x (λ e. (0, subst (λ (z : ℕ). At (x ∷ xs) 0 z) (sym e) here))
+    decide q x (λ e. (0, subst (λ (z : ℕ). At (x ∷ xs) 0 z) (sym e) here))
     (λ n. let r = mult-find q xs (omega (arith, mult-not q x xs n)) in (suc (r .0), next (r .1)))
 
 pub mult-find-two : (q : ℕ) (xs : List ℕ) → 2 ≤ mult q xs → (i : ℕ) × (j : ℕ) × At xs i q × At xs j q × (i ≢ j)
 unfolding mult
 mult-find-two q [] h = absurd (omega arith)
 mult-find-two q (x ∷ xs) h =
-    same? q x
-    (λ e. let r = mult-find q xs (omega (arith, ap tick (eq-eqb q x e))) in
+    decide q x
+    (λ e. let r = mult-find q xs (omega (arith, ap indicator (eq-eqb q x e))) in
     (0, suc (r .0), subst (λ (z : ℕ). At (x ∷ xs) 0 z) (sym e) here, next (r .1), λ z. absurd (omega arith)))
     (λ n. let r = mult-find-two q xs (omega (arith, mult-not q x xs n)) in
     (suc (r .0), suc (r .1), next (r .2), next (r .3), λ z. r .4 (omega arith)))
 
 -- ---- joined lists
 
-pub flat-in : {A : Type 0} (f : A → List ℕ) (q : ℕ) {ts : List A} {i : ℕ} {t : A} → At ts i t → 0 < mult q (f t) → 0 < mult q (flat f ts)
-unfolding flat
-flat-in f q (here {x = t} {xs = ts}) h = omega (arith, mult-append q (f t) (flat f ts))
-flat-in f q (next {x = t} {xs = ts} a) h =
-    let ih : 0 < mult q (flat f ts) = flat-in f q a h in omega (arith, mult-append q (f t) (flat f ts))
+pub concatMap-in : {A : Type 0} (f : A → List ℕ) (q : ℕ) {ts : List A} {i : ℕ} {t : A} → At ts i t → 0 < mult q (f t) → 0 < mult q (concatMap f ts)
+unfolding concatMap
+concatMap-in f q (here {x = t} {xs = ts}) h = omega (arith, mult-append q (f t) (concatMap f ts))
+concatMap-in f q (next {x = t} {xs = ts} a) h =
+    let ih : 0 < mult q (concatMap f ts) = concatMap-in f q a h in omega (arith, mult-append q (f t) (concatMap f ts))
 
-pub flat-find : {A : Type 0} (f : A → List ℕ) (q : ℕ) (ts : List A) → 0 < mult q (flat f ts) → (i : ℕ) × (t : A) × At ts i t × (0 < mult q (f t))
-unfolding mult flat
-flat-find f q [] h = absurd (omega arith)
-flat-find f q (t ∷ ts) h =
-    same? (mult q (f t)) 0
-    (λ e. let r = flat-find f q ts (omega (arith, mult-append q (f t) (flat f ts))) in (suc (r .0), r .1, next (r .2), r .3))
+pub concatMap-find : {A : Type 0} (f : A → List ℕ) (q : ℕ) (ts : List A) → 0 < mult q (concatMap f ts) → (i : ℕ) × (t : A) × At ts i t × (0 < mult q (f t))
+unfolding mult concatMap
+concatMap-find f q [] h = absurd (omega arith)
+concatMap-find f q (t ∷ ts) h =
+    decide (mult q (f t)) 0
+    (λ e. let r = concatMap-find f q ts (omega (arith, mult-append q (f t) (concatMap f ts))) in (suc (r .0), r .1, next (r .2), r .3))
     (λ n. (0, t, here, omega (arith, n)))
-
-pub spot-append : {A : Type 0} (xs ys : List A) {k : ℕ} {x : A} → At (xs ++ ys) k x → ((j : ℕ) × At xs j x) ⊎ ((j : ℕ) × At ys j x)
-spot-append {A} [] ys {k} a = inr (k, a)
-spot-append {A} (x ∷ xs) ys here = inl (0, here)
-spot-append {A} (x ∷ xs) ys (next a) = more (spot-append xs ys a)
-  where
-    more : {y : A} → ((j : ℕ) × At xs j y) ⊎ ((j : ℕ) × At ys j y) → ((j : ℕ) × At (x ∷ xs) j y) ⊎ ((j : ℕ) × At ys j y)
-    more (inl r) = inl (suc (r .0), next (r .1))
-    more (inr r) = inr r

@@ -5,8 +5,8 @@ use Prim.Native.Nat.{ℕ, _≤_, _<_}
 use native.Mathlib.Omega.{arith}
 use lib.Dec.{ltb}
 use borrow.Author.Tests.{ltb-true, ltb-false, lt-ltb, le-ltb}
-use Rattle.lists.specs.Basics.{pick}
-use Rattle.lists.specs.Tests.{cases, false-true, three}
+use Rattle.lists.specs.Basics.{if}
+use Rattle.lists.specs.Tests.{false-true, three, by-cases}
 use Rattle.lists.specs.Sorting.{Order}
 
 -- a first, where its number is the lower one
@@ -19,7 +19,7 @@ higher f a b = ltb (f b) (f a)
 
 -- by p, and by r where p does not decide
 unfoldable pub lex : {A : Type 0} → (A → A → Bool) → (A → A → Bool) → A → A → Bool
-lex p r a b = pick (p a b) true (pick (p b a) false (r a b))
+lex p r a b = if (p a b) true (if (p b a) false (r a b))
 
 -- by lower f, and by r where f is the same
 abbrev pub by : {A : Type 0} → (A → ℕ) → (A → A → Bool) → A → A → Bool
@@ -72,25 +72,25 @@ module _ {A : Type 0} (p r : A → A → Bool) where
 
   pub lex-same : (a b : A) → lex p r a b ≡ false → lex p r b a ≡ false → (p a b ≡ false) × (p b a ≡ false) × (r a b ≡ false) × (r b a ≡ false)
   lex-same a b e d =
-      cases (p a b) (λ x. false-true (sym e ∙ lex-first a b x))
-      (λ x. cases (p b a) (λ y. false-true (sym d ∙ lex-first b a y))
+      by-cases (p a b) (λ x. false-true (sym e ∙ lex-first a b x))
+      (λ x. by-cases (p b a) (λ y. false-true (sym d ∙ lex-first b a y))
       (λ y. (x, y, sym (lex-second a b x y) ∙ e, sym (lex-second b a y x) ∙ d)))
 
   module _ (u : Weak p) (v : Weak r) where
     lex-asym : (a b : A) → lex p r a b ≡ true → lex p r b a ≡ false
     lex-asym a b e =
-        cases (p a b) (λ x. lex-last b a (u .asym a b x) x)
-        (λ x. cases (p b a) (λ y. false-true (sym (lex-last a b x y) ∙ e))
+        by-cases (p a b) (λ x. lex-last b a (u .asym a b x) x)
+        (λ x. by-cases (p b a) (λ y. false-true (sym (lex-last a b x y) ∙ e))
         (λ y. lex-second b a y x ∙ v .asym a b (sym (lex-second a b x y) ∙ e)))
 
     lex-through : (a b c : A) → lex p r a b ≡ false → lex p r a c ≡ true → lex p r b c ≡ true
     lex-through a b c e d =
-        cases (p a b) (λ ab. false-true (sym e ∙ lex-first a b ab))
-        (λ ab. cases (p a c) (λ ac. lex-first b c (u .through a b c ab ac))
-        (λ ac. cases (p c a) (λ ca. false-true (sym (lex-last a c ac ca) ∙ d))
-        (λ ca. cases (p b c) (λ bc. lex-first b c bc)
-        (λ bc. cases (p b a) (λ ba. false-true (sym ca ∙ u .through b c a bc ba))
-        (λ ba. cases (p c b) (λ cb. false-true (sym ab ∙ u .through c a b ca cb))
+        by-cases (p a b) (λ ab. false-true (sym e ∙ lex-first a b ab))
+        (λ ab. by-cases (p a c) (λ ac. lex-first b c (u .through a b c ab ac))
+        (λ ac. by-cases (p c a) (λ ca. false-true (sym (lex-last a c ac ca) ∙ d))
+        (λ ca. by-cases (p b c) (λ bc. lex-first b c bc)
+        (λ bc. by-cases (p b a) (λ ba. false-true (sym ca ∙ u .through b c a bc ba))
+        (λ ba. by-cases (p c b) (λ cb. false-true (sym ab ∙ u .through c a b ca cb))
         (λ cb. lex-second b c bc cb ∙ v .through a b c (sym (lex-second a b ab ba) ∙ e) (sym (lex-second a c ac ca) ∙ d)))))))
 
     pub lex-weak : Weak (lex p r)
@@ -105,9 +105,6 @@ module _ {A : Type 0} (f : A → ℕ) (r : A → A → Bool) where
 
   pub by-higher : (a b : A) → f b < f a → by f r a b ≡ false
   by-higher a b h = lex-last (lower f) r a b (le-ltb (f a) (f b) (omega arith)) (lt-ltb (f b) (f a) h)
-
-  pub by-refines : (a b : A) → by f r a b ≡ true → f a ≤ f b
-  by-refines a b e = three (f a) (f b) (λ h. omega arith) (λ h. omega arith) (λ h. false-true (sym (by-higher a b h) ∙ e))
 
   pub by-weak : Weak r → Weak (by f r)
   by-weak w = lex-weak (lower f) r (lower-weak f) w

@@ -5,9 +5,9 @@ use Prim.Native.Nat.{ℕ, zero, suc, _+_, _<_}
 use native.Mathlib.Omega.{arith}
 use lib.ListN.{length, take, drop, getD, set, length-append, length-take, length-drop}
 use lib.Seq.{split-at, drop-cons, set-split}
-use Rattle.lists.specs.Basics.{All, none, also, flat, flat-append, all-append}
+use Rattle.lists.specs.Basics.{All, none, also, concatMap, concatMap-append, all-append}
 use Rattle.lists.specs.Ascending.{headOr, lastOr}
-use Rattle.lists.specs.Runs.{all-take}
+use Rattle.lists.specs.Tabulated.{all-take}
 
 module _ {A : Type 0} {P : A → Type 0} where
   pub all-drop : (i : ℕ) {xs : List A} → All P xs → All P (drop i xs)
@@ -56,21 +56,21 @@ module _ {A B : Type 0} (f : A → B) where
   map-set (t ∷ ts) (suc i) x = ap (λ (z : List B). f t ∷ z) (map-set ts i x)
 
 module _ {A B : Type 0} (f : A → List B) where
-  pub flat-three : (xs ys zs : List A) → flat f (xs ++ (ys ++ zs)) ≡ flat f xs ++ (flat f ys ++ flat f zs)
-  flat-three xs ys zs = flat-append f xs (ys ++ zs) ∙ ap (λ (z : List B). flat f xs ++ z) (flat-append f ys zs)
+  pub concatMap-three : (xs ys zs : List A) → concatMap f (xs ++ (ys ++ zs)) ≡ concatMap f xs ++ (concatMap f ys ++ concatMap f zs)
+  concatMap-three xs ys zs = concatMap-append f xs (ys ++ zs) ∙ ap (λ (z : List B). concatMap f xs ++ z) (concatMap-append f ys zs)
 
-  pub flat-split : (ts : List A) (i : ℕ) (d : A) → i < length ts → flat f ts ≡ flat f (take i ts) ++ (f (getD ts i d) ++ flat f (drop (suc i) ts))
-  unfolding flat
-  flat-split ts i d h = ap (flat f) (split-at ts i d h) ∙ flat-append f (take i ts) (getD ts i d ∷ drop (suc i) ts)
+  pub concatMap-split : (ts : List A) (i : ℕ) (d : A) → i < length ts → concatMap f ts ≡ concatMap f (take i ts) ++ (f (getD ts i d) ++ concatMap f (drop (suc i) ts))
+  unfolding concatMap
+  concatMap-split ts i d h = ap (concatMap f) (split-at ts i d h) ∙ concatMap-append f (take i ts) (getD ts i d ∷ drop (suc i) ts)
 
-  pub flat-set : (ts : List A) (i : ℕ) (x : A) → i < length ts → flat f (set ts i x) ≡ flat f (take i ts) ++ (f x ++ flat f (drop (suc i) ts))
-  unfolding flat
-  flat-set ts i x h = ap (flat f) (set-split ts i x h) ∙ flat-append f (take i ts) (x ∷ drop (suc i) ts)
+  pub concatMap-set : (ts : List A) (i : ℕ) (x : A) → i < length ts → concatMap f (set ts i x) ≡ concatMap f (take i ts) ++ (f x ++ concatMap f (drop (suc i) ts))
+  unfolding concatMap
+  concatMap-set ts i x h = ap (concatMap f) (set-split ts i x h) ∙ concatMap-append f (take i ts) (x ∷ drop (suc i) ts)
 
   -- two neighbours
-  pub flat-pair : (ts : List A) (j : ℕ) (d : A) → suc j < length ts
-      → flat f ts ≡ flat f (take j ts) ++ (f (getD ts j d) ++ (f (getD ts (suc j) d) ++ flat f (drop (suc (suc j)) ts)))
-  unfolding flat
-  flat-pair ts j d h =
-      flat-split ts j d (omega arith)
-      ∙ ap (λ (z : List A). flat f (take j ts) ++ (f (getD ts j d) ++ flat f z)) (drop-cons ts (suc j) d h)
+  pub concatMap-pair : (ts : List A) (j : ℕ) (d : A) → suc j < length ts
+      → concatMap f ts ≡ concatMap f (take j ts) ++ (f (getD ts j d) ++ (f (getD ts (suc j) d) ++ concatMap f (drop (suc (suc j)) ts)))
+  unfolding concatMap
+  concatMap-pair ts j d h =
+      concatMap-split ts j d (omega arith)
+      ∙ ap (λ (z : List A). concatMap f (take j ts) ++ (f (getD ts j d) ++ concatMap f z)) (drop-cons ts (suc j) d h)

@@ -7,9 +7,9 @@ use native.Mathlib.Omega.{arith}
 use lib.Dec.{eqb}
 use lib.ListN.{length, getD}
 use borrow.Author.Tests.{eqb-true, eq-eqb}
-use Rattle.lists.specs.Basics.{tick, All, none, also}
-use Rattle.lists.specs.Tests.{cases}
+use Rattle.lists.specs.Basics.{indicator, All, none, also}
 use Rattle.lists.specs.Counts.{mult}
+use Rattle.lists.specs.Tests.{by-cases}
 
 -- what holds at each place holds of each element
 pub all-places : {A : Type 0} {P : A → Type 0} (d : A) (xs : List A) → ((i : ℕ) → i < length xs → P (getD xs i d)) → All P xs
@@ -33,18 +33,18 @@ pub somewhere : (x : ℕ) (xs : List ℕ) → 0 < mult x xs → Somewhere x xs
 unfolding mult
 somewhere x [] h = absurd (omega arith)
 somewhere x (y ∷ ys) h =
-    cases (eqb x y) (λ e. record { at = 0; within = omega arith; is = sym (eqb-true x y e) })
-    (λ e. let s = somewhere x ys (omega (arith, ap tick e)) in record { at = suc (s .at); within = let q = s .within in omega arith; is = s .is })
+    by-cases (eqb x y) (λ e. record { at = 0; within = omega arith; is = sym (eqb-true x y e) })
+    (λ e. let s = somewhere x ys (omega (arith, ap indicator e)) in record { at = suc (s .at); within = let q = s .within in omega arith; is = s .is })
 
 pub elsewhere : (x : ℕ) (xs : List ℕ) (i : ℕ) → getD xs i 0 ≡ x → i < length xs → 1 < mult x xs → Elsewhere x xs i
 unfolding mult
 elsewhere x [] i e l h = absurd (omega arith)
 elsewhere x (y ∷ ys) zero e l h =
-    let s = somewhere x ys (omega (arith, ap tick (eq-eqb x y (sym e)))) in
+    let s = somewhere x ys (omega (arith, ap indicator (eq-eqb x y (sym e)))) in
     record { at = suc (s .at); within = let q = s .within in omega arith; apart = omega arith; is = s .is }
 elsewhere x (y ∷ ys) (suc i) e l h =
-    cases (eqb x y) (λ d. record { at = 0; within = omega arith; apart = omega arith; is = sym (eqb-true x y d) })
-    (λ d. let s = elsewhere x ys i e (omega arith) (omega (arith, ap tick d)) in
+    by-cases (eqb x y) (λ d. record { at = 0; within = omega arith; apart = omega arith; is = sym (eqb-true x y d) })
+    (λ d. let s = elsewhere x ys i e (omega arith) (omega (arith, ap indicator d)) in
     record { at = suc (s .at); within = let q = s .within in omega arith; apart = omega (arith, s .apart); is = s .is })
 
 pub once : (x : ℕ) (xs : List ℕ) (i : ℕ) → i < length xs → getD xs i 0 ≡ x → 0 < mult x xs

@@ -16,10 +16,6 @@ unfoldable pub raised : {A : Type 0} → List A → ℕ → ℕ → List A
 raised s i n = take (i + 1) s ++ (take (n - i) (drop i s) ++ drop (n + 1) s)
 
 module _ {A : Type 0} where
-  pub length-insert : (xs : List A) (k : ℕ) (x : A) → k ≤ length xs → length (insertAt xs k x) ≡ length xs + 1
-  unfolding insertAt
-  length-insert xs k x h = length-append (take k xs) (x ∷ drop k xs) ∙ omega (arith, length-take-le k xs h, length-drop k xs)
-
   pub raised-none : (s : List A) (n : ℕ) → s ≡ raised s n n
   unfolding raised
   raised-none s n = let z : n - n ≡ 0 = omega arith in rw z (sym (take-append-drop (n + 1) s))

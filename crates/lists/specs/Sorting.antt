@@ -4,17 +4,17 @@ use mathlib.Core.Bool.{Bool, true, false}
 use mathlib.Core.List.{List, [], _∷_}
 use Prim.Native.Nat.{ℕ, _+_}
 use lib.ListN.{take}
-use Rattle.lists.specs.Basics.{pick, tick, All}
+use Rattle.lists.specs.Basics.{if, indicator, All}
 
 -- the elements that pass, in their order
-unfoldable pub keep : {A : Type 0} → (A → Bool) → List A → List A
-keep p [] = []
-keep p (x ∷ xs) = pick (p x) (x ∷ keep p xs) (keep p xs)
+unfoldable pub filter : {A : Type 0} → (A → Bool) → List A → List A
+filter p [] = []
+filter p (x ∷ xs) = if (p x) (x ∷ filter p xs) (filter p xs)
 
 -- how many elements pass
 unfoldable pub count : {A : Type 0} → (A → Bool) → List A → ℕ
 count p [] = 0
-count p (x ∷ xs) = tick (p x) + count p xs
+count p (x ∷ xs) = indicator (p x) + count p xs
 
 -- the sum of f over the elements
 unfoldable pub sum : {A : Type 0} → (A → ℕ) → List A → ℕ
@@ -30,26 +30,26 @@ pub record Order {A : Type 0} (before : A → A → Bool) : Type 0 where
 
 module _ {A : Type 0} (before : A → A → Bool) where
   -- x put in behind the elements that are before it
-  unfoldable pub ins : A → List A → List A
-  ins x [] = x ∷ []
-  ins x (y ∷ ys) = pick (before y x) (y ∷ ins x ys) (x ∷ y ∷ ys)
+  unfoldable pub insertBy : A → List A → List A
+  insertBy x [] = x ∷ []
+  insertBy x (y ∷ ys) = if (before y x) (y ∷ insertBy x ys) (x ∷ y ∷ ys)
 
   -- the elements in order; for a strict total order the list that stands for what occurs how often
   unfoldable pub sort : List A → List A
-  unfolding ins
+  unfolding insertBy
   sort [] = []
-  sort (x ∷ xs) = ins x (sort xs)
+  sort (x ∷ xs) = insertBy x (sort xs)
 
   -- each of xs put in, first to last
-  unfoldable pub insAll : List A → List A → List A
-  unfolding ins
-  insAll [] s = s
-  insAll (x ∷ xs) s = insAll xs (ins x s)
+  unfoldable pub insertAll : List A → List A → List A
+  unfolding insertBy
+  insertAll [] s = s
+  insertAll (x ∷ xs) s = insertAll xs (insertBy x s)
 
   -- x put in, and the first k kept
   unfoldable pub offer : ℕ → A → List A → List A
-  unfolding ins
-  offer k x s = take k (ins x s)
+  unfolding insertBy
+  offer k x s = take k (insertBy x s)
 
   -- each of xs offered, first to last
   unfoldable pub offerAll : ℕ → List A → List A → List A

@@ -1,4 +1,4 @@
--- Proofs by cases of a test, and by comparison of two numbers.
+-- Proofs by by-cases of a test, and by comparison of two numbers.
 use mathlib.Core.Path.{_≡_, refl, ap}
 use mathlib.Core.Bool.{Bool, true, false}
 use mathlib.Core.Logic.{_≢_}
@@ -6,25 +6,25 @@ use Prim.Native.Nat.{ℕ, zero, suc, _≤_, _<_}
 use native.Mathlib.Omega.{arith}
 use lib.Dec.{ltb, eqb}
 use borrow.Author.Tests.{ltb-true, ltb-false, eqb-true, eqb-false}
-use Rattle.lists.specs.Basics.{tick}
+use Rattle.lists.specs.Basics.{indicator}
 
--- by cases of a test, with its equation
-pub cases : {P : Type 0} (b : Bool) → (b ≡ true → P) → (b ≡ false → P) → P
-cases true t f = t refl
-cases false t f = f refl
+-- by by-cases of a test, with its equation
+pub by-cases : {P : Type 0} (b : Bool) → (b ≡ true → P) → (b ≡ false → P) → P
+by-cases true t f = t refl
+by-cases false t f = f refl
 
 -- m is n, or another number
 pub decide : {P : Type 0} (m n : ℕ) → (m ≡ n → P) → (m ≢ n → P) → P
-decide m n t f = cases (eqb m n) (λ e. t (eqb-true m n e)) (λ e. f (eqb-false m n e))
+decide m n t f = by-cases (eqb m n) (λ e. t (eqb-true m n e)) (λ e. f (eqb-false m n e))
 
 pub false-true : {P : Type 0} → false ≡ true → P
-false-true e = let z : _≡_ {A = ℕ} 0 1 = ap tick e in absurd (omega arith)
+false-true e = let z : _≡_ {A = ℕ} 0 1 = ap indicator e in absurd (omega arith)
 
 -- m is below n, the same, or above
 pub three : {P : Type 0} (m n : ℕ) → (m < n → P) → (m ≡ n → P) → (n < m → P) → P
 three m n l e g =
-    cases (ltb m n) (λ t. l (ltb-true m n t))
-    (λ t. cases (ltb n m) (λ u. g (ltb-true n m u))
+    by-cases (ltb m n) (λ t. l (ltb-true m n t))
+    (λ t. by-cases (ltb n m) (λ u. g (ltb-true n m u))
     (λ u. e (let p : n ≤ m = ltb-false m n t in let q : m ≤ n = ltb-false n m u in omega arith)))
 
 -- a number from 1 on is one more than another

@@ -10,9 +10,9 @@ use lib.ListN.{length, getD, take, drop, replicate, length-append, length-take, 
 use lib.Seq.{take-take, take-all, drop-cons, getD-take}
 use borrow.Author.Tests.{leb-true, leb-false}
 use borrow.Rule.Slice.PartMut.{putMid, postOf, post-is}
-use Rattle.lists.specs.Basics.{run, flat, length-run}
-use Rattle.lists.specs.Counts.{by-cases}
-use Rattle.lists.specs.Runs.{getD-run, run-take, length-flat, all-at}
+use Rattle.lists.specs.Basics.{tabulate, concatMap, length-tabulate}
+use Rattle.lists.specs.Tabulated.{getD-tabulate, tabulate-take, length-concatMap, all-at}
+use Rattle.lists.specs.Tests.{by-cases}
 use Rattle.geometry.specs.declared.Key.{Key}
 use Rattle.pagestore.specs.declared.Record.{Record}
 use Rattle.pagestore.specs.declared.Leaf.{Leaf}
@@ -41,7 +41,7 @@ entry-is s at n f l a b c = rw (a, b, c)
 -- one item of a page
 record-read : (s : List ℕ) (i : ℕ) → i < 16 → recordAt s i ≡ getD (leafOf s .records) i noRecord
 unfolding leafOf
-record-read s i h = sym (getD-run 16 (recordAt s) i noRecord h)
+record-read s i h = sym (getD-tabulate 16 (recordAt s) i noRecord h)
 
 pub ident-read : (s : List ℕ) (i : ℕ) → i < 16 → leAt 4 s (identAt i) ≡ getD (leafOf s .records) i noRecord .id
 unfolding recordAt
@@ -50,15 +50,15 @@ ident-read s i h = ap (λ (r : Record). r .id) (record-read s i h)
 pub coord-read : (s : List ℕ) (m i : ℕ) → m < 16 → i < 16 → leAt 2 s (coordAt m i) % coordRoom ≡ getD (getD (leafOf s .records) i noRecord .coords) m 0
 unfolding recordAt
 coord-read s m i h k =
-    sym (getD-run 16 (λ j. leAt 2 s (coordAt j i) % coordRoom) m 0 h) ∙ ap (λ (r : Record). getD (r .coords) m 0) (record-read s i k)
+    sym (getD-tabulate 16 (λ j. leAt 2 s (coordAt j i) % coordRoom) m 0 h) ∙ ap (λ (r : Record). getD (r .coords) m 0) (record-read s i k)
 
 pub entry-read : (s : List ℕ) (i : ℕ) → i < 16 → entryAt s (4 + 20 * i) ≡ getD (innerOf s .entries) i noEntry
 unfolding innerOf
-entry-read s i h = sym (getD-run 16 (λ k. entryAt s (4 + 20 * k)) i noEntry h)
+entry-read s i h = sym (getD-tabulate 16 (λ k. entryAt s (4 + 20 * k)) i noEntry h)
 
 -- and of a page without bytes: all its items are the same
 pub record-none : (i : ℕ) → i < 16 → recordAt [] 0 ≡ getD (leafOf [] .records) i noRecord
-unfolding recordAt leAt run
+unfolding recordAt leAt tabulate
 record-none i h = record-read [] i h
 
 pub ident-none : (i : ℕ) → i < 16 → 0 ≡ getD (leafOf [] .records) i noRecord .id
@@ -71,24 +71,24 @@ entry-none i h = entry-read [] i h
 
 -- a record, or a page, of which each part was read by itself
 pub record-whole : (s : List ℕ) (i n : ℕ) (cs : List ℕ) → i < 16 → n ≡ getD (leafOf s .records) i noRecord .id
-    → cs ≡ run 16 (λ k. getD (getD (leafOf s .records) i noRecord .coords) k 0) → _≡_ {A = Record} (record { id = n; coords = cs }) (getD (leafOf s .records) i noRecord)
+    → cs ≡ tabulate 16 (λ k. getD (getD (leafOf s .records) i noRecord .coords) k 0) → _≡_ {A = Record} (record { id = n; coords = cs }) (getD (leafOf s .records) i noRecord)
 record-whole s i n cs h p q =
     let x : Record = getD (leafOf s .records) i noRecord in
     let l : length (x .coords) ≡ 16 = all-at (leaf-fits s) i noRecord (rw (leaf-slots s) h) .slots in
-    let f : cs ≡ x .coords = q ∙ run-take (x .coords) 0 16 (omega arith) ∙ take-all 16 (x .coords) (omega arith) in
+    let f : cs ≡ x .coords = q ∙ tabulate-take (x .coords) 0 16 (omega arith) ∙ take-all 16 (x .coords) (omega arith) in
     λ j. record { id = p j; coords = f j }
 
-pub leaf-whole : (s : List ℕ) (n : ℕ) (rs : List Record) → n ≡ leafOf s .count → rs ≡ run 16 (λ k. getD (leafOf s .records) k noRecord)
+pub leaf-whole : (s : List ℕ) (n : ℕ) (rs : List Record) → n ≡ leafOf s .count → rs ≡ tabulate 16 (λ k. getD (leafOf s .records) k noRecord)
     → _≡_ {A = Leaf} (record { count = n; records = rs }) (leafOf s)
 leaf-whole s n rs p q =
     let l : length (leafOf s .records) ≡ 16 = leaf-slots s in
-    let f : rs ≡ leafOf s .records = q ∙ run-take (leafOf s .records) noRecord 16 (omega arith) ∙ take-all 16 (leafOf s .records) (omega arith) in
+    let f : rs ≡ leafOf s .records = q ∙ tabulate-take (leafOf s .records) noRecord 16 (omega arith) ∙ take-all 16 (leafOf s .records) (omega arith) in
     λ j. record { count = p j; records = f j }
 
-pub inner-whole : (x : Inner) (v n : ℕ) (es : List Entry) → length (x .entries) ≡ 16 → v ≡ x .level → n ≡ x .count → es ≡ run 16 (λ k. getD (x .entries) k noEntry)
+pub inner-whole : (x : Inner) (v n : ℕ) (es : List Entry) → length (x .entries) ≡ 16 → v ≡ x .level → n ≡ x .count → es ≡ tabulate 16 (λ k. getD (x .entries) k noEntry)
     → _≡_ {A = Inner} (record { level = v; count = n; entries = es }) x
 inner-whole x v n es l p q e =
-    let f : es ≡ x .entries = e ∙ run-take (x .entries) noEntry 16 (omega arith) ∙ take-all 16 (x .entries) (omega arith) in
+    let f : es ≡ x .entries = e ∙ tabulate-take (x .entries) noEntry 16 (omega arith) ∙ take-all 16 (x .entries) (omega arith) in
     λ i. record { level = p i; count = q i; entries = f i }
 
 -- ---- what the writers leave: one store behind another
@@ -145,20 +145,20 @@ page-put s t vs n hs hn a q =
     rw (a, z, e) (ap (λ (r : List ℕ). vs ++ r) (append-nil (replicate (1024 - n) 0)))
 
 -- an inner page: the head, the entries, and zeros
-pub entries-put : (p l s t : List ℕ) (i v n : ℕ) (f : ℕ → Entry) → length p ≡ 1024 → n ≤ 16 → i ≡ n → l ≡ put p 0 (v ∷ n ∷ 0 ∷ 0 ∷ []) → s ≡ put l 4 (flat entryBytes (run i f))
+pub entries-put : (p l s t : List ℕ) (i v n : ℕ) (f : ℕ → Entry) → length p ≡ 1024 → n ≤ 16 → i ≡ n → l ≡ put p 0 (v ∷ n ∷ 0 ∷ 0 ∷ []) → s ≡ put l 4 (concatMap entryBytes (tabulate i f))
     → t ≡ replicate (length (take (length s - (4 + 20 * n)) (drop (4 + 20 * n) s))) 0
-    → putMid (4 + 20 * n) (length s - (4 + 20 * n)) s t ≡ entriesBytes v (run n f)
+    → putMid (4 + 20 * n) (length s - (4 + 20 * n)) s t ≡ entriesBytes v (tabulate n f)
 unfolding entriesBytes
 entries-put p l s t i v n f hp hn q o r z =
     let h : List ℕ = v ∷ n ∷ 0 ∷ 0 ∷ [] in
-    let hs : length s ≡ 1024 = ap length r ∙ length-put l 4 (flat entryBytes (run i f)) ∙ ap length o ∙ length-put p 0 h ∙ hp in
-    let w : length (flat entryBytes (run n f)) ≡ 20 * n = length-flat entryBytes 20 length-entry (run n f) ∙ ap (λ (m : ℕ). 20 * m) (length-run n f) in
-    let b : length (h ++ flat entryBytes (run n f)) ≡ 4 + 20 * n = length-append h (flat entryBytes (run n f)) ∙ ap (λ (m : ℕ). 4 + m) w in
-    let d : s ≡ put p 0 (h ++ flat entryBytes (run n f)) = behind p l s 0 h 4 (flat entryBytes (run n f)) o (rw q at r) refl in
-    let a : take (4 + 20 * n) s ≡ h ++ flat entryBytes (run n f) = rw d (put-front p (h ++ flat entryBytes (run n f)) (4 + 20 * n) b (omega arith)) in
+    let hs : length s ≡ 1024 = ap length r ∙ length-put l 4 (concatMap entryBytes (tabulate i f)) ∙ ap length o ∙ length-put p 0 h ∙ hp in
+    let w : length (concatMap entryBytes (tabulate n f)) ≡ 20 * n = length-concatMap entryBytes 20 length-entry (tabulate n f) ∙ ap (λ (m : ℕ). 20 * m) (length-tabulate n f) in
+    let b : length (h ++ concatMap entryBytes (tabulate n f)) ≡ 4 + 20 * n = length-append h (concatMap entryBytes (tabulate n f)) ∙ ap (λ (m : ℕ). 4 + m) w in
+    let d : s ≡ put p 0 (h ++ concatMap entryBytes (tabulate n f)) = behind p l s 0 h 4 (concatMap entryBytes (tabulate n f)) o (rw q at r) refl in
+    let a : take (4 + 20 * n) s ≡ h ++ concatMap entryBytes (tabulate n f) = rw d (put-front p (h ++ concatMap entryBytes (tabulate n f)) (4 + 20 * n) b (omega arith)) in
     let m : 1024 - (4 + 20 * n) ≡ 1020 - 20 * n = omega arith in
-    page-put s t (h ++ flat entryBytes (run n f)) (4 + 20 * n) hs (omega arith) a z
-    ∙ rw (length-run n f, m) refl
+    page-put s t (h ++ concatMap entryBytes (tabulate n f)) (4 + 20 * n) hs (omega arith) a z
+    ∙ rw (length-tabulate n f, m) refl
 
 -- of a count c, the items that there are
 capped : {A : Type 0} (xs : List A) (c n : ℕ) → length xs ≡ 16 → n ≡ min 16 c → take n xs ≡ take 16 (take c xs)
@@ -169,10 +169,10 @@ capped xs c n s e =
     rw f (sym (take-all 16 (take c xs) (omega (arith, length-take c xs)))))
 
 pub inner-put : (s : List ℕ) (m : Inner) (n : ℕ) → length (m .entries) ≡ 16 → n ≡ min 16 (m .count)
-    → s ≡ entriesBytes (m .level) (run n (λ i. getD (m .entries) i noEntry)) → s ≡ innerBytes (m .level) (entriesIn m)
+    → s ≡ entriesBytes (m .level) (tabulate n (λ i. getD (m .entries) i noEntry)) → s ≡ innerBytes (m .level) (entriesIn m)
 unfolding innerBytes
 inner-put s m n h e p =
-    p ∙ ap (entriesBytes (m .level)) (run-take (m .entries) noEntry n (omega arith) ∙ capped (m .entries) (m .count) n h e)
+    p ∙ ap (entriesBytes (m .level)) (tabulate-take (m .entries) noEntry n (omega arith) ∙ capped (m .entries) (m .count) n h e)
 
 -- a leaf: its records stored one by one; what is still to be stored of the first n takes the page to the whole
 pub records-next : (s t z : List ℕ) (i n : ℕ) (xs : List Record) → i < n → n ≤ length xs → t ≡ putRecord s i (getD xs i noRecord)
@@ -214,10 +214,6 @@ part-set b p xs ys h e = rw (e, post-is (p * 1024) (p * 1024 + 1024) b (omega ar
 
 pub part-none : (b : List ℕ) (p : ℕ) (xs : List ℕ) → inRange b p ≡ false → b ≡ setStretch b p xs
 part-none b p xs h = sym (set-out b p xs h)
-
--- an array has as many elements as its values
-pub unmapped : {X Y : Type 0} (g : X → Y) (l : List X) (n : ℕ) → length (map g l) ≡ n → length l ≡ n
-unmapped g l n e = sym (length-map l g) ∙ e
 
 -- ---- a number of one byte
 

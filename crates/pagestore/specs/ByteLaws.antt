@@ -8,8 +8,8 @@ use native.Mathlib.Nat.{pow-suc}
 use native.Mathlib.Omega.{arith}
 use lib.ListN.{length, getD, set, take, drop, replicate, drop-of-length-le}
 use lib.Seq.{sets, sets-eq, length-sets, getD-set-other, drop-set-lt, getD-drop, drop-at, drop-drop, take-at, length-take-le}
-use Rattle.lists.specs.Basics.{run, flat, length-run}
-use Rattle.lists.specs.Runs.{length-flat, flat-more}
+use Rattle.lists.specs.Basics.{tabulate, concatMap, length-tabulate}
+use Rattle.lists.specs.Tabulated.{length-concatMap, concatMap-more}
 use Rattle.pagestore.specs.Bytes.{byteAt, leAt, leBytes, put}
 
 -- ---- numbers
@@ -114,11 +114,11 @@ pub le-other : (n : ℕ) (l : List ℕ) (i : ℕ) (vs : List ℕ) (at : ℕ) →
 le-other n l i vs at h = le-ext n (put l i vs) l at (λ j a b. put-other l i vs j (λ c d. h (omega arith) (omega arith)))
 
 -- a loop that writes elements of k bytes one after the other: those of element m, behind those of the first m
-pub flat-next : {A : Type 0} (e : A → List ℕ) (k : ℕ) → ((x : A) → length (e x) ≡ k) → (f : ℕ → A) (l : List ℕ) (at m j : ℕ) (x : A) (s t : List ℕ)
-    → j ≡ at + k * m → x ≡ f m → s ≡ put l at (flat e (run m f)) → t ≡ put s j (e x) → t ≡ put l at (flat e (run (m + 1) f))
-flat-next e k w f l at m j x s t q g p r =
-    let n : length (flat e (run m f)) ≡ k * m = length-flat e k w (run m f) ∙ ap (λ (i : ℕ). k * i) (length-run m f) in
-    r ∙ rw (g, p, put-next l at (flat e (run m f)) j (e (f m)) (q ∙ ap (λ (i : ℕ). at + i) (sym n)), flat-more e k w m f)
+pub concatMap-next : {A : Type 0} (e : A → List ℕ) (k : ℕ) → ((x : A) → length (e x) ≡ k) → (f : ℕ → A) (l : List ℕ) (at m j : ℕ) (x : A) (s t : List ℕ)
+    → j ≡ at + k * m → x ≡ f m → s ≡ put l at (concatMap e (tabulate m f)) → t ≡ put s j (e x) → t ≡ put l at (concatMap e (tabulate (m + 1) f))
+concatMap-next e k w f l at m j x s t q g p r =
+    let n : length (concatMap e (tabulate m f)) ≡ k * m = length-concatMap e k w (tabulate m f) ∙ ap (λ (i : ℕ). k * i) (length-tabulate m f) in
+    r ∙ rw (g, p, put-next l at (concatMap e (tabulate m f)) j (e (f m)) (q ∙ ap (λ (i : ℕ). at + i) (sym n)), concatMap-more e k w m f)
 
 -- a loop that fills a list with one number, done
 pub fill-done : (d s : List ℕ) (i v : ℕ) → length d ≤ i → i ≤ length d → s ≡ replicate i v ++ drop i d → s ≡ replicate (length d) v

@@ -2,7 +2,7 @@
 use mathlib.Core.List.{List, [], _∷_, _++_}
 use Prim.Native.Nat.{ℕ, zero, suc, _+_, _-_, _*_, _%_}
 use lib.ListN.{length, getD, take, replicate}
-use Rattle.lists.specs.Basics.{run, flat}
+use Rattle.lists.specs.Basics.{tabulate, concatMap}
 use Rattle.geometry.specs.declared.Key.{Key}
 use Rattle.pagestore.specs.Bytes.{byteAt, leAt, leBytes, put}
 use Rattle.pagestore.specs.declared.Record.{Record}
@@ -47,10 +47,10 @@ identAt i = idents + 4 * i
 
 -- record i of a leaf, and the leaf
 unfoldable pub recordAt : List ℕ → ℕ → Record
-recordAt s i = record { id = leAt 4 s (identAt i); coords = run 16 (λ m. leAt 2 s (coordAt m i) % coordRoom) }
+recordAt s i = record { id = leAt 4 s (identAt i); coords = tabulate 16 (λ m. leAt 2 s (coordAt m i) % coordRoom) }
 
 unfoldable pub leafOf : List ℕ → Leaf
-leafOf s = record { count = byteAt s 1; records = run 16 (recordAt s) }
+leafOf s = record { count = byteAt s 1; records = tabulate 16 (recordAt s) }
 
 -- a page with the first m coordinates of record i stored, with that record, and with records from i on
 unfoldable pub putCoords : ℕ → List ℕ → ℕ → List ℕ → List ℕ
@@ -73,7 +73,7 @@ leafBytes rs = putRecords (blankLeaf (length (take 16 rs))) 0 (take 16 rs)
 
 -- an inner page: level, count, two unused bytes, then 16 slots from byte 4 on
 unfoldable pub innerOf : List ℕ → Inner
-innerOf s = record { level = byteAt s 0; count = byteAt s 1; entries = run 16 (λ i. entryAt s (4 + 20 * i)) }
+innerOf s = record { level = byteAt s 0; count = byteAt s 1; entries = tabulate 16 (λ i. entryAt s (4 + 20 * i)) }
 
 -- the link of a freed page to the page freed before it
 unfoldable pub linkOf : List ℕ → ℕ
@@ -81,7 +81,7 @@ linkOf s = leAt 4 s 4
 
 -- the 1,024 bytes written for an inner page: its entries, and zeros up to the end
 unfoldable pub entriesBytes : ℕ → List Entry → List ℕ
-entriesBytes level es = (level ∷ length es ∷ 0 ∷ 0 ∷ []) ++ (flat entryBytes es ++ replicate (1020 - 20 * length es) 0)
+entriesBytes level es = (level ∷ length es ∷ 0 ∷ 0 ∷ []) ++ (concatMap entryBytes es ++ replicate (1020 - 20 * length es) 0)
 
 unfoldable pub innerBytes : ℕ → List Entry → List ℕ
 innerBytes level es = entriesBytes level (take 16 es)

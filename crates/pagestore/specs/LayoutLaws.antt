@@ -7,8 +7,8 @@ use native.Mathlib.Nat.{eq-or-lt-of-le, le-of-suc-le-suc, not-suc-le-zero}
 use native.Mathlib.Omega.{arith}
 use lib.ListN.{length, getD, take, drop, replicate, length-append, length-replicate, length-take}
 use lib.Seq.{drop-drop, take-all}
-use Rattle.lists.specs.Basics.{run, flat, length-run, All, also}
-use Rattle.lists.specs.Runs.{run-ext, run-take, take-run, length-flat, flat-at, all-at, all-run}
+use Rattle.lists.specs.Basics.{tabulate, concatMap, length-tabulate, All, also}
+use Rattle.lists.specs.Tabulated.{tabulate-ext, tabulate-take, take-tabulate, length-concatMap, concatMap-at, all-at, all-tabulate}
 use Rattle.geometry.specs.declared.Key.{Key}
 use Rattle.pagestore.specs.declared.Record.{Record}
 use Rattle.pagestore.specs.declared.Entry.{Entry}
@@ -53,7 +53,7 @@ length-records s i (r ∷ rs) = length-records (putRecord s i r) (i + 1) rs ∙ 
 length-entries : (v : ℕ) (es : List Entry) → length es ≤ 16 → length (entriesBytes v es) ≡ 1024
 unfolding entriesBytes
 length-entries v es h =
-    let n : length (flat entryBytes es) ≡ 20 * length es = length-flat entryBytes 20 length-entry es in
+    let n : length (concatMap entryBytes es) ≡ 20 * length es = length-concatMap entryBytes 20 length-entry es in
     simp (length-append, length-replicate) (omega arith)
 
 most-16 : {A : Type 0} (xs : List A) → length (take 16 xs) ≤ 16
@@ -133,9 +133,9 @@ record-back s i r e h v =
     coords-other 16 t i (r .coords) 4 (identAt i) (λ k a b c. omega arith) ∙ le-put 4 (r .id) s (identAt i) (v .id) (omega arith) in
     let one : (m : ℕ) → m < 16 → leAt 2 u (coordAt m i) % coordRoom ≡ getD (r .coords) m 0 =
     λ m k. let c : getD (r .coords) m 0 < 2 ^ 11 = all-at (v .coords) m 0 (rw (v .slots) k) in omega (arith, coord-back 16 t i m (r .coords) f h (omega arith) k) in
-    let all : run 16 (λ m. leAt 2 u (coordAt m i) % coordRoom) ≡ r .coords =
-    run-ext 16 (λ m. leAt 2 u (coordAt m i) % coordRoom) (λ m. getD (r .coords) m 0) one
-    ∙ run-take (r .coords) 0 16 (omega (arith, v .slots)) ∙ take-all 16 (r .coords) (omega (arith, v .slots)) in
+    let all : tabulate 16 (λ m. leAt 2 u (coordAt m i) % coordRoom) ≡ r .coords =
+    tabulate-ext 16 (λ m. leAt 2 u (coordAt m i) % coordRoom) (λ m. getD (r .coords) m 0) one
+    ∙ tabulate-take (r .coords) 0 16 (omega (arith, v .slots)) ∙ take-all 16 (r .coords) (omega (arith, v .slots)) in
     rw (n, all)
 
 record-other : (s : List ℕ) (i : ℕ) (r : Record) (j : ℕ) → i < 16 → j < i → recordAt (putRecord s i r) j ≡ recordAt s j
@@ -149,7 +149,7 @@ record-other s i r j h l =
     let one : (m : ℕ) → m < 16 → leAt 2 u (coordAt m j) % coordRoom ≡ leAt 2 s (coordAt m j) % coordRoom =
     λ m k. ap (λ (x : ℕ). x % coordRoom)
     (coords-other 16 t i (r .coords) 2 (coordAt m j) (λ q a b c. omega arith) ∙ le-other 2 s (identAt i) (leBytes 4 (r .id)) (coordAt m j) (λ a b. omega arith)) in
-    rw (n, run-ext 16 (λ m. leAt 2 u (coordAt m j) % coordRoom) (λ m. leAt 2 s (coordAt m j) % coordRoom) one)
+    rw (n, tabulate-ext 16 (λ m. leAt 2 u (coordAt m j) % coordRoom) (λ m. leAt 2 s (coordAt m j) % coordRoom) one)
 
 records-other : (s : List ℕ) (i : ℕ) (rs : List Record) (j : ℕ) → i + length rs ≤ 16 → j < i → recordAt (putRecords s i rs) j ≡ recordAt s j
 unfolding putRecords
@@ -185,16 +185,16 @@ records-head s i (r ∷ rs) j h =
 
 -- ---- the entries of an inner page
 
-entries-round : (v : ℕ) (es : List Entry) → length es ≤ 16 → All EntryFits es → take (length es) (run 16 (λ j. entryAt (entriesBytes v es) (4 + 20 * j))) ≡ es
+entries-round : (v : ℕ) (es : List Entry) → length es ≤ 16 → All EntryFits es → take (length es) (tabulate 16 (λ j. entryAt (entriesBytes v es) (4 + 20 * j))) ≡ es
 unfolding entriesBytes
 entries-round v es h g =
     let z : List ℕ = replicate (1020 - 20 * length es) 0 in
-    let s : List ℕ = (v ∷ length es ∷ 0 ∷ 0 ∷ []) ++ (flat entryBytes es ++ z) in
+    let s : List ℕ = (v ∷ length es ∷ 0 ∷ 0 ∷ []) ++ (concatMap entryBytes es ++ z) in
     let one : (i : ℕ) → i < length es → entryAt s (4 + 20 * i) ≡ getD es i noEntry =
-    λ i p. entry-round (getD es i noEntry) (all-at g i noEntry p) s (4 + 20 * i) (flat entryBytes (drop (suc i) es) ++ z)
-    (sym (drop-drop (20 * i) 4 s) ∙ flat-at entryBytes 20 length-entry i es z noEntry p) in
-    take-run (length es) 16 (λ j. entryAt s (4 + 20 * j)) h
-    ∙ run-ext (length es) (λ j. entryAt s (4 + 20 * j)) (λ i. getD es i noEntry) one ∙ run-take es noEntry (length es) (omega arith) ∙ take-all (length es) es (omega arith)
+    λ i p. entry-round (getD es i noEntry) (all-at g i noEntry p) s (4 + 20 * i) (concatMap entryBytes (drop (suc i) es) ++ z)
+    (sym (drop-drop (20 * i) 4 s) ∙ concatMap-at entryBytes 20 length-entry i es z noEntry p) in
+    take-tabulate (length es) 16 (λ j. entryAt s (4 + 20 * j)) h
+    ∙ tabulate-ext (length es) (λ j. entryAt s (4 + 20 * j)) (λ i. getD es i noEntry) one ∙ tabulate-take es noEntry (length es) (omega arith) ∙ take-all (length es) es (omega arith)
 
 -- ---- leaf, inner and freed pages
 
@@ -211,10 +211,10 @@ unfolding leafOf leafBytes
 leaf-round rs h g =
     let s : List ℕ = putRecords (blankLeaf (length rs)) 0 rs in
     rw (take-all 16 rs h)
-    (take-run (length rs) 16 (recordAt s) h
-    ∙ run-ext (length rs) (recordAt s) (λ i. getD rs i noRecord)
+    (take-tabulate (length rs) 16 (recordAt s) h
+    ∙ tabulate-ext (length rs) (recordAt s) (λ i. getD rs i noRecord)
     (λ i k. let z : i ≡ 0 + i = omega arith in ap (recordAt s) z ∙ records-back (blankLeaf (length rs)) 0 rs i (length-blank (length rs)) (omega arith) g k)
-    ∙ run-take rs noRecord (length rs) (omega arith) ∙ take-all (length rs) rs (omega arith))
+    ∙ tabulate-take rs noRecord (length rs) (omega arith) ∙ take-all (length rs) rs (omega arith))
 
 pub inner-level : (v : ℕ) (es : List Entry) → v < 256 → byteAt (innerBytes v es) 0 ≡ v
 unfolding innerBytes entriesBytes
@@ -247,22 +247,22 @@ unfolding recordAt
 record-fits s i =
     record {
       id = le-fits 4 s (identAt i);
-      slots = length-run 16 (λ m. leAt 2 s (coordAt m i) % coordRoom);
-      coords = all-run 16 (λ m. leAt 2 s (coordAt m i) % coordRoom) (λ m. omega arith);
+      slots = length-tabulate 16 (λ m. leAt 2 s (coordAt m i) % coordRoom);
+      coords = all-tabulate 16 (λ m. leAt 2 s (coordAt m i) % coordRoom) (λ m. omega arith);
     }
 
 pub leaf-fits : (s : List ℕ) → All RecordFits (leafOf s .records)
 unfolding leafOf
-leaf-fits s = all-run 16 (recordAt s) (record-fits s)
+leaf-fits s = all-tabulate 16 (recordAt s) (record-fits s)
 
 pub leaf-slots : (s : List ℕ) → length (leafOf s .records) ≡ 16
 unfolding leafOf
-leaf-slots s = length-run 16 (recordAt s)
+leaf-slots s = length-tabulate 16 (recordAt s)
 
 pub inner-fits : (s : List ℕ) → All EntryFits (innerOf s .entries)
 unfolding innerOf
-inner-fits s = all-run 16 (λ i. entryAt s (4 + 20 * i)) (λ i. entry-fits s (4 + 20 * i))
+inner-fits s = all-tabulate 16 (λ i. entryAt s (4 + 20 * i)) (λ i. entry-fits s (4 + 20 * i))
 
 pub inner-slots : (s : List ℕ) → length (innerOf s .entries) ≡ 16
 unfolding innerOf
-inner-slots s = length-run 16 (λ i. entryAt s (4 + 20 * i))
+inner-slots s = length-tabulate 16 (λ i. entryAt s (4 + 20 * i))

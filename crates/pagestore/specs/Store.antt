@@ -7,7 +7,7 @@ use mathlib.Core.List.{List, [], _∷_, _++_}
 use Prim.Native.Nat.{ℕ, zero, suc, _+_, _-_, _*_, _/_, min}
 use lib.Dec.{ltb, leb, eqb}
 use lib.ListN.{length, take, drop, replicate}
-use Rattle.lists.specs.Basics.{pick, upFrom}
+use Rattle.lists.specs.Basics.{if, rangeFrom}
 use Rattle.pagestore.specs.Bytes.{byteAt, leAt, leBytes, put}
 use Rattle.pagestore.specs.Layout.{leafOf, innerOf, linkOf, leafBytes, innerBytes, freedBytes}
 use Rattle.pagestore.specs.declared.Record.{Record}
@@ -33,11 +33,11 @@ inRange b p = ltb 0 p && ltb p (pagesIn b)
 
 -- the bytes of page p: its own stretch of the index; none if p is out of range
 pub stretch : List ℕ → ℕ → List ℕ
-stretch b p = pick (inRange b p) (take 1024 (drop (p * 1024) b)) []
+stretch b p = if (inRange b p) (take 1024 (drop (p * 1024) b)) []
 
 -- the index with 1,024 bytes written into the stretch of page p; as it was if p is out of range
 pub setStretch : List ℕ → ℕ → List ℕ → List ℕ
-setStretch b p xs = pick (inRange b p) (take (p * 1024) b ++ (xs ++ drop (p * 1024 + 1024) b)) b
+setStretch b p xs = if (inRange b p) (take (p * 1024) b ++ (xs ++ drop (p * 1024 + 1024) b)) b
 
 -- what page p holds: as a leaf, as an inner page, its level byte and its count byte, and its link if it is freed
 pub leafAt : List ℕ → ℕ → Leaf
@@ -140,10 +140,10 @@ Apart f g = eqb (offset f) (offset g) ≡ false
 
 -- the number of w bytes at an offset of the header, and the index with another one there; in fewer than 1,024 bytes 0, and no change
 pub numberAt : ℕ → ℕ → List ℕ → ℕ
-numberAt w at b = pick (leb 1024 (length b)) (leAt w b at) 0
+numberAt w at b = if (leb 1024 (length b)) (leAt w b at) 0
 
 pub setNumber : ℕ → ℕ → List ℕ → ℕ → List ℕ
-setNumber w at b v = pick (leb 1024 (length b)) (put b at (leBytes w v)) b
+setNumber w at b v = if (leb 1024 (length b)) (put b at (leBytes w v)) b
 
 abbrev pub fieldAt : Field → List ℕ → ℕ
 fieldAt f b = numberAt (width f) (offset f) b
@@ -156,12 +156,12 @@ setField f b v = setNumber (width f) (offset f) b v
 -- the pages met on a chain of links, up to a link that is out of range, at most n of them
 pub chain : ℕ → List ℕ → ℕ → List ℕ
 chain zero b p = []
-chain (suc n) b p = pick (inRange b p) (p ∷ chain n b (linkAt b p)) []
+chain (suc n) b p = if (inRange b p) (p ∷ chain n b (linkAt b p)) []
 
 -- the link at which that chain ends
 pub chainEnd : ℕ → List ℕ → ℕ → ℕ
 chainEnd zero b p = p
-chainEnd (suc n) b p = pick (inRange b p) (chainEnd n b (linkAt b p)) p
+chainEnd (suc n) b p = if (inRange b p) (chainEnd n b (linkAt b p)) p
 
 -- the freed pages, the last freed first; at most as many links are followed as there are pages
 unfoldable pub freedAt : List ℕ → List ℕ
@@ -173,7 +173,7 @@ restAt b = chainEnd (pagesIn b) b (fieldAt freed b)
 
 -- the pages never used
 unfoldable pub freshAt : List ℕ → List ℕ
-freshAt b = pick (inRange b (fieldAt fresh b)) (upFrom (fieldAt fresh b) (pagesIn b - fieldAt fresh b)) []
+freshAt b = if (inRange b (fieldAt fresh b)) (rangeFrom (fieldAt fresh b) (pagesIn b - fieldAt fresh b)) []
 
 -- the pages in the order in which they will be taken
 unfoldable pub freeAt : List ℕ → List ℕ
@@ -182,14 +182,14 @@ freeAt b = freedAt b ++ freshAt b
 -- a new page is the most recently freed one, else the lowest never used, else 0
 unfoldable pub pageTaken : List ℕ → ℕ
 pageTaken b =
-    pick (inRange b (fieldAt freed b)) (fieldAt freed b)
-    (pick (inRange b (fieldAt fresh b)) (fieldAt fresh b) 0)
+    if (inRange b (fieldAt freed b)) (fieldAt freed b)
+    (if (inRange b (fieldAt fresh b)) (fieldAt fresh b) 0)
 
 -- the index when that page has been taken
 unfoldable pub takePage : List ℕ → List ℕ
 takePage b =
-    pick (inRange b (fieldAt freed b)) (setField freed b (linkAt b (fieldAt freed b)))
-    (pick (inRange b (fieldAt fresh b)) (setField fresh b (fieldAt fresh b + 1)) b)
+    if (inRange b (fieldAt freed b)) (setField freed b (linkAt b (fieldAt freed b)))
+    (if (inRange b (fieldAt fresh b)) (setField fresh b (fieldAt fresh b + 1)) b)
 
 -- the index with a link to the page n at the freed page p
 pub setLink : List ℕ → ℕ → ℕ → List ℕ
@@ -197,12 +197,12 @@ setLink b p n = setStretch b p (freedBytes n)
 
 -- the index when page p has been freed: it links to the page freed before it
 unfoldable pub freePage : List ℕ → ℕ → List ℕ
-freePage b p = pick (inRange b p) (setField freed (setLink b p (fieldAt freed b)) p) b
+freePage b p = if (inRange b p) (setField freed (setLink b p (fieldAt freed b)) p) b
 
 -- ---- A NEW INDEX
 
 pub clearHeader : List ℕ → List ℕ
-clearHeader b = pick (leb 1024 (length b)) (replicate 1024 0 ++ drop 1024 b) b
+clearHeader b = if (leb 1024 (length b)) (replicate 1024 0 ++ drop 1024 b) b
 
 unfoldable pub setFields : List ℕ → List (Field × ℕ) → List ℕ
 setFields b [] = b

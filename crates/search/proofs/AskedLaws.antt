@@ -7,9 +7,9 @@ use native.Mathlib.Omega.{arith}
 use lib.IntN.{ℤ}
 use lib.ListN.{length, length-take}
 use Rattle.lists.specs.Basics.{All, none, also}
-use Rattle.lists.specs.FlatLaws.{all-every}
-use Rattle.lists.specs.Sorting.{keep}
-use Rattle.lists.specs.SortingLaws.{keep-all}
+use Rattle.lists.specs.ConcatMapLaws.{all-every}
+use Rattle.lists.specs.Sorting.{filter}
+use Rattle.lists.specs.SortingLaws.{filter-all}
 use Rattle.geometry.specs.Points.{InRange}
 use Rattle.geometry.specs.Features.{Feature, plain}
 use Rattle.geometry.specs.Questions.{featuresOf, sizeOf, partFrom, askedOf, Packed, Preparable}
@@ -25,8 +25,8 @@ pub each-candidate : (q : Asked) (r : Record) → true ≡ candidate q r
 unfolding candidate
 each-candidate q r = refl
 
-pub candidates-all : (q : Asked) (rs : List Record) → keep (candidate q) rs ≡ rs
-candidates-all q rs = keep-all (candidate q) rs (all-every (λ r. sym (each-candidate q r)) rs)
+pub candidates-all : (q : Asked) (rs : List Record) → filter (candidate q) rs ≡ rs
+candidates-all q rs = filter-all (candidate q) rs (all-every (λ r. sym (each-candidate q r)) rs)
 
 pub plain-suits : (d : ℕ) (p : List ℤ) (k : ℕ) → length p ≡ d → Askable d (plainly p k)
 plain-suits d p k e = record { same = plain-length p ∙ e; ordered = plain-ordered p }

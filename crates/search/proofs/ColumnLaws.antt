@@ -11,11 +11,11 @@ use lib.Dec.{ltb, eqb}
 use lib.ListN.{length, getD, take, drop, set, replicate, length-set, getD-replicate}
 use lib.Seq.{getD-set-same, getD-set-other, take-suc}
 use borrow.Author.Tests.{ltb-true, lt-ltb, le-ltb, ne-eqb}
-use Rattle.lists.specs.Basics.{tick, All, all-map}
-use Rattle.lists.specs.Runs.{all-at}
+use Rattle.lists.specs.Basics.{indicator, All, all-map}
+use Rattle.lists.specs.Tabulated.{all-at}
 use Rattle.lists.specs.Sorting.{count}
 use Rattle.lists.specs.SortingLaws.{count-append}
-use Rattle.lists.specs.Tests.{cases, decide}
+use Rattle.lists.specs.Tests.{decide, by-cases}
 use Rattle.geometry.specs.Points.{distance}
 use Rattle.geometry.specs.Stored.{pointOf}
 use Rattle.geometry.proofs.LoopLaws.{dist-more, dist-end}
@@ -187,7 +187,7 @@ sums-end page q n sums s r h = let e = s .each r h in let z = cost-end page q r 
 -- ---- NONE NEAR ENOUGH
 
 -- one sum more is counted
-pub within-more : (limit : ℕ) (sums : List ℕ) (r : ℕ) → r < length sums → count (notPast limit) (take (r + 1) sums) ≡ count (notPast limit) (take r sums) + tick (notPast limit (getD sums r 0))
+pub within-more : (limit : ℕ) (sums : List ℕ) (r : ℕ) → r < length sums → count (notPast limit) (take (r + 1) sums) ≡ count (notPast limit) (take r sums) + indicator (notPast limit (getD sums r 0))
 unfolding count
 within-more limit sums r h = rw (add-one r, take-suc sums r 0 h, count-append (notPast limit) (take r sums) (getD sums r 0 ∷ [])) (omega arith)
 
@@ -196,7 +196,7 @@ pub none-within : (limit n : ℕ) (sums : List ℕ) → count (notPast limit) (t
 unfolding count
 none-within limit zero sums e r h g = absurd (omega arith)
 none-within limit (suc n) [] e r h g = absurd (omega arith)
-none-within limit (suc n) (x ∷ xs) e zero h g = cases (ltb limit x) (λ f. ltb-true limit x f) (λ f. let z : tick (notPast limit x) ≡ 1 = ap (λ (b : Bool). tick (not b)) f in absurd (omega arith))
+none-within limit (suc n) (x ∷ xs) e zero h g = by-cases (ltb limit x) (λ f. ltb-true limit x f) (λ f. let z : indicator (notPast limit x) ≡ 1 = ap (λ (b : Bool). indicator (not b)) f in absurd (omega arith))
 none-within limit (suc n) (x ∷ xs) e (suc r) h g = none-within limit n xs (omega arith) r (omega arith) (omega arith)
 
 -- a limit, from the k-th distance

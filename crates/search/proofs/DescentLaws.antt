@@ -7,9 +7,9 @@ use native.Mathlib.Omega.{arith}
 use native.Mathlib.Nat.{le-refl}
 use lib.ListN.{length, length-append, length-map}
 use borrow.Author.Tests.{lt-ltb, le-ltb, lt-leb}
-use Rattle.lists.specs.Basics.{All, none, also, flat}
+use Rattle.lists.specs.Basics.{All, none, also, concatMap}
 use Rattle.lists.specs.Tests.{three, false-true}
-use Rattle.lists.specs.Sorting.{Order, sort, ins}
+use Rattle.lists.specs.Sorting.{Order, sort, insertBy}
 use Rattle.lists.specs.Orders.{by, byHigher, lower, higher, by-lower, by-equal, by-higher, by-weak, by-same, byHigher-weak, byHigher-same, lower-weak, lower-same, lex-last, weak-order}
 use Rattle.search_theory.specs.Nearest.{Outcome, reading, exceeds, offered, visit, bestFirst}
 use Rattle.search_theory.specs.Frontier.{leavesUnder, Descends, seek}
@@ -90,11 +90,11 @@ module _ (c : List ℕ) (q : Asked) (d : ℕ) (low : 1 ≤ d) (high : d ≤ 16) 
   abbrev Downward : (l : ℕ) → Type 0
   Downward l = (p : ℕ) (t : Item (suc l)) → p + length (leaves l t) ≤ lastPlace → Frame c d l t → Ordered d l t → Down l (itemBranch q d p l t)
 
-  down-list : (l p : ℕ) (ts : List (Item (suc l))) → p + length (flat (leaves l) ts) ≤ lastPlace → Downward l → All (Frame c d l) ts → All (Ordered d l) ts → All (Down l) (itemBranches q d p l ts)
-  unfolding itemBranches flat
+  down-list : (l p : ℕ) (ts : List (Item (suc l))) → p + length (concatMap (leaves l) ts) ≤ lastPlace → Downward l → All (Frame c d l) ts → All (Ordered d l) ts → All (Down l) (itemBranches q d p l ts)
+  unfolding itemBranches concatMap
   down-list l p [] m h none none = none
   down-list l p (t ∷ ts) m h (also f a) (also o b) =
-      let n = length-append (leaves l t) (flat (leaves l) ts) in also (h p t (omega arith) f o) (down-list l (p + length (leaves l t)) ts (omega arith) h a b)
+      let n = length-append (leaves l t) (concatMap (leaves l) ts) in also (h p t (omega arith) f o) (down-list l (p + length (leaves l t)) ts (omega arith) h a b)
 
   -- a page of the tree, whatever its bound, if it is at most that of each leaf under it
   down-inner : (l B p : ℕ) (t : Item (suc (suc l))) → p + length (leaves (suc l) t) ≤ lastPlace → Downward l
@@ -150,7 +150,7 @@ module _ (c : List ℕ) (q : Asked) (d : ℕ) (low : 1 ≤ d) (high : d ≤ 16) 
   -- a root leaf is read, whatever its bound
   leaf-root : (k room m : ℕ) (one : 1 ≤ k) (t : Item 1)
       → shown (seekFrom k room (suc m) one (record { bound = 0; place = 0; level = 0; page = t .0 })) ≡ shown (visitAll k room (suc m) one (leaves 0 t))
-  unfolding bestFirst leaves leafBranches leafBranch sort ins visit
+  unfolding bestFirst leaves leafBranches leafBranch sort insertBy visit
   leaf-root k room m one t =
       let x : Branch = record { bound = 0; place = 0; level = 0; page = t .0 } in
       let y : Branch = leafBranch q d 0 t in

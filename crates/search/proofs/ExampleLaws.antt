@@ -6,8 +6,8 @@ use Prim.Native.Nat.{ℕ, _≤_}
 use lib.Dec.{lit≤, ltb}
 use lib.IntN.{pos}
 use lib.ListN.{length}
-use Rattle.lists.specs.Basics.{All, none, also, upFrom}
-use Rattle.lists.specs.Sorting.{keep, count, ins, sort}
+use Rattle.lists.specs.Basics.{All, none, also, rangeFrom}
+use Rattle.lists.specs.Sorting.{filter, count, insertBy, sort}
 use Rattle.lists.specs.Orders.{lex}
 use Rattle.lists.specs.Ascending.{headOr, lastOr}
 use Rattle.geometry.specs.Points.{heightOf, axisAt, axisOf, pyramidOf}
@@ -27,7 +27,7 @@ use Rattle.search.proofs.Promises.{found-exact}
 
 -- the two leaves
 abbrev pair : ℕ → ℕ → List (Item 1)
-pair a b = (a, map recordNo (upFrom 1 9)) ∷ (b, map recordNo (upFrom 10 8)) ∷ []
+pair a b = (a, map recordNo (rangeFrom 1 9)) ∷ (b, map recordNo (rangeFrom 10 8)) ∷ []
 
 abbrev asked : ℕ → ℕ → Asked
 asked n k = plainly (pos n ∷ []) k
@@ -54,11 +54,11 @@ holds n k rows read one e f b s h =
 
 -- every example of the list holds
 pub answers-hold : All Holds examples
-unfolding upFrom keep count ins sort lex headOr lastOr heightOf axisAt axisOf pyramidOf gapOf distTo plain sideBy sliceBy axisNo signNo sliceAt leastFrom leastIn boundTo boundOf pointOf slotsOf candidates nearest kth inSet keyOf firstKey lastKey distanceTo candidate spanBound rowOf rowsAmong rowsFrom leafBound recordNo
+unfolding rangeFrom filter count insertBy sort lex headOr lastOr heightOf axisAt axisOf pyramidOf gapOf distTo plain sideBy sliceBy axisNo signNo sliceAt leastFrom leastIn boundTo boundOf pointOf slotsOf candidates nearest kth inSet keyOf firstKey lastKey distanceTo candidate spanBound rowOf rowsAmong rowsFrom leafBound recordNo
 answers-hold =
     also (holds 9 1 (9 ∷ []) 1 (lit≤ tt) (λ a b. refl) (λ a b. refl))
     (also (holds 9 2 (9 ∷ 8 ∷ []) 2 (lit≤ tt) (λ a b. refl) (λ a b. refl))
-    (also (holds 1 9 (upFrom 1 9) 1 (lit≤ tt) (λ a b. refl) (λ a b. refl))
+    (also (holds 1 9 (rangeFrom 1 9) 1 (lit≤ tt) (λ a b. refl) (λ a b. refl))
     (also (holds 9 18 (9 ∷ 8 ∷ 10 ∷ 7 ∷ 11 ∷ 6 ∷ 12 ∷ 5 ∷ 13 ∷ 4 ∷ 14 ∷ 3 ∷ 15 ∷ 2 ∷ 16 ∷ 1 ∷ 17 ∷ []) 2 (lit≤ tt) (λ a b. refl) (λ a b. refl))
-    (also (holds 1 18 (upFrom 1 17) 2 (lit≤ tt) (λ a b. refl) (λ a b. refl))
+    (also (holds 1 18 (rangeFrom 1 17) 2 (lit≤ tt) (λ a b. refl) (λ a b. refl))
     none))))

@@ -8,9 +8,9 @@ use native.Mathlib.Nat.{le-refl, le-trans}
 use lib.Dec.{eqb}
 use borrow.Author.Tests.{ne-eqb}
 use lib.ListN.{length, length-append}
-use Rattle.lists.specs.Basics.{All, none, also, all-map, all-left, all-right, flat}
+use Rattle.lists.specs.Basics.{All, none, also, all-map, all-left, all-right, concatMap}
 use Rattle.lists.specs.Sorting.{sum}
-use Rattle.lists.specs.FlatLaws.{all-flat, map-append, all-both}
+use Rattle.lists.specs.ConcatMapLaws.{all-concatMap, map-append, all-both, concatMap-some}
 use Rattle.lists.specs.Ascending.{Ascending, asc-left, asc-right}
 use Rattle.search_theory.specs.Frontier.{leavesUnder}
 use Rattle.pagestore.specs.declared.Record.{Record}
@@ -35,24 +35,19 @@ Branching (suc l) t = (2 ≤ length (t .1)) × All (Branching l) (t .1)
 pub not-leaf : (l : ℕ) → eqb (suc l) 0 ≡ false
 not-leaf l = ne-eqb (suc l) 0 (omega arith)
 
-pub flat-records : (rs : List Record) → flat (records 0) rs ≡ rs
-unfolding flat records
-flat-records [] = refl
-flat-records (r ∷ rs) = ap (λ (z : List Record). r ∷ z) (flat-records rs)
+pub concatMap-records : (rs : List Record) → concatMap (records 0) rs ≡ rs
+unfolding concatMap records
+concatMap-records [] = refl
+concatMap-records (r ∷ rs) = ap (λ (z : List Record). r ∷ z) (concatMap-records rs)
 
 pub leaf-records : (t : Item 1) → records 1 t ≡ t .1
 unfolding records
-leaf-records t = flat-records (t .1)
-
-pub flat-some : {A B : Type 0} (f : A → List B) (xs : List A) → 0 < length xs → All (λ x. 0 < length (f x)) xs → 0 < length (flat f xs)
-unfolding flat
-flat-some f [] g a = absurd (omega arith)
-flat-some f (x ∷ xs) g (also p a) = rw (length-append (f x) (flat f xs)) (omega arith)
+leaf-records t = concatMap-records (t .1)
 
 pub records-some : (l : ℕ) (t : Item (suc l)) → Branching l t → 0 < length (records (suc l) t)
 unfolding Branching records
-records-some zero t h = rw (flat-records (t .1)) h
-records-some (suc l) t h = flat-some (records (suc l)) (t .1) (omega (arith, h .0)) (all-map (records-some l) (h .1))
+records-some zero t h = rw (concatMap-records (t .1)) h
+records-some (suc l) t h = concatMap-some (records (suc l)) (t .1) (omega (arith, h .0)) (all-map (records-some l) (h .1))
 
 module _ (c : List ℕ) (d : ℕ) where
   pub frame-range : (l : ℕ) (t : Item (suc l)) → Frame c d l t → inRange c (t .0) ≡ true
@@ -61,10 +56,10 @@ module _ (c : List ℕ) (d : ℕ) where
   frame-range (suc l) t f = f .0
 
   count-list : (l : ℕ) (ts : List (Item (suc l))) → All (λ u. leafCount l c (u .0) ≡ length (leaves l u)) ts
-      → sum (λ e. leafCount l c (e .child)) (map (entryOf d l) ts) ≡ length (flat (leaves l) ts)
-  unfolding sum flat entryOf
+      → sum (λ e. leafCount l c (e .child)) (map (entryOf d l) ts) ≡ length (concatMap (leaves l) ts)
+  unfolding sum concatMap entryOf
   count-list l [] none = refl
-  count-list l (u ∷ us) (also h a) = rw (length-append (leaves l u) (flat (leaves l) us)) (let r = count-list l us a in omega arith)
+  count-list l (u ∷ us) (also h a) = rw (length-append (leaves l u) (concatMap (leaves l) us)) (let r = count-list l us a in omega arith)
 
   -- the leaves are counted right
   pub count-leaves : (l : ℕ) (t : Item (suc l)) → Frame c d l t → leafCount l c (t .0) ≡ length (leaves l t)
@@ -104,11 +99,11 @@ inner B p l t = record { bound = B; place = p; level = suc l; page = t .0 }
 
 module _ (c : List ℕ) (q : Asked) (d : ℕ) where
   -- what an inner page gives when it is opened, where there are positions for the leaves under it
-  pub kids-are : (p l : ℕ) (ts : List (Item (suc l))) → p + length (flat (leaves l) ts) ≤ lastPlace → All (Frame c d l) ts → branches c q l p (map (entryOf d l) ts) ≡ itemBranches q d p l ts
-  unfolding branches itemBranches itemBranch entryOf pageIn flat
+  pub kids-are : (p l : ℕ) (ts : List (Item (suc l))) → p + length (concatMap (leaves l) ts) ≤ lastPlace → All (Frame c d l) ts → branches c q l p (map (entryOf d l) ts) ≡ itemBranches q d p l ts
+  unfolding branches itemBranches itemBranch entryOf pageIn concatMap
   kids-are p l [] m none = refl
   kids-are p l (t ∷ ts) m (also f a) =
-      let n = length-append (leaves l t) (flat (leaves l) ts) in
+      let n = length-append (leaves l t) (concatMap (leaves l) ts) in
       let e : min p lastPlace ≡ p = omega arith in
       rw (e, frame-range c d l t f, count-leaves c d l t f, kids-are (p + length (leaves l t)) l ts (omega arith) a)
 
@@ -120,13 +115,13 @@ module _ (c : List ℕ) (q : Asked) (d : ℕ) where
   abbrev Under : (l p : ℕ) → Item (suc l) → Type 0
   Under l p t = leavesUnder isLeaf (kids c q) l (itemBranch q d p l t) ≡ leafBranches q d p (leaves l t)
 
-  under-list : (l p : ℕ) (ts : List (Item (suc l))) → p + length (flat (leaves l) ts) ≤ lastPlace → ((n : ℕ) (t : Item (suc l)) → n + length (leaves l t) ≤ lastPlace → Frame c d l t → Under l n t)
-      → All (Frame c d l) ts → flat (leavesUnder isLeaf (kids c q) l) (itemBranches q d p l ts) ≡ leafBranches q d p (flat (leaves l) ts)
-  unfolding flat itemBranches leafBranches
+  under-list : (l p : ℕ) (ts : List (Item (suc l))) → p + length (concatMap (leaves l) ts) ≤ lastPlace → ((n : ℕ) (t : Item (suc l)) → n + length (leaves l t) ≤ lastPlace → Frame c d l t → Under l n t)
+      → All (Frame c d l) ts → concatMap (leavesUnder isLeaf (kids c q) l) (itemBranches q d p l ts) ≡ leafBranches q d p (concatMap (leaves l) ts)
+  unfolding concatMap itemBranches leafBranches
   under-list l p [] m h none = refl
   under-list l p (t ∷ ts) m h (also f a) =
-      let n = length-append (leaves l t) (flat (leaves l) ts) in
-      ap₂ (λ (x y : List Branch). x ++ y) (h p t (omega arith) f) (under-list l (p + length (leaves l t)) ts (omega arith) h a) ∙ sym (leaf-append q d p (leaves l t) (flat (leaves l) ts))
+      let n = length-append (leaves l t) (concatMap (leaves l) ts) in
+      ap₂ (λ (x y : List Branch). x ++ y) (h p t (omega arith) f) (under-list l (p + length (leaves l t)) ts (omega arith) h a) ∙ sym (leaf-append q d p (leaves l t) (concatMap (leaves l) ts))
 
   pub under-is : (l p : ℕ) (t : Item (suc l)) → p + length (leaves l t) ≤ lastPlace → Frame c d l t → Under l p t
   unfolding leavesUnder leaves leafBranches itemBranch Frame
@@ -140,17 +135,17 @@ module _ (c : List ℕ) (q : Asked) (d : ℕ) where
 
 -- ---- ORDER AND RANGES, FROM A PAGE TO THE PAGES UNDER IT
 
-pub parts-right : {A B : Type 0} {P : B → Type 0} (f : A → List B) (xs : List A) → All P (flat f xs) → All (λ x. All P (f x)) xs
-unfolding flat
+pub parts-right : {A B : Type 0} {P : B → Type 0} (f : A → List B) (xs : List A) → All P (concatMap f xs) → All (λ x. All P (f x)) xs
+unfolding concatMap
 parts-right f [] a = none
-parts-right f (x ∷ xs) a = also (all-left (f x) (flat f xs) a) (parts-right f xs (all-right (f x) (flat f xs) a))
+parts-right f (x ∷ xs) a = also (all-left (f x) (concatMap f xs) a) (parts-right f xs (all-right (f x) (concatMap f xs) a))
 
-pub parts-up : {A B : Type 0} (g : B → ℕ) (f : A → List B) (xs : List A) → Ascending (map g (flat f xs)) → All (λ x. Ascending (map g (f x))) xs
-unfolding flat
+pub parts-up : {A B : Type 0} (g : B → ℕ) (f : A → List B) (xs : List A) → Ascending (map g (concatMap f xs)) → All (λ x. Ascending (map g (f x))) xs
+unfolding concatMap
 parts-up g f [] a = none
 parts-up g f (x ∷ xs) a =
-    let b : Ascending (map g (f x) ++ map g (flat f xs)) = rw (map-append g (f x) (flat f xs)) at a in
-    also (asc-left (map g (f x)) (map g (flat f xs)) b) (parts-up g f xs (asc-right (map g (f x)) (map g (flat f xs)) b))
+    let b : Ascending (map g (f x) ++ map g (concatMap f xs)) = rw (map-append g (f x) (concatMap f xs)) at a in
+    also (asc-left (map g (f x)) (map g (concatMap f xs)) b) (parts-up g f xs (asc-right (map g (f x)) (map g (concatMap f xs)) b))
 
 -- the records under a page are in key order, in range and as stored
 pub record Ordered (d l : ℕ) (t : Item (suc l)) : Type 0 where
@@ -185,6 +180,6 @@ module _ (d : ℕ) (low : 1 ≤ d) (high : d ≤ 16) (q : Asked) (suits : Askabl
   unfolding leaves leafBound
   leaves-floor zero t o = also {x = t} (rw (leaf-records t) (le-refl _)) none
   leaves-floor (suc l) t o =
-      all-flat (leaves l) (t .1)
+      all-concatMap (leaves l) (t .1)
       (all-map (λ u h. all-map (λ s g. le-trans (h .1) g) (leaves-floor l u (h .0)))
       (all-both (ordered-kids d l t o) (kids-floor l t o)))

@@ -6,8 +6,8 @@ use Prim.Native.Nat.{ℕ, _+_, _*_, _-_, _/_, _%_, _≤_, _<_}
 use native.Mathlib.Omega.{arith}
 use lib.Dec.{ltb}
 use borrow.Author.Tests.{lt-ltb, le-ltb}
-use Rattle.lists.specs.Tests.{three, cases}
-use Rattle.lists.specs.Sorting.{ins}
+use Rattle.lists.specs.Tests.{three, by-cases}
+use Rattle.lists.specs.Sorting.{insertBy}
 use Rattle.lists.specs.Orders.{by, byHigher, lower, higher, by-lower, by-equal, by-higher, lex-first, lex-second, lex-last}
 use Rattle.search.specs.Branches.{Branch, tied, before}
 use Rattle.search.specs.Keys.{keyOf, boundIn, placeIn, levelIn, numberIn, branchIn}
@@ -96,11 +96,11 @@ key-order a b =
     (λ h. le-ltb a b (omega arith) ∙ sym (by-higher boundOf tied x y h))
 
 -- a key put in is its branch put in
-pub branches-ins : (x : ℕ) (s : List ℕ) → map branchIn (ins ltb x s) ≡ ins before (branchIn x) (map branchIn s)
-unfolding ins
+pub branches-ins : (x : ℕ) (s : List ℕ) → map branchIn (insertBy ltb x s) ≡ insertBy before (branchIn x) (map branchIn s)
+unfolding insertBy
 branches-ins x [] = refl
 branches-ins x (y ∷ ys) =
     let e = key-order y x in
-    cases (ltb y x)
+    by-cases (ltb y x)
     (λ t. let u : before (branchIn y) (branchIn x) ≡ true = sym e ∙ t in rw (t, u) (ap (λ (l : List Branch). branchIn y ∷ l) (branches-ins x ys)))
     (λ t. let u : before (branchIn y) (branchIn x) ≡ false = sym e ∙ t in rw (t, u))

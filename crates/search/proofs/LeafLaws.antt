@@ -8,10 +8,10 @@ use native.Mathlib.Omega.{arith}
 use native.Mathlib.Numerals.{add-one}
 use native.Mathlib.Nat.{le-refl, mul-le-mul}
 use lib.ListN.{length, take, drop, getD}
-use Rattle.lists.specs.Tests.{cases}
-use Rattle.lists.specs.Sorting.{keep, count}
-use Rattle.lists.specs.SortingLaws.{keep-first, keep-past}
+use Rattle.lists.specs.Sorting.{filter, count}
+use Rattle.lists.specs.SortingLaws.{filter-first, filter-past}
 use Rattle.lists.specs.Sorting as sorting
+use Rattle.lists.specs.Tests.{by-cases}
 use Rattle.geometry.specs.Points.{distance}
 use Rattle.geometry.specs.Features.{distTo, plain}
 use Rattle.geometry.specs.Stored.{pointOf}
@@ -58,17 +58,17 @@ point-distance q k x D e =
 -- one record: its row where it is a candidate, and no row where it is not
 module _ (q : Asked) (position : ℕ) (x : Record) where
   pub among-one : candidate q x ≡ true → rowsAmong q position (x ∷ []) ≡ rowOf q position x ∷ []
-  unfolding rowsAmong keep
-  among-one e = ap (map (rowOf q position)) (keep-first (candidate q) x [] e)
+  unfolding rowsAmong filter
+  among-one e = ap (map (rowOf q position)) (filter-first (candidate q) x [] e)
 
   pub among-none : candidate q x ≡ false → rowsAmong q position (x ∷ []) ≡ []
-  unfolding rowsAmong keep
-  among-none e = ap (map (rowOf q position)) (keep-past (candidate q) x [] e)
+  unfolding rowsAmong filter
+  among-none e = ap (map (rowOf q position)) (filter-past (candidate q) x [] e)
 
   among-more : (rs : List Record) (k : ℕ) (s : List Row)
       → sorting.offerAll rowOrder k (rowsAmong q position (x ∷ rs)) s ≡ sorting.offerAll rowOrder k (rowsAmong q position rs) (sorting.offerAll rowOrder k (rowsAmong q position (x ∷ [])) s)
-  unfolding rowsAmong sorting.offerAll keep
-  among-more rs k s = cases (candidate q x) (λ e. rw e) (λ e. rw e)
+  unfolding rowsAmong sorting.offerAll filter
+  among-more rs k s = by-cases (candidate q x) (λ e. rw e) (λ e. rw e)
 
 -- ---- ONE RECORD
 
@@ -87,7 +87,7 @@ module _ (page : List ℕ) (i D position : ℕ) (distances tags : List ℕ) (n k
       record {
         held = h;
         rows = λ q e.
-            cases (candidate q here)
+            by-cases (candidate q here)
             (λ c. rw (among-one q position here c, ← row-is q e) (offered-behind distances tags n k (rowAt page i D position) h b .rows))
             (λ c. rw (among-none q position here c));
       }
@@ -120,7 +120,7 @@ module _ (page : List ℕ) (q : Asked) (position k : ℕ) (leaf : Leaf) (is : le
       (sym (among-more q position (getD (leaf .records) i d) (drop (i + 1) (recordsIn leaf)) k s))
 
   pub offers-end : (i : ℕ) (s : List Row) → n ≤ i → offersFrom q position k (recordsIn leaf) i s ≡ s
-  unfolding offersFrom sorting.offerAll keep
+  unfolding offersFrom sorting.offerAll filter
   offers-end i s h = rw (items-end (leaf .count) (leaf .records) record-slots i (omega arith))
 
   pub offers-all : (s : List Row) → offersFrom q position k (recordsIn leaf) 0 s ≡ sorting.offerAll rowOrder k (rowsAmong q position (recordsIn (leafOf page))) s
@@ -180,9 +180,9 @@ offered-part b p asked position distances tags n k r distances' tags' e s h =
 -- and out of range there are no records
 pub offered-outside : (b : List ℕ) (p : ℕ) (q : Asked) (position : ℕ) (distances tags : List ℕ) (n k : ℕ) → inRange b p ≡ false → Held distances tags n k
     → OfferedAll distances tags n k (rowsAmong q position (recordsIn (leafAt b p))) n distances tags
-unfolding sorting.offerAll rowsAmong keep
+unfolding sorting.offerAll rowsAmong filter
 offered-outside b p q position distances tags n k e h = rw (leaf-view b p 0 [] (page-none b p e) .records) (record { held = h; rows = refl })
 
 pub page-small : (b : List ℕ) (p : ℕ) → pageIn b p < 16384
 unfolding pageIn
-page-small b p = cases (inRange b p) (λ e. rw e (range-fits b p e)) (λ e. rw e (omega arith))
+page-small b p = by-cases (inRange b p) (λ e. rw e (range-fits b p e)) (λ e. rw e (omega arith))

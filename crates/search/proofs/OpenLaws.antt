@@ -6,7 +6,7 @@ use native.Mathlib.Omega.{arith}
 use native.Mathlib.Nat.{mul-le-mul, suc-mul, pow-le-pow-right}
 use native.Mathlib.Numerals.{add-one}
 use lib.ListN.{length, drop, getD}
-use Rattle.lists.specs.Sorting.{insAll}
+use Rattle.lists.specs.Sorting.{insertAll}
 use Rattle.geometry.specs.declared.Key.{Key}
 use Rattle.geometry.specs.declared.Pair.{Pair}
 use Rattle.geometry.specs.Features.{plain}
@@ -62,7 +62,7 @@ pub record Opening (slots₀ : List ℕ) (n : ℕ) (index asked near whole : Lis
   pub more : here ≡ n + i
   pub heap : Heap here slots
   pub same : (k : ℕ)
-      → insAll before (branches index (asking asked k) level at (drop i (entriesIn inner))) (frontier here slots) ≡ insAll before (branches index (asking asked k) level place (entriesIn inner)) (frontier n slots₀)
+      → insertAll before (branches index (asking asked k) level at (drop i (entriesIn inner))) (frontier here slots) ≡ insertAll before (branches index (asking asked k) level place (entriesIn inner)) (frontier n slots₀)
 
 pub opening-start : (slots : List ℕ) (n : ℕ) (index asked near whole : List ℕ) (level place page : ℕ) (inner : Inner) (count : ℕ) → Opens slots n index asked near whole level place page
     → inner ≡ innerAt index page → count ≡ min (inner .count) 16 → Opening slots n index asked near whole level place page inner count slots n place 0
@@ -102,7 +102,7 @@ module _ (slots₀ : List ℕ) (n : ℕ) (index asked near whole : List ℕ) (le
   pub opening-next : (d : Entry) (key c r : ℕ) (slots' : List ℕ) → i < count → ((k : ℕ) → key ≡ keyOf (branchOf index (asking asked k) level at (getD (inner .entries) i d))) → Pushed here key slots r slots'
       → length slots' ≡ length slots → c ≡ leafCount level index (getD (inner .entries) i d .child) → c ≤ 16 ^ level
       → Opening slots₀ n index asked near whole level place page inner count slots' r (at + c) (i + 1)
-  unfolding branches insAll
+  unfolding branches insertAll
   opening-next d key c r slots' h e p l f g =
       let z = p .room (opening-room h) in
       let low = o .low in
@@ -123,12 +123,12 @@ module _ (slots₀ : List ℕ) (n : ℕ) (index asked near whole : List ℕ) (le
         same = λ k.
             let x : Branch = branchOf index (asking asked k) level at (getD (inner .entries) i d) in
             let back : branchIn key ≡ x = ap branchIn (e k) ∙ key-back x (omega arith) (omega arith) (page-small index (getD (inner .entries) i d .child)) in
-            let w : frontier r slots' ≡ insAll before (x ∷ []) (frontier here slots) = rw (z .0, z .1, branches-ins key (held here slots), back) in
+            let w : frontier r slots' ≡ insertAll before (x ∷ []) (frontier here slots) = rw (z .0, z .1, branches-ins key (held here slots), back) in
             rw (w, f) (rw t at (o .same k));
       }
 
   pub opening-end : count ≤ i → (k : ℕ) → Opened slots₀ n index (asking asked k) level place page here slots
-  unfolding branches insAll
+  unfolding branches insertAll
   opening-end h k =
       let b = inner-slots index level page inner (o .is) count (o .number) in
       let l : length (entriesIn inner) ≡ min (inner .count) 16 = items-length (inner .count) (inner .entries) b in

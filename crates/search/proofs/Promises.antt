@@ -7,13 +7,14 @@ use native.Mathlib.Omega.{arith}
 use lib.ListN.{length, getD, length-map}
 use lib.Dec.{ltb, eqb}
 use borrow.Author.Tests.{eqb-true, eqb-false, eq-eqb, ltb-true, ltb-false, lt-ltb, le-ltb, ne-eqb}
-use Rattle.lists.specs.Basics.{All, none, also, all-map, flat, upFrom}
-use Rattle.lists.specs.Tests.{cases, false-true}
-use Rattle.lists.specs.Sorting.{keep, count, sort, Order}
+use Rattle.lists.specs.Basics.{All, none, also, all-map, concatMap, rangeFrom}
+use Rattle.lists.specs.Tests.{false-true, by-cases}
+use Rattle.lists.specs.Sorting.{filter, count, sort, Order}
 use Rattle.lists.specs.Orders.{by, lower, by-weak, by-same, lower-weak, lower-same, weak-order}
-use Rattle.lists.specs.SortingLaws.{keep-first, keep-past, keep-sort, all-keep, count-append}
-use Rattle.lists.specs.FlatLaws.{all-both, all-every, all-mapped, map-append}
+use Rattle.lists.specs.SortingLaws.{filter-first, filter-past, filter-sort, all-filter, count-append}
+use Rattle.lists.specs.ConcatMapLaws.{all-both, all-every, all-mapped, map-append}
 use Rattle.lists.specs.Counts.{mult, mult-self, mult-more, mult-append, all-of-mult}
+use Rattle.lists.specs.Lengths.{length-none}
 use Rattle.search_theory.specs.Nearest.{Outcome, nearest, candidates, inSet, Floor, bestFirst}
 use Rattle.search_theory.specs.Frontier.{seek}
 use Rattle.search_theory.specs.Promises as flatly
@@ -49,13 +50,13 @@ LeafFloor d q u = All (λ r. leafBound d q u ≤ distanceTo q r) (u .1)
 -- so the rows of its candidates
 among-floor : (q : Asked) (B p : ℕ) (rs : List Record) → All (λ r. B ≤ distanceTo q r) rs → All (λ x. B ≤ x .distance) (rowsAmong q p rs)
 unfolding rowsAmong rowOf
-among-floor q B p rs a = all-mapped (rowOf q p) (keep (candidate q) rs) (all-keep (candidate q) rs a)
+among-floor q B p rs a = all-mapped (rowOf q p) (filter (candidate q) rs) (all-filter (candidate q) rs a)
 
 module _ (b : List ℕ) (q : Asked) (d : ℕ) where
-  flat-rows : (p : ℕ) (us : List (Item 1)) → All (λ u. recordsIn (leafAt b (u .0)) ≡ u .1) us → flat (rowsAt b q) (leafBranches q d p us) ≡ rowsFrom q p us
-  unfolding flat leafBranches leafBranch rowsFrom
-  flat-rows p [] none = refl
-  flat-rows p (u ∷ us) (also e a) = ap₂ (λ (x y : List Row). x ++ y) (ap (rowsAmong q p) e) (flat-rows (suc p) us a)
+  concatMap-rows : (p : ℕ) (us : List (Item 1)) → All (λ u. recordsIn (leafAt b (u .0)) ≡ u .1) us → concatMap (rowsAt b q) (leafBranches q d p us) ≡ rowsFrom q p us
+  unfolding concatMap leafBranches leafBranch rowsFrom
+  concatMap-rows p [] none = refl
+  concatMap-rows p (u ∷ us) (also e a) = ap₂ (λ (x y : List Row). x ++ y) (ap (rowsAmong q p) e) (concatMap-rows (suc p) us a)
 
   row-floors : (p : ℕ) (us : List (Item 1)) → All (λ u. recordsIn (leafAt b (u .0)) ≡ u .1) us → All (LeafFloor d q) us → All (Floor ranking boundIn (rowsAt b q)) (leafBranches q d p us)
   unfolding leafBranches leafBranch
@@ -74,12 +75,12 @@ none-set v q [] none = refl
 none-set v q (u ∷ us) (also e a) = rw (e, none-set v q us a)
 
 none-rows : (q : Asked) (p : ℕ) (us : List (Item 1)) → All (λ u. u .1 ≡ []) us → rowsFrom q p us ≡ []
-unfolding rowsFrom rowsAmong keep
+unfolding rowsFrom rowsAmong filter
 none-rows q p [] none = refl
 none-rows q p (u ∷ us) (also e a) = rw (e, none-rows q (suc p) us a)
 
 nearest-none : (k : ℕ) → nearest ranking k [] ≡ []
-unfolding nearest candidates sort keep
+unfolding nearest candidates sort filter
 nearest-none zero = refl
 nearest-none (suc k) = refl
 
@@ -142,16 +143,16 @@ module _ (b : List ℕ) (s : SoundIndex b) (q : Asked) (suits : Askable (viewOf 
   pub leaf-floors : All (LeafFloor (v .d) q) us
   unfolding leavesOf leafBound Branching
   leaf-floors =
-      cases (ltb 0 (v .total))
+      by-cases (ltb 0 (v .total))
       (λ e. all-map
       (λ u (o : Ordered (v .d) 0 u).
       (span-floor (v .d) (s .d .0) (s .d .1) q suits (u .1) (o .some) (rw (leaf-records u) at (o .up)) (rw (leaf-records u) at (o .right))))
       (leaves-ordered (v .d) (v .level) (treeOf v) (tree-ordered b s (ltb-true 0 (v .total) e))))
       (λ e. all-map (none-floor (v .d) q) (none-held b s (omega (arith, ltb-false 0 (v .total) e))))
 
-  rows-all : flat (rowsAt b q) ls ≡ rowsOf v q
+  rows-all : concatMap (rowsAt b q) ls ≡ rowsOf v q
   unfolding rowsOf
-  rows-all = flat-rows b q (v .d) 0 us (tree-hold b s)
+  rows-all = concatMap-rows b q (v .d) 0 us (tree-hold b s)
 
   floors : All (Floor ranking boundIn (rowsAt b q)) ls
   floors = row-floors b q (v .d) 0 us (tree-hold b s) leaf-floors
@@ -180,7 +181,7 @@ module _ (b : List ℕ) (s : SoundIndex b) (q : Asked) (suits : Askable (viewOf 
       found-none b e ∙ sym (rw (none-rows q 0 us h, none-set v q us h, nearest-none (q .k)))
 
   pub found-exact : found b q ≡ asked
-  found-exact = cases (ltb 0 (v .total)) (λ e. exact-some (ltb-true 0 (v .total) e)) (λ e. exact-none (omega (arith, ltb-false 0 (v .total) e)))
+  found-exact = by-cases (ltb 0 (v .total)) (λ e. exact-some (ltb-true 0 (v .total) e)) (λ e. exact-none (omega (arith, ltb-false 0 (v .total) e)))
 
   -- rows-nearest: the rows are the k nearest of the live candidates, by distance and then by identifier, or all if fewer live
   pub rows-nearest : (found b q) .rows ≡ nearest ranking (q .k) (rowsOf v q)
@@ -193,8 +194,8 @@ module _ (b : List ℕ) (s : SoundIndex b) (q : Asked) (suits : Askable (viewOf 
   -- ---- WHICH LEAVES ARE READ
 
   -- the branches of the leaves of the set
-  set-branches : (p : ℕ) (ts : List (Item 1)) → All (λ u. 0 < length (u .1)) ts → keep (λ x. inSet ranking (q .k) (rowsOf v q) (x .bound)) (leafBranches q (v .d) p ts) ≡ setFrom v q p ts
-  unfolding keep leafBranches leafBranch setFrom toRead
+  set-branches : (p : ℕ) (ts : List (Item 1)) → All (λ u. 0 < length (u .1)) ts → filter (λ x. inSet ranking (q .k) (rowsOf v q) (x .bound)) (leafBranches q (v .d) p ts) ≡ setFrom v q p ts
+  unfolding filter leafBranches leafBranch setFrom toRead
   set-branches p [] none = refl
   set-branches p (u ∷ ts) (also h a) = rw (lt-ltb 0 (length (u .1)) h, set-branches (suc p) ts a)
 
@@ -205,8 +206,8 @@ module _ (b : List ℕ) (s : SoundIndex b) (q : Asked) (suits : Askable (viewOf 
       (ap (λ (x : List Row × List (ℕ × ℕ)). x .1) (visited-like b like-self t)
       ∙ ap (map placed)
       (flatly.leaves-exact ranking row-order boundIn tied branch-order ls (rowsAt b q) floors (q .k) one
-      ∙ ap (λ (xs : List Row). keep (λ x. inSet ranking (q .k) xs (x .bound)) (sort before ls)) rows-all
-      ∙ keep-sort before branch-order (λ x. inSet ranking (q .k) (rowsOf v q) (x .bound)) ls
+      ∙ ap (λ (xs : List Row). filter (λ x. inSet ranking (q .k) xs (x .bound)) (sort before ls)) rows-all
+      ∙ filter-sort before branch-order (λ x. inSet ranking (q .k) (rowsOf v q) (x .bound)) ls
       ∙ ap (sort before) (set-branches 0 us (leaves-some t))))
 
   read-nothing : (c : List ℕ) → fieldAt total c ≡ 0 → leavesRead c q ≡ []
@@ -224,12 +225,12 @@ module _ (b : List ℕ) (s : SoundIndex b) (q : Asked) (suits : Askable (viewOf 
 
   -- leaves-read: which leaves are read, and in which order: those of the set, by (bound, position)
   pub leaves-read : leavesRead b q ≡ readingOrder v q
-  leaves-read = cases (ltb 0 (v .total)) (λ e. read-some (ltb-true 0 (v .total) e)) (λ e. read-none (omega (arith, ltb-false 0 (v .total) e)))
+  leaves-read = by-cases (ltb 0 (v .total)) (λ e. read-some (ltb-true 0 (v .total) e)) (λ e. read-none (omega (arith, ltb-false 0 (v .total) e)))
 
 -- the count that is returned is that of the leaves read, on any bytes
 pub leaves-counted : (b : List ℕ) (q : Asked) → (found b q) .leaves ≡ length (leavesRead b q)
 unfolding found leavesRead
-leaves-counted b q = cases (readsNone b) (λ e. rw e) (λ e. rw (e, length-map (visited b q .read) placed))
+leaves-counted b q = by-cases (readsNone b) (λ e. rw e) (λ e. rw (e, length-map (visited b q .read) placed))
 
 -- ---- PAGES OF THE TREE
 
@@ -238,20 +239,20 @@ pageOf u = u .0
 
 unfoldable innerPages : (l : ℕ) → Item (suc l) → List ℕ
 innerPages zero t = []
-innerPages (suc l) t = t .0 ∷ flat (innerPages l) (t .1)
+innerPages (suc l) t = t .0 ∷ concatMap (innerPages l) (t .1)
 
-no-pages : (rs : List Record) → flat (pages 0) rs ≡ []
-unfolding flat pages
+no-pages : (rs : List Record) → concatMap (pages 0) rs ≡ []
+unfolding concatMap pages
 no-pages [] = refl
 no-pages (r ∷ rs) = no-pages rs
 
 split-list : (p l : ℕ) (ts : List (Item (suc l))) → All (λ t. mult p (pages (suc l) t) ≡ mult p (innerPages l t) + mult p (map pageOf (leaves l t))) ts
-    → mult p (flat (pages (suc l)) ts) ≡ mult p (flat (innerPages l) ts) + mult p (map pageOf (flat (leaves l) ts))
-unfolding flat mult
+    → mult p (concatMap (pages (suc l)) ts) ≡ mult p (concatMap (innerPages l) ts) + mult p (map pageOf (concatMap (leaves l) ts))
+unfolding concatMap mult
 split-list p l [] none = refl
 split-list p l (t ∷ ts) (also h a) =
     let r = split-list p l ts a in
-    rw (mult-append p (pages (suc l) t) (flat (pages (suc l)) ts), mult-append p (innerPages l t) (flat (innerPages l) ts), map-append pageOf (leaves l t) (flat (leaves l) ts), mult-append p (map pageOf (leaves l t)) (map pageOf (flat (leaves l) ts)))
+    rw (mult-append p (pages (suc l) t) (concatMap (pages (suc l)) ts), mult-append p (innerPages l t) (concatMap (innerPages l) ts), map-append pageOf (leaves l t) (concatMap (leaves l) ts), mult-append p (map pageOf (leaves l t)) (map pageOf (concatMap (leaves l) ts)))
     (omega arith)
 
 -- a page of the tree is an inner page or a leaf's
@@ -262,18 +263,18 @@ pages-split p (suc l) t = omega (arith, split-list p l (t .1) (all-every (pages-
 
 module _ (f : Item 1 → Bool) where
   -- the leaves that pass, and those that do not
-  keep-split : (p : ℕ) (us : List (Item 1)) → mult p (map pageOf us) ≡ mult p (map pageOf (keep f us)) + mult p (map pageOf (keep (λ u. not (f u)) us))
-  unfolding keep mult
-  keep-split p [] = refl
-  keep-split p (u ∷ us) = let h = keep-split p us in cases (f u) (λ e. rw e (omega arith)) (λ e. rw e (omega arith))
+  filter-split : (p : ℕ) (us : List (Item 1)) → mult p (map pageOf us) ≡ mult p (map pageOf (filter f us)) + mult p (map pageOf (filter (λ u. not (f u)) us))
+  unfolding filter mult
+  filter-split p [] = refl
+  filter-split p (u ∷ us) = let h = filter-split p us in by-cases (f u) (λ e. rw e (omega arith)) (λ e. rw e (omega arith))
 
-  keep-there : (us : List (Item 1)) → All (λ u. f u ≡ true → 0 < mult (u .0) (map pageOf (keep f us))) us
+  keep-there : (us : List (Item 1)) → All (λ u. f u ≡ true → 0 < mult (u .0) (map pageOf (filter f us))) us
   keep-there [] = none
   keep-there (u ∷ us) =
-      cases (f u)
-      (λ e. rw (keep-first f u us e) (also {x = u} (λ w. omega (arith, mult-self (u .0) (map pageOf (keep f us))))
-      (all-map (λ x (h : f x ≡ true → 0 < mult (x .0) (map pageOf (keep f us))) w. let g = h w in omega (arith, mult-more (x .0) (u .0) (map pageOf (keep f us)))) (keep-there us))))
-      (λ e. rw (keep-past f u us e) (also {x = u} (λ w. false-true (sym e ∙ w)) (keep-there us)))
+      by-cases (f u)
+      (λ e. rw (filter-first f u us e) (also {x = u} (λ w. omega (arith, mult-self (u .0) (map pageOf (filter f us))))
+      (all-map (λ x (h : f x ≡ true → 0 < mult (x .0) (map pageOf (filter f us))) w. let g = h w in omega (arith, mult-more (x .0) (u .0) (map pageOf (filter f us)))) (keep-there us))))
+      (λ e. rw (filter-past f u us e) (also {x = u} (λ w. false-true (sym e ∙ w)) (keep-there us)))
 
 -- two indexes that agree but for the pages ps
 module _ (ps b c : List ℕ) (h : AgreeBut ps b c) where
@@ -298,20 +299,20 @@ module _ (b : List ℕ) (s : SoundIndex b) (q : Asked) (suits : Askable (viewOf 
   unfolding unreadPages leavesOf
   unread-inner =
       all-of-mult (innerPages (viewOf b .level) (treeOf (viewOf b)))
-      (λ p h. omega (arith, tree-once b s p, pages-split p (viewOf b .level) (treeOf (viewOf b)), keep-split (toRead (viewOf b) q) p (leavesOf (viewOf b))))
+      (λ p h. omega (arith, tree-once b s p, pages-split p (viewOf b .level) (treeOf (viewOf b)), filter-split (toRead (viewOf b) q) p (leavesOf (viewOf b))))
 
   unread-read : All (λ u. toRead (viewOf b) q u ≡ true → mult (u .0) unread ≡ 0) (leavesOf (viewOf b))
   unfolding unreadPages leavesOf
   unread-read =
       all-map
-      (λ u (h : toRead (viewOf b) q u ≡ true → 0 < mult (u .0) (map pageOf (keep (toRead (viewOf b) q) (leavesOf (viewOf b))))) w.
+      (λ u (h : toRead (viewOf b) q u ≡ true → 0 < mult (u .0) (map pageOf (filter (toRead (viewOf b) q) (leavesOf (viewOf b))))) w.
       let g = h w in
-      omega (arith, tree-once b s (u .0), pages-split (u .0) (viewOf b .level) (treeOf (viewOf b)), keep-split (toRead (viewOf b) q) (u .0) (leavesOf (viewOf b))))
+      omega (arith, tree-once b s (u .0), pages-split (u .0) (viewOf b .level) (treeOf (viewOf b)), filter-split (toRead (viewOf b) q) (u .0) (leavesOf (viewOf b))))
       (keep-there (toRead (viewOf b) q) (leavesOf (viewOf b)))
 
   pub unread-header : mult 0 unread ≡ 0
   unfolding unreadPages leavesOf
-  unread-header = omega (arith, tree-header b s, pages-split 0 (viewOf b .level) (treeOf (viewOf b)), keep-split (toRead (viewOf b) q) 0 (leavesOf (viewOf b)))
+  unread-header = omega (arith, tree-header b s, pages-split 0 (viewOf b .level) (treeOf (viewOf b)), filter-split (toRead (viewOf b) q) 0 (leavesOf (viewOf b)))
 
   module _ (c : List ℕ) (h : AgreeBut unread b c) where
     like-rest : Like b s q suits one c
@@ -338,7 +339,7 @@ module _ (b : List ℕ) (s : SoundIndex b) (q : Asked) (suits : Askable (viewOf 
     -- unread-bytes: whatever bytes the pages of the leaves left unread hold, the search gives the rows and the count of the sound index
     pub unread-bytes : found c q ≡ found b q
     unread-bytes =
-        cases (ltb 0 (viewOf b .total))
+        by-cases (ltb 0 (viewOf b .total))
         (λ e. let t : 0 < viewOf b .total = ltb-true 0 (viewOf b .total) e in
         found-like b s q suits one c like-rest t
         ∙ ap answerOf (flatly.unread-anything ranking row-order boundIn tied branch-order (ls b s q suits one) (rowsAt b q) (floors b s q suits one) (q .k) one (rowsAt c q)
@@ -356,15 +357,15 @@ leafNo ts p = getD ts p (0, [])
 abbrev rowsNo : Asked → List (Item 1) → ℕ → List Row
 rowsNo q ts p = rowsAmong q p (leafNo ts p .1)
 
-rows-from : (q : Asked) (all : List (Item 1)) (n : ℕ) (ts : List (Item 1)) → ((i : ℕ) → leafNo all (n + i) ≡ leafNo ts i) → flat (rowsNo q all) (upFrom n (length ts)) ≡ rowsFrom q n ts
-unfolding flat upFrom rowsFrom
+rows-from : (q : Asked) (all : List (Item 1)) (n : ℕ) (ts : List (Item 1)) → ((i : ℕ) → leafNo all (n + i) ≡ leafNo ts i) → concatMap (rowsNo q all) (rangeFrom n (length ts)) ≡ rowsFrom q n ts
+unfolding concatMap rangeFrom rowsFrom
 rows-from q all n [] h = refl
 rows-from q all n (t ∷ ts) h =
     let e : leafNo all n ≡ t = ap (leafNo all) (omega arith) ∙ h 0 in
     ap₂ (λ (x y : List Row). x ++ y) (ap (λ (u : Item 1). rowsAmong q n (u .1)) e)
     (rows-from q all (suc n) ts (λ i. ap (leafNo all) (omega arith) ∙ h (suc i)))
 
-rows-no : (q : Asked) (ts : List (Item 1)) → flat (rowsNo q ts) (upFrom 0 (length ts)) ≡ rowsFrom q 0 ts
+rows-no : (q : Asked) (ts : List (Item 1)) → concatMap (rowsNo q ts) (rangeFrom 0 (length ts)) ≡ rowsFrom q 0 ts
 rows-no q ts = rows-from q ts 0 ts (λ i. ap (leafNo ts) (omega arith))
 
 kept-no : {d : ℕ} {read : Item 1 → Bool} {ts us : List (Item 1)} → Exchanged d read ts us → (p : ℕ) → Kept d (read (leafNo ts p)) (leafNo ts p) (leafNo us p)
@@ -393,7 +394,7 @@ module _ (b c : List ℕ) (sb : SoundIndex b) (sc : SoundIndex c) (q : Asked) (s
   zs = leavesOf (viewOf c)
 
   abbrev positions : List ℕ
-  positions = upFrom 0 (length ts)
+  positions = rangeFrom 0 (length ts)
 
   abbrev boundNo : ℕ → ℕ
   boundNo p = leafBound d q (leafNo ts p)
@@ -422,25 +423,21 @@ module _ (b c : List ℕ) (sb : SoundIndex b) (sc : SoundIndex c) (q : Asked) (s
       all-every (λ p. among-floor q (boundNo p) p (leafNo zs p .1)
       (rw (bound-kept (leafNo ts p) (leafNo zs p) _ (kept-no x p)) at (floor-no d q (subst (λ (n : ℕ). All (LeafFloor n q) zs) alike (leaf-floors c sc q suits-c one)) p))) positions
 
-  rows-first : flat (rowsNo q ts) positions ≡ rowsOf (viewOf b) q
+  rows-first : concatMap (rowsNo q ts) positions ≡ rowsOf (viewOf b) q
   unfolding rowsOf
   rows-first = rows-no q ts
 
-  rows-second : flat (rowsNo q zs) positions ≡ rowsOf (viewOf c) q
+  rows-second : concatMap (rowsNo q zs) positions ≡ rowsOf (viewOf c) q
   unfolding rowsOf
-  rows-second = ap (λ (n : ℕ). flat (rowsNo q zs) (upFrom 0 n)) (sym (exchanged-length x)) ∙ rows-no q zs
+  rows-second = ap (λ (n : ℕ). concatMap (rowsNo q zs) (rangeFrom 0 n)) (sym (exchanged-length x)) ∙ rows-no q zs
 
   kept-rows : (p : ℕ) (t u : Item 1) → Kept d (toRead (viewOf b) q t) t u → inSet ranking (q .k) (rowsOf (viewOf b) q) (leafBound d q t) ≡ true → rowsAmong q p (u .1) ≡ rowsAmong q p (t .1)
   unfolding toRead
   kept-rows p t u h w =
       ap (rowsAmong q p)
-      (cases (ltb 0 (length (t .1)))
+      (by-cases (ltb 0 (length (t .1)))
       (λ e. h .same (rw e w))
-      (λ e. let z : length (t .1) ≡ 0 = omega (arith, ltb-false 0 (length (t .1)) e) in empty (u .1) (h .number ∙ z) ∙ sym (empty (t .1) z)))
-    where
-      empty : (rs : List Record) → length rs ≡ 0 → rs ≡ []
-      empty [] g = refl
-      empty (r ∷ rs) g = absurd (omega arith)
+      (λ e. let z : length (t .1) ≡ 0 = omega (arith, ltb-false 0 (length (t .1)) e) in length-none (u .1) (h .number ∙ z) ∙ sym (length-none (t .1) z)))
 
   nearest-kept : nearest ranking (q .k) (rowsOf (viewOf c) q) ≡ nearest ranking (q .k) (rowsOf (viewOf b) q)
   nearest-kept =
@@ -470,22 +467,22 @@ module _ (b c : List ℕ) (sb : SoundIndex b) (sc : SoundIndex c) (q : Asked) (s
 count-idents : (n : ℕ) (q : Asked) (p : ℕ) (rs : List Record) → count (ofId n) (map (rowOf q p) rs) ≡ mult n (map identOf rs)
 unfolding count mult rowOf
 count-idents n q p [] = refl
-count-idents n q p (r ∷ rs) = let h = count-idents n q p rs in cases (eqb (r .id) n)
+count-idents n q p (r ∷ rs) = let h = count-idents n q p rs in by-cases (eqb (r .id) n)
     (λ e. let f : eqb n (r .id) ≡ true = eq-eqb n (r .id) (sym (eqb-true (r .id) n e)) in rw (e, f) (omega arith))
     (λ e. let f : eqb n (r .id) ≡ false = ne-eqb n (r .id) (λ w. eqb-false (r .id) n e (sym w)) in rw (e, f) (omega arith))
 
 -- no more candidates have an identifier than records do
-kept-idents : (n : ℕ) (f : Record → Bool) (rs : List Record) → mult n (map identOf (keep f rs)) ≤ mult n (map identOf rs)
-unfolding keep mult
+kept-idents : (n : ℕ) (f : Record → Bool) (rs : List Record) → mult n (map identOf (filter f rs)) ≤ mult n (map identOf rs)
+unfolding filter mult
 kept-idents n f [] = omega arith
-kept-idents n f (r ∷ rs) = let h = kept-idents n f rs in cases (f r) (λ e. rw e (omega arith)) (λ e. rw e (omega arith))
+kept-idents n f (r ∷ rs) = let h = kept-idents n f rs in by-cases (f r) (λ e. rw e (omega arith)) (λ e. rw e (omega arith))
 
-count-rows : (n : ℕ) (q : Asked) (p : ℕ) (us : List (Item 1)) → count (ofId n) (rowsFrom q p us) ≤ mult n (map identOf (flat leafItems us))
-unfolding rowsFrom rowsAmong flat count mult
+count-rows : (n : ℕ) (q : Asked) (p : ℕ) (us : List (Item 1)) → count (ofId n) (rowsFrom q p us) ≤ mult n (map identOf (concatMap leafItems us))
+unfolding rowsFrom rowsAmong concatMap count mult
 count-rows n q p [] = omega arith
 count-rows n q p (u ∷ us) =
-    let h = count-rows n q (suc p) us in let g = count-idents n q p (keep (candidate q) (u .1)) in let k = kept-idents n (candidate q) (u .1) in
-    rw (count-append (ofId n) (map (rowOf q p) (keep (candidate q) (u .1))) (rowsFrom q (suc p) us), map-append identOf (u .1) (flat leafItems us), mult-append n (map identOf (u .1)) (map identOf (flat leafItems us))) (omega arith)
+    let h = count-rows n q (suc p) us in let g = count-idents n q p (filter (candidate q) (u .1)) in let k = kept-idents n (candidate q) (u .1) in
+    rw (count-append (ofId n) (map (rowOf q p) (filter (candidate q) (u .1))) (rowsFrom q (suc p) us), map-append identOf (u .1) (concatMap leafItems us), mult-append n (map identOf (u .1)) (map identOf (concatMap leafItems us))) (omega arith)
 
 -- identifiers are distinct, so the rows go by distance and then by identifier: position never decides
 pub rows-distinct : (b : List ℕ) → SoundIndex b → (q : Asked) → Distinct (rowsOf (viewOf b) q)

@@ -5,7 +5,7 @@ use Prim.Native.Nat.{ℕ, _*_, _≤_, _<_}
 use native.Mathlib.Omega.{arith}
 use lib.Dec.{ltb}
 use borrow.Author.Tests.{lt-ltb, le-ltb, ltb-true, ltb-false}
-use Rattle.lists.specs.Tests.{cases}
+use Rattle.lists.specs.Tests.{by-cases}
 use Rattle.pagestore.specs.Store.{total, fieldAt}
 use Rattle.search.specs.Visit.{room}
 
@@ -26,9 +26,9 @@ module _ (b : List ℕ) where
   module _ (P : ℕ → Type 0) (all : P 8192) (most : fieldAt total b ≤ 4096 → P 512) (few : fieldAt total b ≤ 1024 → P 128) where
     room-by : P (room b)
     room-by =
-        cases (ltb 4096 (fieldAt total b)) (λ e. subst P (room-large b (fieldAt total b) refl (ltb-true 4096 (fieldAt total b) e)) all)
+        by-cases (ltb 4096 (fieldAt total b)) (λ e. subst P (room-large b (fieldAt total b) refl (ltb-true 4096 (fieldAt total b) e)) all)
         (λ e. let g = ltb-false 4096 (fieldAt total b) e in
-        cases (ltb 1024 (fieldAt total b)) (λ f. subst P (room-middle b (fieldAt total b) refl g (ltb-true 1024 (fieldAt total b) f)) (most g))
+        by-cases (ltb 1024 (fieldAt total b)) (λ f. subst P (room-middle b (fieldAt total b) refl g (ltb-true 1024 (fieldAt total b) f)) (most g))
         (λ f. let h = ltb-false 1024 (fieldAt total b) f in subst P (room-small b (fieldAt total b) refl h) (few h)))
 
   pub room-some : 128 ≤ room b

@@ -10,11 +10,11 @@ use lib.ListN.{length, take, length-append, length-map, length-take}
 use lib.IntN.{ℤ}
 use lib.Dec.{ltb, leb}
 use borrow.Author.Tests.{ltb-true, ltb-false, lt-ltb, le-ltb, leb-true, leb-false, le-leb}
-use Rattle.lists.specs.Basics.{All, none, also, all-map, flat}
-use Rattle.lists.specs.Tests.{cases, false-true}
-use Rattle.lists.specs.Sorting.{keep, sort}
-use Rattle.lists.specs.SortingLaws.{length-sort, keep-all, keep-append}
-use Rattle.lists.specs.FlatLaws.{all-every}
+use Rattle.lists.specs.Basics.{All, none, also, all-map, concatMap}
+use Rattle.lists.specs.Tests.{false-true, by-cases}
+use Rattle.lists.specs.Sorting.{filter, sort}
+use Rattle.lists.specs.SortingLaws.{length-sort, filter-all, filter-append}
+use Rattle.lists.specs.ConcatMapLaws.{all-every}
 use Rattle.lists.specs.Parts.{head-of, last-of}
 use Rattle.lists.specs.Ascending.{headOr, lastOr}
 use Rattle.geometry.specs.Features.{IsBound}
@@ -37,20 +37,20 @@ use Rattle.search.proofs.SoundLaws.{leafItems, records-leaves, tree-ord
 
 -- ---- HOW MANY ROWS THERE ARE
 
-rows-length : (q : Asked) (p : ℕ) (us : List (Item 1)) → length (rowsFrom q p us) ≡ length (keep (candidate q) (flat leafItems us))
-unfolding rowsFrom rowsAmong flat keep
+rows-length : (q : Asked) (p : ℕ) (us : List (Item 1)) → length (rowsFrom q p us) ≡ length (filter (candidate q) (concatMap leafItems us))
+unfolding rowsFrom rowsAmong concatMap filter
 rows-length q p [] = refl
 rows-length q p (u ∷ us) =
     let h = rows-length q (suc p) us in
-    rw (length-append (map (rowOf q p) (keep (candidate q) (u .1))) (rowsFrom q (suc p) us), keep-append (candidate q) (u .1) (flat leafItems us), length-append (keep (candidate q) (u .1)) (keep (candidate q) (flat leafItems us)), length-map (keep (candidate q) (u .1)) (rowOf q p)) (omega arith)
+    rw (length-append (map (rowOf q p) (filter (candidate q) (u .1))) (rowsFrom q (suc p) us), filter-append (candidate q) (u .1) (concatMap leafItems us), length-append (filter (candidate q) (u .1)) (filter (candidate q) (concatMap leafItems us)), length-map (filter (candidate q) (u .1)) (rowOf q p)) (omega arith)
 
 nearest-length : (v : View) (q : Asked)
     → (length (nearest ranking (q .k) (rowsOf v q)) < q .k → length (liveCandidates v q) < q .k) × (length (liveCandidates v q) < q .k → length (nearest ranking (q .k) (rowsOf v q)) < q .k)
 unfolding nearest candidates rowsOf leavesOf live
 nearest-length v q =
     let c : length (candidates ranking (rowsOf v q)) ≡ length (liveCandidates v q) =
-    ap (λ (xs : List Row). length (sort rowOrder xs)) (keep-all (λ x. true) (rowsOf v q) (all-every (λ x. refl) (rowsOf v q))) ∙ length-sort rowOrder (rowsOf v q) ∙ rows-length q 0 (leavesOf v)
-    ∙ ap (λ (rs : List Record). length (keep (candidate q) rs)) (sym (records-leaves (v .level) (treeOf v))) in
+    ap (λ (xs : List Row). length (sort rowOrder xs)) (filter-all (λ x. true) (rowsOf v q) (all-every (λ x. refl) (rowsOf v q))) ∙ length-sort rowOrder (rowsOf v q) ∙ rows-length q 0 (leavesOf v)
+    ∙ ap (λ (rs : List Record). length (filter (candidate q) rs)) (sym (records-leaves (v .level) (treeOf v))) in
     let t = length-take (q .k) (candidates ranking (rowsOf v q)) in
     (λ h. omega (arith, t, c), λ h. omega (arith, t, c))
 
@@ -84,7 +84,7 @@ module _ (b : List ℕ) (s : SoundIndex b) (q : Asked) (suits : Askable (viewOf 
       let n = length (nearest ranking (q .k) (rowsOf v q)) in
       let e : ltb 0 (length (t .1)) ≡ true = lt-ltb 0 (length (t .1)) some in
       rw e
-      (cases (ltb n (q .k))
+      (by-cases (ltb n (q .k))
       (λ f. rw f (λ g. record { some = some; reach = inl (nearest-length v q .0 (ltb-true n (q .k) f)) }, λ g. refl))
       (λ f. rw f (
         λ g. record {
@@ -107,6 +107,6 @@ module _ (b : List ℕ) (s : SoundIndex b) (q : Asked) (suits : Askable (viewOf 
   pub set-points : All (λ t. (toRead v q t ≡ true → Called v q t) × (Called v q t → toRead v q t ≡ true)) (leavesOf v)
   unfolding leavesOf Branching toRead
   set-points =
-      cases (ltb 0 (v .total))
+      by-cases (ltb 0 (v .total))
       (λ e. all-map (λ t (o : Ordered (v .d) 0 t). set-leaf t o (o .some)) (leaves-ordered (v .d) (v .level) (treeOf v) (tree-ordered b s (ltb-true 0 (v .total) e))))
       (λ e. all-map (λ t (n : t .1 ≡ []). rw n (λ f. false-true f, λ f. absurd (let g = f .some in omega (arith, ap length n)))) (none-held b s (omega (arith, ltb-false 0 (v .total) e))))

@@ -8,10 +8,10 @@ use native.Mathlib.Nat.{zero-add}
 use lib.ListN.{length, take, set, length-set, length-take, length-map}
 use lib.Dec.{ltb}
 use borrow.Author.Tests.{eq-eqb, ne-eqb}
-use Rattle.lists.specs.FlatLaws.{all-every}
-use Rattle.lists.specs.Sorting.{keep, ins, sort, insAll, offerAll}
+use Rattle.lists.specs.ConcatMapLaws.{all-every}
+use Rattle.lists.specs.Sorting.{filter, insertBy, sort, insertAll, offerAll}
 use Rattle.lists.specs.Sorting as sorting
-use Rattle.lists.specs.SortingLaws.{keep-all, length-sort}
+use Rattle.lists.specs.SortingLaws.{filter-all, length-sort}
 use Rattle.pagestore.specs.declared.Entry.{Entry}
 use Rattle.pagestore.specs.Store.{level, root, pagesIn, countAt, innerAt, entriesIn, leafAt, recordsIn, fieldAt}
 use Rattle.pagestore.specs.Store.PageLaws.{inner-counts, entries-slots}
@@ -67,7 +67,7 @@ one-heap : (slots : List ℕ) (x : ℕ) → 1 ≤ length slots → Heap 1 (set s
 one-heap slots x h = record { fits = omega (arith, length-set slots 0 x); ordered = λ p j c. absurd (omega (arith, c .low, c .within)) }
 
 one-held : (slots : List ℕ) (x : ℕ) → 1 ≤ length slots → held 1 (set slots 0 x) ≡ x ∷ []
-unfolding sort ins
+unfolding sort insertBy
 one-held [] x h = absurd (omega arith)
 one-held (y ∷ ys) x h = refl
 
@@ -159,7 +159,7 @@ module _ (index asked near whole : List ℕ) (k : ℕ) (slots₀ distances₀ ta
           let o = rw (sp, sg) at offers in
           let t : isLeaf x ≡ true = eq-eqb (levelIn key) 0 (sym sl ∙ z) in
           let e = seek-read ranking boundOf (rowsAt index q) before isLeaf (kids index q) (q .k) (room index) (steps - 1) x rest here goes t in
-          let a : keep (λ y. true) (rowsAt index q x) ≡ rowsAt index q x = keep-all (λ y. true) (rowsAt index q x) (all-every (λ y. refl) (rowsAt index q x)) in
+          let a : filter (λ y. true) (rowsAt index q x) ≡ rowsAt index q x = filter-all (λ y. true) (rowsAt index q x) (all-every (λ y. refl) (rowsAt index q x)) in
           let w : offered ranking boundOf (rowsAt index q) (q .k) x here ≡ rowsIn distances' tags' r = ap (λ (ys : List Row). offerAll rowOrder k ys here) a ∙ sym (o .rows) in
           let out = seekOn index q (steps - 1) rest (rowsIn distances' tags' r) in
           let c : leaves + length (x ∷ out .read) ≡ leaves + 1 + length (out .read) = omega arith in
@@ -227,7 +227,7 @@ module _ (index asked near whole : List ℕ) (k : ℕ) (slots₀ distances₀ ta
               heap = o .heap;
               holds = v .holds;
               few = let f = v .few in omega arith;
-              answer = ap (λ (f : List Branch). after leaves (seekOn index q (steps - 1) f here)) (o .branches ∙ ap (λ (ys : List Branch). insAll before ys rest) (sym kids-are)) ∙ sym (ap (after leaves) e) ∙ taken;
+              answer = ap (λ (f : List Branch). after leaves (seekOn index q (steps - 1) f here)) (o .branches ∙ ap (λ (ys : List Branch). insertAll before ys rest) (sym kids-are)) ∙ sym (ap (after leaves) e) ∙ taken;
             }
 
 -- ---- WHAT THE CALLS RETURN

@@ -4,9 +4,9 @@ use mathlib.Core.Bool.{Bool}
 use mathlib.Core.List.{List, [], _∷_, map}
 use Prim.Native.Nat.{ℕ, zero, suc, min, _+_}
 use lib.Dec.{eqb}
-use Rattle.lists.specs.Basics.{pick}
+use Rattle.lists.specs.Basics.{if}
 use Rattle.lists.specs.Orders.{by, byHigher, lower}
-use Rattle.lists.specs.Sorting.{keep}
+use Rattle.lists.specs.Sorting.{filter}
 use Rattle.pagestore.specs.declared.Record.{Record}
 use Rattle.pagestore.specs.declared.Entry.{Entry}
 use Rattle.pagestore.specs.Store.{root, level, inRange, leafAt, innerAt, recordsIn, entriesIn, fieldAt}
@@ -33,7 +33,7 @@ isLeaf x = eqb (x .level) 0
 
 -- a number that is no page's is read as 0: no page either, and it holds nothing
 unfoldable pub pageIn : List ℕ → ℕ → ℕ
-pageIn b p = pick (inRange b p) p 0
+pageIn b p = if (inRange b p) p 0
 
 -- the greatest position that a key holds: a sound index has at most 8,191 leaves. On other bytes a position above it is read as this one.
 abbrev pub lastPlace : ℕ
@@ -69,8 +69,8 @@ rowOf q p r = record { distance = distanceTo q r; id = r .id; position = p }
 
 -- the rows of records of that leaf: those of the candidates among them
 unfoldable pub rowsAmong : Asked → ℕ → List Record → List Row
-unfolding rowOf keep
-rowsAmong q p rs = map (rowOf q p) (keep (candidate q) rs)
+unfolding rowOf filter
+rowsAmong q p rs = map (rowOf q p) (filter (candidate q) rs)
 
 -- the rows of the leaf of a branch
 abbrev pub rowsAt : List ℕ → Asked → Branch → List Row

@@ -3,7 +3,7 @@ use mathlib.Core.Path.{_≡_}
 use mathlib.Core.List.{List, [], _∷_, map}
 use Prim.Native.Nat.{ℕ}
 use lib.IntN.{pos}
-use Rattle.lists.specs.Basics.{upFrom}
+use Rattle.lists.specs.Basics.{rangeFrom}
 use Rattle.geometry.specs.Stored.{slotsOf}
 use Rattle.pagestore.specs.declared.Record.{Record}
 use Rattle.pagestore.specs.Store.{View, viewOf}
@@ -21,7 +21,7 @@ pub record Seventeen (v : View) : Type 0 where
   pub d : v .d ≡ 1
   pub first : ℕ
   pub second : ℕ
-  pub leaves : leavesOf v ≡ (first, map recordNo (upFrom 1 9)) ∷ (second, map recordNo (upFrom 10 8)) ∷ []
+  pub leaves : leavesOf v ≡ (first, map recordNo (rangeFrom 1 9)) ∷ (second, map recordNo (rangeFrom 10 8)) ∷ []
 
 -- asked from a point for k: the identifiers of the rows, in order, and the number of leaves read
 pub record Example : Type 0 where
@@ -43,7 +43,7 @@ abbrev pub examples : List Example
 examples =
     record { point = 9; k = 1; rows = 9 ∷ []; read = 1 }
     ∷ record { point = 9; k = 2; rows = 9 ∷ 8 ∷ []; read = 2 }
-    ∷ record { point = 1; k = 9; rows = upFrom 1 9; read = 1 }
+    ∷ record { point = 1; k = 9; rows = rangeFrom 1 9; read = 1 }
     ∷ record { point = 9; k = 18; rows = 9 ∷ 8 ∷ 10 ∷ 7 ∷ 11 ∷ 6 ∷ 12 ∷ 5 ∷ 13 ∷ 4 ∷ 14 ∷ 3 ∷ 15 ∷ 2 ∷ 16 ∷ 1 ∷ 17 ∷ []; read = 2 }
-    ∷ record { point = 1; k = 18; rows = upFrom 1 17; read = 2 }
+    ∷ record { point = 1; k = 18; rows = rangeFrom 1 17; read = 2 }
     ∷ []

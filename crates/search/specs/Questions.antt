@@ -7,9 +7,9 @@ use Prim.Native.Nat.{ℕ, suc, _/_, _≤_, _<_}
 use lib.Dec.{ltb}
 use lib.IntN.{ℤ}
 use lib.ListN.{length, getD}
-use Rattle.lists.specs.Basics.{pick}
+use Rattle.lists.specs.Basics.{if}
 use Rattle.lists.specs.Counts.{mult}
-use Rattle.lists.specs.Sorting.{keep, sort}
+use Rattle.lists.specs.Sorting.{filter, sort}
 use Rattle.geometry.specs.Features.{Feature, distTo, InSpan}
 use Rattle.search_theory.specs.Nearest.{nearest, lastCost, inSet}
 use Rattle.search_rows.specs.declared.Row.{Row}
@@ -38,7 +38,7 @@ leafBound d q t = spanBound q (firstKey d (t .1)) (lastKey d (t .1))
 
 -- the live records that are looked for
 abbrev pub liveCandidates : View → Asked → List Record
-liveCandidates v q = keep (candidate q) (live v)
+liveCandidates v q = filter (candidate q) (live v)
 
 -- Demand 3's set: the leaves holding records whose bound is at most the distance of the last row that demand 2 calls for, or
 -- all of these when fewer than k candidates live.
@@ -71,7 +71,7 @@ leafBranch q d p t = record { bound = leafBound d q t; place = p; level = 0; pag
 unfoldable pub setFrom : View → Asked → ℕ → List (Item 1) → List Branch
 unfolding toRead leafBranch
 setFrom v q p [] = []
-setFrom v q p (t ∷ ts) = pick (toRead v q t) (leafBranch q (v .d) p t ∷ setFrom v q (suc p) ts) (setFrom v q (suc p) ts)
+setFrom v q p (t ∷ ts) = if (toRead v q t) (leafBranch q (v .d) p t ∷ setFrom v q (suc p) ts) (setFrom v q (suc p) ts)
 
 -- the leaves of the set in the order in which they are read, each by its position and its page
 unfoldable pub readingOrder : View → Asked → List (ℕ × ℕ)
@@ -80,8 +80,8 @@ readingOrder v q = map placed (sort before (setFrom v q 0 (leavesOf v)))
 
 -- the pages of the leaves left unread
 unfoldable pub unreadPages : View → Asked → List ℕ
-unfolding toRead keep
-unreadPages v q = map (λ t. t .0) (keep (λ t. not (toRead v q t)) (leavesOf v))
+unfolding toRead filter
+unreadPages v q = map (λ t. t .0) (filter (λ t. not (toRead v q t)) (leavesOf v))
 
 -- Demand 3's exchange, leaf by leaf: a leaf of the set keeps its records, any other one their number, its first key and its last key
 pub record Kept (d : ℕ) (read : Bool) (t u : Item 1) : Type 0 where

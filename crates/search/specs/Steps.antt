@@ -5,7 +5,7 @@ use mathlib.Core.List.{List, [], _∷_}
 use Prim.Native.Nat.{ℕ, _+_, _≤_, _<_}
 use lib.ListN.{length, take}
 use Rattle.lists.specs.Basics.{All}
-use Rattle.lists.specs.Sorting.{insAll, count}
+use Rattle.lists.specs.Sorting.{insertAll, count}
 use Rattle.lists.specs.Sorting as sorting
 use Rattle.geometry.specs.Features.{plain}
 use Rattle.geometry.specs.Questions.{sizeOf, askedOf, Packed, Ready}
@@ -96,7 +96,7 @@ pub record Opens (slots : List ℕ) (n : ℕ) (index asked near whole : List ℕ
 pub record Opened (slots : List ℕ) (n : ℕ) (index : List ℕ) (q : Asked) (level place page r : ℕ) (slots' : List ℕ) : Type 0 where
   pub number : r ≡ n + length (entriesIn (innerAt index page))
   pub heap : Heap r slots'
-  pub branches : frontier r slots' ≡ insAll before (branches index q level place (entriesIn (innerAt index page))) (frontier n slots)
+  pub branches : frontier r slots' ≡ insertAll before (branches index q level place (entriesIn (innerAt index page))) (frontier n slots)
 
 abbrev pub OpenedAny : List ℕ → ℕ → List ℕ → List ℕ → ℕ → ℕ → ℕ → ℕ → List ℕ → Type 0
 OpenedAny slots n index asked l place page r slots' = (k : ℕ) → Opened slots n index (asking asked k) l place page r slots'

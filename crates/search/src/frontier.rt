@@ -8,11 +8,11 @@ use crate::leaves::filled;
 use geometry::Key;
 use geometry::Pair;
 use geometry::bounds::bound;
-use search_heap::push;
 use pagestore::Entry;
 use pagestore::count_at;
 use pagestore::entry_at;
 use pagestore::in_range;
+use search_heap::push;
 use tree::leaf_count;
 
 // The branch of a key, field by field.

@@ -2,19 +2,19 @@
 ghost use mathlib.Core.Path.{_≡_};
 ghost use Prim.Native.Nat.{_≤_, _<_, min};
 ghost use lib.ListN.{length, take};
-ghost use Rattle.lists.specs.Basics.{tick};
+ghost use Rattle.lists.specs.Basics.{indicator};
 ghost use Rattle.lists.specs.Sorting.{count};
 ghost use Rattle.search_rows.specs.Held.{Held};
 ghost use Rattle.search.specs.Columns.{notPast, BehindPast};
 ghost use Rattle.search.specs.Steps.{AskedPoint, Seekable, Tells, OfferedRecord, OfferedPart, OfferedLeaf};
 use crate::columns::add_columns;
-use search_rows::Row;
-use search_rows::behind;
-use search_rows::offer;
 use pagestore::in_range;
 use pagestore::lanes;
 use pagestore::read_count;
 use pagestore::read_ident;
+use search_rows::Row;
+use search_rows::behind;
+use search_rows::offer;
 
 // How many items a page with this count has: there are 16 slots.
 pub fn filled(count: usize) -> usize
@@ -49,7 +49,7 @@ fn limit_of(distances: &[u64], n: usize, k: usize) -> u32
 }
 
 fn not_past(limit: u32, x: u32) -> u32
-    ensures { λ r. ⌜ (r ≡ tick (notPast limit x)) × (r ≤ 1) ⌝ }
+    ensures { λ r. ⌜ (r ≡ indicator (notPast limit x)) × (r ≤ 1) ⌝ }
 {
     if limit < x { 0 } else { 1 }
 }

@@ -18,13 +18,13 @@ use crate::frontier::page_of;
 use crate::frontier::place_in;
 use crate::leaves::filled;
 use crate::leaves::visit_leaf;
-use search_rows::exceeds;
-use search_heap::pop;
 use pagestore::count_at;
 use pagestore::page_count;
 use pagestore::root_level;
 use pagestore::root_page;
 use pagestore::total_records;
+use search_heap::pop;
+use search_rows::exceeds;
 
 // Whether nothing is read: there are no records, or the root's level is that of no sound index.
 pub fn reads_none(index: &[u8]) -> bool

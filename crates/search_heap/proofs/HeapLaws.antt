@@ -11,9 +11,9 @@ use lib.Seq.{take-suc-set, getD-set-same, getD-set-other, getD-take, lt-length-s
 use lib.Dec.{ltb}
 use borrow.Author.Tests.{le-ltb, ltb-true, ltb-false}
 use Rattle.lists.specs.Basics.{All}
-use Rattle.lists.specs.Tests.{cases, decide, three}
+use Rattle.lists.specs.Tests.{decide, three, by-cases}
 use Rattle.lists.specs.Places.{all-places}
-use Rattle.lists.specs.Sorting.{sort, ins}
+use Rattle.lists.specs.Sorting.{sort, insertBy}
 use Rattle.lists.specs.SortingLaws.{ltb-order, ins-first, all-sort, sort-snoc, sort-take, sort-set, sort-swap}
 use Rattle.search_heap.specs.Heap.{Child, Heap, held, Pushed, Popped}
 use Rattle.search_heap.specs.Sifting.{Sinking, Rising, lowerOf, LeastIn, Sifted}
@@ -30,7 +30,7 @@ least-one from to i a p q r = record { low = p; high = q; least = λ j u v. let 
 pub least-join : (from mid to : ℕ) (a : List ℕ) (c e r : ℕ) → LeastIn from mid a c → LeastIn mid to a e → r ≡ lowerOf a c e → LeastIn from to a r
 least-join from mid to a c e r l m q =
     let lc = l .low in let hc = l .high in let le = m .low in let he = m .high in
-    cases (ltb (getD a e 0) (getD a c 0))
+    by-cases (ltb (getD a e 0) (getD a c 0))
     (λ t. let w : getD a e 0 < getD a c 0 = ltb-true (getD a e 0) (getD a c 0) t in
     let f : r ≡ e = q ∙ (rw t) in
     rw f record { low = omega arith; high = omega arith; least = λ j u v. over mid j (λ b. let z = l .least j u b in omega arith) (λ b. m .least j b v) })
@@ -229,7 +229,7 @@ module _ (a : List ℕ) (n x : ℕ) (w : n < length a) where
     over = λ p j k1 k2. absurd (let q = k2 .low in let r = k2 .within in omega arith);
   }
 
-  held-push : held (n + 1) (set a n x) ≡ ins ltb x (held n a)
+  held-push : held (n + 1) (set a n x) ≡ insertBy ltb x (held n a)
   held-push = rw (add-one n, take-suc-set a n x w) (sort-snoc ltb ltb-order x (take n a))
 
   pub pushed : (b : List ℕ) → Sifted (n + 1) n x a b → Pushed n x a (n + 1) b
@@ -286,8 +286,8 @@ module _ (a : List ℕ) (n m : ℕ) (z : 0 < m) (more : n ≡ m + 1) (whole : He
   held-pop =
       let f = fits in
       let l : length (take m a) ≡ m = length-take-le m a (omega arith) in
-      let one : held (m + 1) a ≡ ins ltb (getD a m 0) (held m a) = sort-take ltb ltb-order a m 0 f in
-      let two : ins ltb (getD (take m a) 0 0) (sort ltb (set (take m a) 0 (getD a m 0))) ≡ ins ltb (getD a m 0) (sort ltb (take m a)) = sort-set ltb ltb-order (take m a) 0 (getD a m 0) 0 (omega arith) in
+      let one : held (m + 1) a ≡ insertBy ltb (getD a m 0) (held m a) = sort-take ltb ltb-order a m 0 f in
+      let two : insertBy ltb (getD (take m a) 0 0) (sort ltb (set (take m a) 0 (getD a m 0))) ≡ insertBy ltb (getD a m 0) (sort ltb (take m a)) = sort-set ltb ltb-order (take m a) 0 (getD a m 0) 0 (omega arith) in
       one ∙ sym (rw (getD-take m a 0 0 z, ← take-set-lt m a 0 (getD a m 0) z) at two)
       ∙ ins-first ltb (getD a 0 0) (held m (set a 0 (getD a m 0))) (all-sort ltb (take m (set a 0 (getD a m 0))) not-below)
 
@@ -301,7 +301,7 @@ module _ (a : List ℕ) (n m : ℕ) (z : 0 < m) (more : n ≡ m + 1) (whole : He
       }
 
 one : (a : List ℕ) → Heap 1 a → Popped 1 a (getD a 0 0) a
-unfolding sort ins
+unfolding sort insertBy
 one [] h = absurd (let q = h .fits in omega arith)
 one (x ∷ a) h = record {
   heap = record { fits = omega arith; ordered = λ p j k. absurd (let q = k .within in omega arith) };

@@ -4,7 +4,7 @@ use mathlib.Core.Path.{_≡_}
 use mathlib.Core.List.{List, _∷_}
 use lib.ListN.{length, getD, take, drop}
 use lib.Dec.{ltb}
-use Rattle.lists.specs.Sorting.{sort, ins}
+use Rattle.lists.specs.Sorting.{sort, insertBy}
 
 -- j is a child of p among the first n
 pub record Child (n p j : ℕ) : Type 0 where
@@ -24,7 +24,7 @@ held n a = sort ltb (take n a)
 -- x is put into the heap of n in a: r are in b then. A full list takes nothing
 pub record Pushed (n x : ℕ) (a : List ℕ) (r : ℕ) (b : List ℕ) : Type 0 where
   pub heap : Heap r b
-  pub room : n < length a → (r ≡ n + 1) × (held (n + 1) b ≡ ins ltb x (held n a)) × (drop (n + 1) b ≡ drop (n + 1) a)
+  pub room : n < length a → (r ≡ n + 1) × (held (n + 1) b ≡ insertBy ltb x (held n a)) × (drop (n + 1) b ≡ drop (n + 1) a)
   pub full : length a ≤ n → (r ≡ n) × (b ≡ a)
 
 -- r, the least, is taken out of the heap of n in a

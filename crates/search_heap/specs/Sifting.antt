@@ -5,7 +5,7 @@ use mathlib.Core.Logic.{_≢_}
 use mathlib.Core.List.{List}
 use lib.ListN.{length, getD, drop, set}
 use lib.Dec.{ltb}
-use Rattle.lists.specs.Basics.{pick}
+use Rattle.lists.specs.Basics.{if}
 use Rattle.search_heap.specs.Heap.{Child, Heap, held}
 
 -- a heap but for h, which may be above its children; these are at least what is above h
@@ -24,7 +24,7 @@ pub record Rising (n h : ℕ) (a : List ℕ) : Type 0 where
 
 -- that of the places i and j which holds the lower number
 abbrev pub lowerOf : List ℕ → ℕ → ℕ → ℕ
-lowerOf a i j = pick (ltb (getD a j 0) (getD a i 0)) j i
+lowerOf a i j = if (ltb (getD a j 0) (getD a i 0)) j i
 
 -- c is a place, from `from` on and before `to`, that holds the least number there
 pub record LeastIn (from to : ℕ) (a : List ℕ) (c : ℕ) : Type 0 where

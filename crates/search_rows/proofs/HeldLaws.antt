@@ -10,9 +10,9 @@ use lib.ListN.{length, take, drop, getD, set, length-take, length-set, drop-of-l
 use lib.Seq.{length-take-le, getD-take, take-all, take-at, take-suc, take-take, take-append-le, take-set-le, drop-set-lt}
 use lib.Dec.{ltb, eqb}
 use borrow.Author.Tests.{lt-ltb, le-ltb, le-leb, lt-leb, ltb-true, ltb-false, not-true, not-false}
-use Rattle.lists.specs.Basics.{pick, tick}
+use Rattle.lists.specs.Basics.{if, indicator}
 use Rattle.lists.specs.Tests.{three, false-true}
-use Rattle.lists.specs.Sorting.{ins, offer}
+use Rattle.lists.specs.Sorting.{insertBy, offer}
 use Rattle.lists.specs.Sorting as sorting
 use Rattle.lists.specs.SortingLaws.{length-ins, sorted-ins}
 use Rattle.lists.specs.PlaceLaws.{ins-snoc, ins-last, sliding, slide-turn, slide-end, sorted-take}
@@ -100,8 +100,8 @@ held-part ds ts n k m j h a b c = let f = h .room in let g = h .roomTags in reco
 abbrev pub GoesLast : List ℕ → List ℕ → ℕ → Row → Type 0
 GoesLast ds ts i x = 0 < i → rowOrder (rowOf (getD ds (i - 1) 0) (getD ts (i - 1) 0)) x ≡ true
 
-goes-last : (ds ts : List ℕ) (i : ℕ) (x : Row) → Held ds ts i i → GoesLast ds ts i x → ins rowOrder x (rowsIn ds ts i) ≡ rowsIn ds ts i ++ (x ∷ [])
-unfolding ins
+goes-last : (ds ts : List ℕ) (i : ℕ) (x : Row) → Held ds ts i i → GoesLast ds ts i x → insertBy rowOrder x (rowsIn ds ts i) ≡ rowsIn ds ts i ++ (x ∷ [])
+unfolding insertBy
 goes-last ds ts zero x h = λ e. refl
 goes-last ds ts (suc j) x h =
     let q : suc j - 1 ≡ j = omega arith in
@@ -112,11 +112,11 @@ goes-last ds ts (suc j) x h =
     (ap (λ (y : Row). rowOrder y x) f ∙ e (omega arith)))
 
 -- where there is room for one more, an offer is an insertion
-offer-room : (ds ts : List ℕ) (n k : ℕ) (x : Row) → n < k → ins rowOrder x (rowsIn ds ts n) ≡ offer rowOrder k x (rowsIn ds ts n)
+offer-room : (ds ts : List ℕ) (n k : ℕ) (x : Row) → n < k → insertBy rowOrder x (rowsIn ds ts n) ≡ offer rowOrder k x (rowsIn ds ts n)
 unfolding offer
 offer-room ds ts n k x h =
     let a = length-ins rowOrder x (rowsIn ds ts n) in let b = length-take n (rowsOf ds ts) in
-    sym (take-all k (ins rowOrder x (rowsIn ds ts n)) (omega arith))
+    sym (take-all k (insertBy rowOrder x (rowsIn ds ts n)) (omega arith))
 
 -- row x, to be put in among the n rows of ds₀ and ts₀, has come down to index i
 pub record Sliding (ds₀ ts₀ : List ℕ) (n : ℕ) (x : Row) (ds ts : List ℕ) (i : ℕ) : Type 0 where
@@ -124,7 +124,7 @@ pub record Sliding (ds₀ ts₀ : List ℕ) (n : ℕ) (x : Row) (ds ts : List �
   pub room : n < length ds
   pub roomTags : n < length ts
   pub sorted : sorting.Sorted rowOrder (rowsIn ds ts i)
-  pub rows : sliding rowOrder x n i (rowsOf ds ts) ≡ ins rowOrder x (rowsIn ds₀ ts₀ n)
+  pub rows : sliding rowOrder x n i (rowsOf ds ts) ≡ insertBy rowOrder x (rowsIn ds₀ ts₀ n)
   pub past : (drop (n + 1) ds ≡ drop (n + 1) ds₀) × (drop (n + 1) ts ≡ drop (n + 1) ts₀)
 
 pub slide-start : (ds ts : List ℕ) (n : ℕ) (x : Row) → Held ds ts n (n + 1) → Sliding ds ts n x ds ts n
@@ -135,7 +135,7 @@ slide-start ds ts n x h = let a = h .room in let b = h .roomTags in record {
   roomTags = omega arith;
   sorted = h .sorted;
   rows = let l : length (take (suc n) (rowsOf ds ts)) ≤ suc n = rw (length-take (suc n) (rowsOf ds ts)) (omega arith) in
-      rw (drop-of-length-le (take (suc n) (rowsOf ds ts)) {i = suc n} l) (append-nil (ins rowOrder x (rowsIn ds ts n)));
+      rw (drop-of-length-le (take (suc n) (rowsOf ds ts)) {i = suc n} l) (append-nil (insertBy rowOrder x (rowsIn ds ts n)));
   past = (refl, refl);
 }
 
@@ -169,7 +169,7 @@ module _ (ds₀ ts₀ : List ℕ) (n : ℕ) (x : Row) (ds ts : List ℕ) where
       → Held ds₀ ts₀ n (n + 1) → Offered ds₀ ts₀ n (n + 1) x (n + 1) (set ds i d) (set ts i t)
   slide-done i d t s e q h =
       let a = s .few in let b = s .room in let c = s .roomTags in
-      let all : rowsIn (set ds i d) (set ts i t) (n + 1) ≡ ins rowOrder x (rowsIn ds₀ ts₀ n) =
+      let all : rowsIn (set ds i d) (set ts i t) (n + 1) ≡ insertBy rowOrder x (rowsIn ds₀ ts₀ n) =
       ap (take (n + 1)) (rowsOf-set i d t ds ts ∙ ap (set (rowsOf ds ts) i) q)
       ∙ ap (λ (m : ℕ). take m (set (rowsOf ds ts) i x)) (add-one n)
       ∙ slide-end rowOrder x n i (rowsOf ds ts) a (long i s) (goes-last ds ts i x record { few = omega arith; room = omega arith; roomTags = omega arith; sorted = s .sorted } e) ∙ s .rows in
@@ -214,12 +214,12 @@ unfolding offer
 offered-over ds ts m n k x ds' ts' h all more e o =
     let a = h .few in let b = h .room in let c = h .roomTags in
     let l : m < length (rowsOf ds ts) = let w = length-rowsOf (suc m) ds ts (omega arith) (omega arith) in omega arith in
-    let size : length (ins rowOrder x (rowsIn ds ts m)) ≡ suc m = length-ins rowOrder x (rowsIn ds ts m) ∙ ap suc (length-take-le m (rowsOf ds ts) (omega arith)) in
+    let size : length (insertBy rowOrder x (rowsIn ds ts m)) ≡ suc m = length-ins rowOrder x (rowsIn ds ts m) ∙ ap suc (length-take-le m (rowsOf ds ts) (omega arith)) in
     let r : rowOrder (getD (rowsOf ds ts) m x) x ≡ false = ap (λ (y : Row). rowOrder y x) (rowsOf-at m ds ts x (omega arith) (omega arith)) ∙ e in
-    let wider : take (suc m) (ins rowOrder x (rowsIn ds ts (suc m))) ≡ take (suc m) (ins rowOrder x (rowsIn ds ts m)) =
-    ap (λ (s : List Row). take (suc m) (ins rowOrder x s)) (take-suc (rowsOf ds ts) m x l)
+    let wider : take (suc m) (insertBy rowOrder x (rowsIn ds ts (suc m))) ≡ take (suc m) (insertBy rowOrder x (rowsIn ds ts m)) =
+    ap (λ (s : List Row). take (suc m) (insertBy rowOrder x s)) (take-suc (rowsOf ds ts) m x l)
     ∙ ap (take (suc m)) (ins-snoc rowOrder x (getD (rowsOf ds ts) m x) (rowsIn ds ts m) r)
-    ∙ take-append-le (suc m) (ins rowOrder x (rowsIn ds ts m)) (getD (rowsOf ds ts) m x ∷ []) (omega arith) in
+    ∙ take-append-le (suc m) (insertBy rowOrder x (rowsIn ds ts m)) (getD (rowsOf ds ts) m x ∷ []) (omega arith) in
     let one : k ≡ m + 1 = omega arith in
     rw (one, more) record { held = o .held; rows = o .rows ∙ rw (add-one m) (sym wider); past = o .past }
 
@@ -227,9 +227,9 @@ pub offered-same : (ds ts : List ℕ) (n k : ℕ) (w x : Row) (r : ℕ) (ds' ts'
 offered-same ds ts n k w x r ds' ts' e o = rw (← e) o
 
 -- a row behind the last of k rows
-chosen : (a b c : Bool) → pick a false (pick b false c) ≡ true → (a ≡ false) × (b ≡ false) × (c ≡ true)
-chosen true b c h = absurd (let z : _≡_ {A = ℕ} 0 1 = ap tick h in omega arith)
-chosen false true c h = absurd (let z : _≡_ {A = ℕ} 0 1 = ap tick h in omega arith)
+chosen : (a b c : Bool) → if a false (if b false c) ≡ true → (a ≡ false) × (b ≡ false) × (c ≡ true)
+chosen true b c h = absurd (let z : _≡_ {A = ℕ} 0 1 = ap indicator h in omega arith)
+chosen false true c h = absurd (let z : _≡_ {A = ℕ} 0 1 = ap indicator h in omega arith)
 chosen false false c h = (refl, refl, h)
 
 pub offered-behind : (ds ts : List ℕ) (n k : ℕ) (x : Row) → Held ds ts n k → behindAll ds n k (x .distance) ≡ true → Offered ds ts n k x n ds ts

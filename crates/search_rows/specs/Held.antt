@@ -5,7 +5,7 @@ use mathlib.Core.List.{List, [], _∷_}
 use Prim.Native.Nat.{ℕ, _-_, _≤_, _<_}
 use lib.Dec.{ltb, eqb}
 use lib.ListN.{length, getD, take, drop}
-use Rattle.lists.specs.Basics.{pick}
+use Rattle.lists.specs.Basics.{if}
 use Rattle.lists.specs.Sorting.{Sorted}
 use Rattle.lists.specs.Sorting as sorting
 use Rattle.search_theory.specs.Nearest as nearest
@@ -42,7 +42,7 @@ pub record GivesWay (distances tags : List ℕ) (i : ℕ) (x : Row) (r : Bool) :
 
 -- there are k rows, and the k-th is nearer than a distance
 abbrev pub behindAll : List ℕ → ℕ → ℕ → ℕ → Bool
-behindAll distances n k distance = pick (ltb n k) false (pick (eqb k 0) false (ltb (getD distances (k - 1) 0) distance))
+behindAll distances n k distance = if (ltb n k) false (if (eqb k 0) false (ltb (getD distances (k - 1) 0) distance))
 
 -- the stop test of the visit, whatever the tags and the choice of candidates
 pub record Stops (distances : List ℕ) (n k bound : ℕ) (r : Bool) : Type 0 where

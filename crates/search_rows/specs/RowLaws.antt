@@ -9,11 +9,11 @@ use lib.ListN.{take}
 use lib.Dec.{eqb}
 use borrow.Author.Tests.{eq-eqb, le-ltb, lt-ltb}
 use Rattle.lists.specs.Basics.{All, none, also}
-use Rattle.lists.specs.Tests.{cases, three}
-use Rattle.lists.specs.Sorting.{count, keep, sum, Order, Sorted}
+use Rattle.lists.specs.Tests.{three, by-cases}
+use Rattle.lists.specs.Sorting.{count, filter, sum, Order, Sorted}
 use Rattle.lists.specs.Sorting as sorting
 use Rattle.lists.specs.SortingLaws.{sorted-sort, count-sort, all-sort}
-use Rattle.lists.specs.FlatLaws.{count-keep}
+use Rattle.lists.specs.ConcatMapLaws.{count-filter}
 use Rattle.lists.specs.Orders.{by, lower, by-weak, by-same, lower-weak, lower-same, weak-order, by-lower, by-equal, by-higher}
 use Rattle.search_theory.specs.Nearest.{candidates, nearest}
 use Rattle.search_theory.specs.Marks.{Strict, readOn, unmarked}
@@ -82,7 +82,7 @@ others : (x : Row) (ys : List Row) → All (λ y. y .id ≢ x .id) ys → All (�
 others x [] none none = none
 others x (y ∷ ys) (also n m) (also e a) =
     also
-    (cases (past x y) (λ t. t) (λ t.
+    (by-cases (past x y) (λ t. t) (λ t.
     let s = by-same distance (lower id) x y t (sym (position-idle y x n) ∙ e) in
     absurd (n (sym (lower-same id x y (s .1) (s .2))))))
     (others x ys m a)
@@ -100,13 +100,13 @@ count-fewer : (p q : Row → Bool) (xs : List Row) → count (λ x. p x && q x) 
 unfolding count
 count-fewer p q [] = omega arith
 count-fewer p q (x ∷ xs) = let h = count-fewer p q xs in
-    cases (p x) (λ e. rw e (omega arith)) (λ e. rw e (omega arith))
+    by-cases (p x) (λ e. rw e (omega arith)) (λ e. rw e (omega arith))
 
-ins-idle : (x : Row) (s : List Row) → All (λ y. y .id ≢ x .id) s → sorting.ins rowOrder x s ≡ sorting.ins past x s
-unfolding sorting.ins
+ins-idle : (x : Row) (s : List Row) → All (λ y. y .id ≢ x .id) s → sorting.insertBy rowOrder x s ≡ sorting.insertBy past x s
+unfolding sorting.insertBy
 ins-idle x [] none = refl
 ins-idle x (y ∷ ys) (also n a) =
-    rw (position-idle y x n) (cases (past y x) (λ e. rw e (ap (λ (t : List Row). y ∷ t) (ins-idle x ys a))) (λ e. rw e))
+    rw (position-idle y x n) (by-cases (past y x) (λ e. rw e (ap (λ (t : List Row). y ∷ t) (ins-idle x ys a))) (λ e. rw e))
 
 -- on distinct identifiers position never decides
 pub sort-idle : (xs : List Row) → Distinct xs → sorting.sort rowOrder xs ≡ sorting.sort past xs
@@ -117,23 +117,23 @@ sort-idle (x ∷ xs) d =
     let e : eqb (x .id) (x .id) ≡ true = eq-eqb (x .id) (x .id) refl in
     let z : count (ofId (x .id)) (x ∷ xs) ≡ 1 + count (ofId (x .id)) xs = rw e in
     ins-idle x (sorting.sort rowOrder xs) (all-sort rowOrder xs (other-ids x xs (omega arith)))
-    ∙ ap (sorting.ins past x) (sort-idle xs (λ n. let h = d n in omega arith))
+    ∙ ap (sorting.insertBy past x) (sort-idle xs (λ n. let h = d n in omega arith))
 
-distinct-kept : (passes : Row → Bool) (xs : List Row) → Distinct xs → Distinct (keep passes xs)
-distinct-kept passes xs d = λ n. let b = count-keep (ofId n) passes xs in let e = count-fewer passes (ofId n) xs in let h = d n in omega arith
+distinct-kept : (passes : Row → Bool) (xs : List Row) → Distinct xs → Distinct (filter passes xs)
+distinct-kept passes xs d = λ n. let b = count-filter (ofId n) passes xs in let e = count-fewer passes (ofId n) xs in let h = d n in omega arith
 
 -- demand 2's words: by squared distance, equal distances by lower identifier
-pub nearest-by-identifier : (passes : Row → Bool) (k : ℕ) (xs : List Row) → Distinct xs → nearest (byDistance passes) k xs ≡ take k (sorting.sort past (keep passes xs))
+pub nearest-by-identifier : (passes : Row → Bool) (k : ℕ) (xs : List Row) → Distinct xs → nearest (byDistance passes) k xs ≡ take k (sorting.sort past (filter passes xs))
 unfolding nearest candidates
-nearest-by-identifier passes k xs d = ap (take k) (sort-idle (keep passes xs) (distinct-kept passes xs d))
+nearest-by-identifier passes k xs d = ap (take k) (sort-idle (filter passes xs) (distinct-kept passes xs d))
 
 -- candidates of distinct identifiers: each row is past every earlier one
 pub candidates-strict : (passes : Row → Bool) (xs : List Row) → Distinct xs → Strict past (candidates (byDistance passes) xs)
 unfolding candidates
 candidates-strict passes xs d =
-    strict-rows (sorting.sort rowOrder (keep passes xs))
-    (λ n. let a = count-sort rowOrder (ofId n) (keep passes xs) in let b = count-keep (ofId n) passes xs in let e = count-fewer passes (ofId n) xs in let h = d n in omega arith)
-    (sorted-sort rowOrder row-order (keep passes xs))
+    strict-rows (sorting.sort rowOrder (filter passes xs))
+    (λ n. let a = count-sort rowOrder (ofId n) (filter passes xs) in let b = count-filter (ofId n) passes xs in let e = count-fewer passes (ofId n) xs in let h = d n in omega arith)
+    (sorted-sort rowOrder row-order (filter passes xs))
 
 -- the lists got by always marking the last row's distance and identifier join up to the list of a larger number (02, Q-6)
 pub rows-join : (passes : Row → Bool) (xs : List Row) → Distinct xs → (ks : List ℕ)

@@ -5,8 +5,8 @@ use mathlib.Core.Bool.{true}
 use mathlib.Core.List.{List, [], _∷_}
 use Prim.Native.Nat.{ℕ, _+_, _*_, _-_}
 use lib.Dec.{ltb}
-use Rattle.lists.specs.Basics.{pick, upFrom}
-use Rattle.lists.specs.Sorting.{keep, sort, ins, offer, offerAll}
+use Rattle.lists.specs.Basics.{if, rangeFrom}
+use Rattle.lists.specs.Sorting.{filter, sort, insertBy, offer, offerAll}
 use Rattle.lists.specs.Orders.{lower, lex}
 use Rattle.search_theory.specs.Nearest.{Ranking, kth, exceeds, Outcome, visit, bestFirst}
 
@@ -19,16 +19,16 @@ line q = record { cost = square q; tie = ltb; passes = λ x. true }
 
 -- the leaves at positions 0 and 1
 abbrev held : ℕ → List ℕ
-held p = pick (ltb p 1) (upFrom 1 9) (upFrom 10 8)
+held p = if (ltb p 1) (rangeFrom 1 9) (rangeFrom 10 8)
 
 -- from q, with the bounds of the two leaves, for k rows
 abbrev asked : ℕ → ℕ → ℕ → ℕ → Outcome ℕ ℕ
-asked q first second k = bestFirst (line q) (λ p. pick (ltb p 1) first second) held k (lower (λ p. p)) (0 ∷ 1 ∷ [])
+asked q first second k = bestFirst (line q) (λ p. if (ltb p 1) first second) held k (lower (λ p. p)) (0 ∷ 1 ∷ [])
 
 pub line-examples :
     (asked 9 0 1 1 ≡ record { rows = 9 ∷ []; read = 0 ∷ [] })
     × (asked 9 0 1 2 ≡ record { rows = 9 ∷ 8 ∷ []; read = 0 ∷ 1 ∷ [] })
-    × (asked 1 0 81 9 ≡ record { rows = upFrom 1 9; read = 0 ∷ [] })
-    × (asked 1 0 81 18 ≡ record { rows = upFrom 1 17; read = 0 ∷ 1 ∷ [] })
-unfolding bestFirst visit exceeds kth keep sort ins offer offerAll lex upFrom
+    × (asked 1 0 81 9 ≡ record { rows = rangeFrom 1 9; read = 0 ∷ [] })
+    × (asked 1 0 81 18 ≡ record { rows = rangeFrom 1 17; read = 0 ∷ 1 ∷ [] })
+unfolding bestFirst visit exceeds kth filter sort insertBy offer offerAll lex rangeFrom
 line-examples = (refl, refl, refl, refl)

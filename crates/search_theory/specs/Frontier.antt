@@ -6,16 +6,16 @@ use mathlib.Core.List.{List, [], _∷_}
 use Prim.Native.Nat.{ℕ, zero, suc, _+_, _≤_}
 use lib.ListN.{length}
 use lib.Dec.{leb}
-use Rattle.lists.specs.Basics.{pick, All, flat}
-use Rattle.lists.specs.Sorting.{insAll, offerAll, keep}
+use Rattle.lists.specs.Basics.{if, All, concatMap}
+use Rattle.lists.specs.Sorting.{insertAll, offerAll, filter}
 use Rattle.search_theory.specs.Nearest.{Ranking, Outcome, reading, exceeds, offered}
 
 module _ {E : Type 0} (isLeaf : E → Bool) (kids : E → List E) where
   -- the leaves under an entry, first to last; n: how many levels of inner pages are looked at
   unfoldable pub leavesUnder : ℕ → E → List E
-  unfolding flat
-  leavesUnder zero e = pick (isLeaf e) (e ∷ []) []
-  leavesUnder (suc n) e = pick (isLeaf e) (e ∷ []) (flat (leavesUnder n) (kids e))
+  unfolding concatMap
+  leavesUnder zero e = if (isLeaf e) (e ∷ []) []
+  leavesUnder (suc n) e = if (isLeaf e) (e ∷ []) (concatMap (leavesUnder n) (kids e))
 
   -- In at most n levels all ways down end at a leaf; an inner page has two entries or more; and no leaf under an entry is before it.
   unfoldable pub Descends : (E → E → Bool) → ℕ → E → Type 0
@@ -29,10 +29,10 @@ module _ {A E : Type 0} (r : Ranking A) (bound : E → ℕ) (rows : E → List A
   -- page gives its entries to the frontier. It also ends after n steps, or where the entries have no room: then the entries
   -- are not those of a sound index. s: the k best rows so far.
   unfoldable pub seek : ℕ → List E → List A → Outcome A E
-  unfolding exceeds keep offerAll insAll
+  unfolding exceeds filter offerAll insertAll
   seek zero f s = record { rows = s; read = [] }
   seek (suc n) [] s = record { rows = s; read = [] }
   seek (suc n) (e ∷ f) s =
-      pick (exceeds r k (bound e) s) (record { rows = s; read = [] })
-      (pick (isLeaf e) (reading e (seek n f (offered r bound rows k e s)))
-      (pick (leb (length (kids e) + length f) room) (seek n (insAll before (kids e) f) s) (record { rows = s; read = [] })))
+      if (exceeds r k (bound e) s) (record { rows = s; read = [] })
+      (if (isLeaf e) (reading e (seek n f (offered r bound rows k e s)))
+      (if (leb (length (kids e) + length f) room) (seek n (insertAll before (kids e) f) s) (record { rows = s; read = [] })))

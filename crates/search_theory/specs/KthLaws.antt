@@ -7,11 +7,12 @@ use native.Mathlib.Omega.{arith}
 use lib.ListN.{length, take, getD, length-take}
 use lib.Dec.{ltb, leb}
 use borrow.Author.Tests.{ltb-false, lt-ltb, le-ltb, le-leb, lt-leb, leb-true, leb-false}
-use Rattle.lists.specs.Basics.{tick, All, none, also, all-map}
-use Rattle.lists.specs.Tests.{cases, false-true}
-use Rattle.lists.specs.Sorting.{keep, count, Order, Sorted, end, next}
-use Rattle.lists.specs.SortingLaws.{sorted-sort, length-sort, count-sort, length-keep, all-sort, all-keep}
+use Rattle.lists.specs.Basics.{indicator, All, none, also, all-map}
+use Rattle.lists.specs.Tests.{false-true, by-cases}
+use Rattle.lists.specs.Sorting.{filter, count, Order, Sorted, end, next}
+use Rattle.lists.specs.SortingLaws.{sorted-sort, length-sort, count-sort, length-filter, all-sort, all-filter}
 use Rattle.lists.specs.Orders.{by}
+use Rattle.lists.specs.Choices.{indicator-le}
 use Rattle.search_theory.specs.Nearest.{Ranking, rowOrder, candidates, nearest, kth, atMost, exceeds, inSet}
 use Rattle.search_theory.specs.VisitLaws.{by-floor, below, below-far, below-more, exceeds-below, inSet-exceeds}
 
@@ -30,21 +31,17 @@ module _ {A : Type 0} (f : A → ℕ) (tie : A → A → Bool) where
   none-at-most m [] none = refl
   none-at-most m (x ∷ xs) (also h a) = let q = none-at-most m xs a in rw (lt-leb (f x) m h) (omega arith)
 
-  tick-one : (b : Bool) → tick b ≤ 1
-  tick-one true = omega arith
-  tick-one false = omega arith
-
   -- j + 1 of a sorted list are at most m just if the one at index j is
   index-at-most : (j m : ℕ) (xs : List A) → Sorted (by f tie) xs → suc j ≤ count (atMost f m) xs → getD (map f xs) j 0 ≤ m
   unfolding count
   index-at-most j m [] end h = absurd (omega arith)
   index-at-most zero m (x ∷ xs) (next a s) h =
-      cases (leb (f x) m)
+      by-cases (leb (f x) m)
       (λ e. leb-true (f x) m e)
       (λ e. let q : m < f x = leb-false (f x) m e in
       let z : count (atMost f m) (x ∷ xs) ≡ 0 = none-at-most m (x ∷ xs) (also q (all-map (λ y g. let p = by-floor f tie x y g in omega arith) a)) in
       absurd (omega arith))
-  index-at-most (suc j) m (x ∷ xs) (next a s) h = let t = tick-one (leb (f x) m) in index-at-most j m xs s (omega arith)
+  index-at-most (suc j) m (x ∷ xs) (next a s) h = let t = indicator-le (leb (f x) m) in index-at-most j m xs s (omega arith)
 
   at-most-index : (j m : ℕ) (xs : List A) → Sorted (by f tie) xs → j < length xs → getD (map f xs) j 0 ≤ m → suc j ≤ count (atMost f m) xs
   unfolding count
@@ -73,7 +70,7 @@ module _ {A : Type 0} (f : A → ℕ) (tie : A → A → Bool) where
   below-earlier i j b [] end h e = e
   below-earlier zero zero b (x ∷ xs) (next a s) h e = e
   below-earlier zero (suc j) b (x ∷ xs) (next a s) h e =
-      cases (ltb (f x) b)
+      by-cases (ltb (f x) b)
       (λ t. t)
       (λ t. let q : b ≤ f x = ltb-false (f x) b t in
       false-true (sym (below-far f j b xs (all-map (λ y g. let p = by-floor f tie x y g in omega arith) a)) ∙ e))
@@ -85,26 +82,26 @@ module _ {A : Type 0} (f : A → ℕ) (tie : A → A → Bool) where
 module _ {A : Type 0} (r : Ranking A) (o : Order (rowOrder r)) (xs : List A) where
   sorted : Sorted (rowOrder r) (candidates r xs)
   unfolding candidates
-  sorted = sorted-sort (rowOrder r) o (keep (r .passes) xs)
+  sorted = sorted-sort (rowOrder r) o (filter (r .passes) xs)
 
   pub length-candidates : length (candidates r xs) ≡ count (r .passes) xs
   unfolding candidates
-  length-candidates = length-sort (rowOrder r) (keep (r .passes) xs) ∙ length-keep (r .passes) xs
+  length-candidates = length-sort (rowOrder r) (filter (r .passes) xs) ∙ length-filter (r .passes) xs
 
-  count-candidates : (p : A → Bool) → count p (candidates r xs) ≡ count p (keep (r .passes) xs)
+  count-candidates : (p : A → Bool) → count p (candidates r xs) ≡ count p (filter (r .passes) xs)
   unfolding candidates
-  count-candidates p = count-sort (rowOrder r) p (keep (r .passes) xs)
+  count-candidates p = count-sort (rowOrder r) p (filter (r .passes) xs)
 
   kth-index : (j : ℕ) → kth r (suc j) (nearest r (suc j) xs) ≡ getD (map (r .cost) (candidates r xs)) j 0
   unfolding kth nearest
   kth-index j = let e : suc j - 1 ≡ j = omega arith in rw e (index-take (r .cost) (r .tie) j (candidates r xs))
 
-  pub count-kth : (j m : ℕ) → suc j ≤ count (atMost (r .cost) m) (keep (r .passes) xs) → kth r (suc j) (nearest r (suc j) xs) ≤ m
+  pub count-kth : (j m : ℕ) → suc j ≤ count (atMost (r .cost) m) (filter (r .passes) xs) → kth r (suc j) (nearest r (suc j) xs) ≤ m
   count-kth j m h =
       let e = count-candidates (atMost (r .cost) m) in
       rw (kth-index j) (index-at-most (r .cost) (r .tie) j m (candidates r xs) sorted (omega arith))
 
-  pub kth-count : (j m : ℕ) → suc j ≤ length (candidates r xs) → kth r (suc j) (nearest r (suc j) xs) ≤ m → suc j ≤ count (atMost (r .cost) m) (keep (r .passes) xs)
+  pub kth-count : (j m : ℕ) → suc j ≤ length (candidates r xs) → kth r (suc j) (nearest r (suc j) xs) ≤ m → suc j ≤ count (atMost (r .cost) m) (filter (r .passes) xs)
   kth-count j m h g =
       let e = count-candidates (atMost (r .cost) m) in
       let q = at-most-index (r .cost) (r .tie) j m (candidates r xs) sorted (omega arith) (rw (kth-index j) at g) in
@@ -118,13 +115,13 @@ module _ {A : Type 0} (r : Ranking A) (o : Order (rowOrder r)) (xs : List A) whe
   -- a lower bound, or a larger k, keeps a leaf in the set
   pub inSet-lower : (j b c : ℕ) → b ≤ c → inSet r (suc j) xs c ≡ true → inSet r (suc j) xs b ≡ true
   inSet-lower j b c h e =
-      cases (below (r .cost) j b (candidates r xs))
+      by-cases (below (r .cost) j b (candidates r xs))
       (λ t. false-true (sym (inSet-exceeds r j xs c ∙ ap not (exceeds-below r j c (candidates r xs) ∙ below-more (r .cost) j b c (candidates r xs) h t)) ∙ e))
       (λ t. inSet-exceeds r j xs b ∙ ap not (exceeds-below r j b (candidates r xs) ∙ t))
 
   pub inSet-larger : (i j b : ℕ) → i ≤ j → inSet r (suc i) xs b ≡ true → inSet r (suc j) xs b ≡ true
   inSet-larger i j b h e =
-      cases (below (r .cost) j b (candidates r xs))
+      by-cases (below (r .cost) j b (candidates r xs))
       (λ t. false-true (sym (inSet-exceeds r i xs b ∙ ap not (exceeds-below r i b (candidates r xs) ∙ below-earlier (r .cost) (r .tie) i j b (candidates r xs) sorted h t)) ∙ e))
       (λ t. inSet-exceeds r j xs b ∙ ap not (exceeds-below r j b (candidates r xs) ∙ t))
 
@@ -146,7 +143,7 @@ module _ {A : Type 0} (r : Ranking A) (o : Order (rowOrder r)) (xs : List A) whe
   unfolding candidates
   inSet-floor j b a =
       inSet-exceeds r j xs b
-      ∙ ap not (exceeds-below r j b (candidates r xs) ∙ below-far (r .cost) j b (candidates r xs) (all-sort (rowOrder r) (keep (r .passes) xs) (all-keep (r .passes) xs a)))
+      ∙ ap not (exceeds-below r j b (candidates r xs) ∙ below-far (r .cost) j b (candidates r xs) (all-sort (rowOrder r) (filter (r .passes) xs) (all-filter (r .passes) xs a)))
 
 -- the k-th cost of another question over the same candidates: those within the k-th cost of the first are within m
 module _ {A : Type 0} (r r' : Ranking A) (o : Order (rowOrder r)) (o' : Order (rowOrder r')) (xs : List A) where
@@ -155,7 +152,7 @@ module _ {A : Type 0} (r r' : Ranking A) (o : Order (rowOrder r)) (o' : Order (r
   carried d m [] none = omega arith
   carried d m (y ∷ ys) (also h a) =
       let q = carried d m ys a in
-      cases (leb (r .cost y) d)
+      by-cases (leb (r .cost y) d)
       (λ e. rw (e, le-leb (r' .cost y) m (h (leb-true (r .cost y) d e))) (omega arith))
       (λ e. rw e (omega arith))
 
@@ -164,6 +161,6 @@ module _ {A : Type 0} (r r' : Ranking A) (o : Order (rowOrder r)) (o' : Order (r
   kth-carried j m e h a =
       let d = kth r (suc j) (nearest r (suc j) xs) in
       let n = kth-count r o xs j d h (omega arith) in
-      let c = carried d m (keep (r .passes) xs) (all-keep (r .passes) xs a) in
-      let s : count (atMost (r' .cost) m) (keep (r' .passes) xs) ≡ count (atMost (r' .cost) m) (keep (r .passes) xs) = ap (λ (p : A → Bool). count (atMost (r' .cost) m) (keep p xs)) e in
+      let c = carried d m (filter (r .passes) xs) (all-filter (r .passes) xs a) in
+      let s : count (atMost (r' .cost) m) (filter (r' .passes) xs) ≡ count (atMost (r' .cost) m) (filter (r .passes) xs) = ap (λ (p : A → Bool). count (atMost (r' .cost) m) (filter p xs)) e in
       count-kth r' o' xs j m (omega arith)

@@ -5,8 +5,8 @@ use mathlib.Core.List.{List, [], _∷_, map}
 use Prim.Native.Nat.{ℕ, _-_, _≤_}
 use lib.ListN.{length, take, getD}
 use lib.Dec.{ltb, leb}
-use Rattle.lists.specs.Basics.{pick, All}
-use Rattle.lists.specs.Sorting.{keep, sort, offerAll}
+use Rattle.lists.specs.Basics.{if, All}
+use Rattle.lists.specs.Sorting.{filter, sort, offerAll}
 use Rattle.lists.specs.Orders.{by}
 
 -- How a question ranks rows: by cost (01: squared distance), equal costs by a tie rule (demand 2: lower identifier).
@@ -27,8 +27,8 @@ module _ {A : Type 0} (r : Ranking A) where
 
   -- the candidates among xs, in row order
   unfoldable pub candidates : List A → List A
-  unfolding keep sort
-  candidates xs = sort rowOrder (keep (r .passes) xs)
+  unfolding filter sort
+  candidates xs = sort rowOrder (filter (r .passes) xs)
 
   -- the k nearest, nearest first, or all candidates if there are fewer
   unfoldable pub nearest : ℕ → List A → List A
@@ -71,13 +71,13 @@ Floor r bound rows l = All (λ x. bound l ≤ r .cost x) (rows l)
 module _ {A L : Type 0} (r : Ranking A) (bound : L → ℕ) (rows : L → List A) (k : ℕ) where
   -- the candidates of leaf l offered to the k best rows so far
   abbrev pub offered : L → List A → List A
-  offered l s = offerAll (rowOrder r) k (keep (r .passes) (rows l)) s
+  offered l s = offerAll (rowOrder r) k (filter (r .passes) (rows l)) s
 
   -- leaves read in the order given until the next bound exceeds the k-th cost found; s: the k best rows so far
   unfoldable pub visit : List L → List A → Outcome A L
-  unfolding exceeds keep offerAll
+  unfolding exceeds filter offerAll
   visit [] s = record { rows = s; read = [] }
-  visit (l ∷ ls) s = pick (exceeds r k (bound l) s) (record { rows = s; read = [] }) (reading l (visit ls (offered l s)))
+  visit (l ∷ ls) s = if (exceeds r k (bound l) s) (record { rows = s; read = [] }) (reading l (visit ls (offered l s)))
 
   -- 01's visit: the leaves taken by bound, equal bounds by `tie` (01: by position)
   unfoldable pub bestFirst : (L → L → Bool) → List L → Outcome A L

@@ -7,11 +7,11 @@ use native.Mathlib.Omega.{arith}
 use lib.ListN.{length, take}
 use lib.Seq.{take-take}
 use lib.Dec.{ltb, leb}
-use Rattle.lists.specs.Basics.{All, flat}
+use Rattle.lists.specs.Basics.{All, concatMap}
 use Rattle.lists.specs.Tests.{from-one}
-use Rattle.lists.specs.Sorting.{keep, count, sum, Order, sort, Sorted}
-use Rattle.lists.specs.SortingLaws.{length-keep, count-sort, all-sort, all-kept, sorted-sort}
-use Rattle.lists.specs.FlatLaws.{count-keep}
+use Rattle.lists.specs.Sorting.{filter, count, sum, Order, sort, Sorted}
+use Rattle.lists.specs.SortingLaws.{length-filter, count-sort, all-sort, all-kept, sorted-sort}
+use Rattle.lists.specs.ConcatMapLaws.{count-filter}
 use Rattle.lists.specs.Orders.{by}
 use Rattle.search_theory.specs.Nearest.{Ranking, rowOrder, candidates, nearest, kth, atMost, inSet, Outcome, Floor, visit, bestFirst}
 use Rattle.search_theory.specs.Marks.{readOn, Strict, unmarked}
@@ -25,25 +25,25 @@ use Rattle.search_theory.specs.RangesLaws.{reach-read, near-reached}
 module _ {A L : Type 0} (r : Ranking A) (o : Order (rowOrder r)) (bound : L → ℕ) (tie : L → L → Bool) (oL : Order (by bound tie)) (ls : List L) where
   -- the leaves of demand 3's set, where the leaves hold rows
   abbrev pub setOf : (L → List A) → ℕ → L → Bool
-  setOf rows k l = inSet r k (flat rows ls) (bound l)
+  setOf rows k l = inSet r k (concatMap rows ls) (bound l)
 
   module _ (rows : L → List A) (floors : All (Floor r bound rows) ls) (k : ℕ) (one : 1 ≤ k) where
     -- the visit gives these rows, and has read these leaves in this order
     pub outcome-exact : bestFirst r bound rows k tie ls
-        ≡ record { rows = nearest r k (flat rows ls); read = keep (setOf rows k) (sort (by bound tie) ls) }
-    outcome-exact = from-one (λ n. bestFirst r bound rows n tie ls ≡ record { rows = nearest r n (flat rows ls); read = keep (setOf rows n) (sort (by bound tie) ls) })
+        ≡ record { rows = nearest r k (concatMap rows ls); read = filter (setOf rows k) (sort (by bound tie) ls) }
+    outcome-exact = from-one (λ n. bestFirst r bound rows n tie ls ≡ record { rows = nearest r n (concatMap rows ls); read = filter (setOf rows n) (sort (by bound tie) ls) })
         (λ j. visit-exact r o bound rows tie oL j ls floors) k one
 
     -- (1) the rows are the k nearest
-    pub rows-nearest : (bestFirst r bound rows k tie ls) .rows ≡ nearest r k (flat rows ls)
+    pub rows-nearest : (bestFirst r bound rows k tie ls) .rows ≡ nearest r k (concatMap rows ls)
     rows-nearest = ap (λ (t : Outcome A L). t .rows) outcome-exact
 
     -- (2) the leaves read are those of the set, each once; their number is that of the set
-    pub leaves-exact : (bestFirst r bound rows k tie ls) .read ≡ keep (setOf rows k) (sort (by bound tie) ls)
+    pub leaves-exact : (bestFirst r bound rows k tie ls) .read ≡ filter (setOf rows k) (sort (by bound tie) ls)
     leaves-exact = ap (λ (t : Outcome A L). t .read) outcome-exact
 
     pub leaves-count : length ((bestFirst r bound rows k tie ls) .read) ≡ count (setOf rows k) ls
-    leaves-count = ap length leaves-exact ∙ length-keep (setOf rows k) (sort (by bound tie) ls) ∙ count-sort (by bound tie) (setOf rows k) ls
+    leaves-count = ap length leaves-exact ∙ length-filter (setOf rows k) (sort (by bound tie) ls) ∙ count-sort (by bound tie) (setOf rows k) ls
 
     -- (4) whatever the leaves out of the set hold: nothing is asked of rows' there
     pub unread-anything : (rows' : L → List A) → All (λ l. setOf rows k l ≡ true → rows' l ≡ rows l) ls
@@ -55,9 +55,9 @@ module _ {A L : Type 0} (r : Ranking A) (o : Order (rowOrder r)) (bound : L → 
 
     -- (3) exchange: other rows in the leaves out of the set, none below its leaf's bound, change neither the nearest nor the set
     module _ (rows' : L → List A) (floors' : All (Floor r bound rows') ls) (same : All (λ l. setOf rows k l ≡ true → rows' l ≡ rows l) ls) where
-      pub exchange-rows : nearest r k (flat rows' ls) ≡ nearest r k (flat rows ls)
+      pub exchange-rows : nearest r k (concatMap rows' ls) ≡ nearest r k (concatMap rows ls)
       exchange-rows =
-          sym (from-one (λ n. (bestFirst r bound rows' n tie ls) .rows ≡ nearest r n (flat rows' ls)) (λ j. ap (λ (t : Outcome A L). t .rows) (visit-exact r o bound rows' tie oL j ls floors')) k one)
+          sym (from-one (λ n. (bestFirst r bound rows' n tie ls) .rows ≡ nearest r n (concatMap rows' ls)) (λ j. ap (λ (t : Outcome A L). t .rows) (visit-exact r o bound rows' tie oL j ls floors')) k one)
           ∙ ap (λ (t : Outcome A L). t .rows) (unread-anything rows' same) ∙ rows-nearest
 
       pub exchange-set : (l : L) → setOf rows' k l ≡ setOf rows k l
@@ -69,11 +69,11 @@ module _ {A : Type 0} (r : Ranking A) (o : Order (rowOrder r)) (xs : List A) whe
   -- the candidates are in row order, each as often as it is among xs and passes
   pub candidates-order : Sorted (rowOrder r) (candidates r xs)
   unfolding candidates
-  candidates-order = sorted-sort (rowOrder r) o (keep (r .passes) xs)
+  candidates-order = sorted-sort (rowOrder r) o (filter (r .passes) xs)
 
   pub candidates-count : (p : A → Bool) → count p (candidates r xs) ≡ count (λ x. r .passes x && p x) xs
   unfolding candidates
-  candidates-count p = count-sort (rowOrder r) p (keep (r .passes) xs) ∙ count-keep p (r .passes) xs
+  candidates-count p = count-sort (rowOrder r) p (filter (r .passes) xs) ∙ count-filter p (r .passes) xs
 
   -- the set in the words of demand 3: all leaves when there are fewer than k candidates, else those whose bound is at most the last row's cost
   pub set-few : (k b : ℕ) → length (candidates r xs) < k → inSet r k xs b ≡ true
@@ -102,12 +102,12 @@ module _ {A : Type 0} (r : Ranking A) (o : Order (rowOrder r)) (xs : List A) whe
   lists-join past asym strict ks = readOn-joins past asym r o xs strict ks
 
   -- (7) the k-th cost is at most m just if k candidates cost at most m
-  pub kth-at-most : (k m : ℕ) → 1 ≤ k → k ≤ count (atMost (r .cost) m) (keep (r .passes) xs) → kth r k (nearest r k xs) ≤ m
-  kth-at-most k m one h = from-one (λ n. n ≤ count (atMost (r .cost) m) (keep (r .passes) xs) → kth r n (nearest r n xs) ≤ m) (λ j. count-kth r o xs j m) k one h
+  pub kth-at-most : (k m : ℕ) → 1 ≤ k → k ≤ count (atMost (r .cost) m) (filter (r .passes) xs) → kth r k (nearest r k xs) ≤ m
+  kth-at-most k m one h = from-one (λ n. n ≤ count (atMost (r .cost) m) (filter (r .passes) xs) → kth r n (nearest r n xs) ≤ m) (λ j. count-kth r o xs j m) k one h
 
-  pub at-most-kth : (k m : ℕ) → 1 ≤ k → k ≤ length (candidates r xs) → kth r k (nearest r k xs) ≤ m → k ≤ count (atMost (r .cost) m) (keep (r .passes) xs)
+  pub at-most-kth : (k m : ℕ) → 1 ≤ k → k ≤ length (candidates r xs) → kth r k (nearest r k xs) ≤ m → k ≤ count (atMost (r .cost) m) (filter (r .passes) xs)
   at-most-kth k m one h g =
-      from-one (λ n. n ≤ length (candidates r xs) → kth r n (nearest r n xs) ≤ m → n ≤ count (atMost (r .cost) m) (keep (r .passes) xs)) (λ j. kth-count r o xs j m) k one h g
+      from-one (λ n. n ≤ length (candidates r xs) → kth r n (nearest r n xs) ≤ m → n ≤ count (atMost (r .cost) m) (filter (r .passes) xs)) (λ j. kth-count r o xs j m) k one h g
 
   -- and so goes over to another cost: if what costs at most the k-th cost here costs at most m there, the k-th cost there is at most m
   pub kth-moves : (r' : Ranking A) → Order (rowOrder r') → r' .passes ≡ r .passes → (k m : ℕ) → 1 ≤ k → k ≤ length (candidates r xs)
@@ -127,7 +127,7 @@ module _ {A : Type 0} (r : Ranking A) (o : Order (rowOrder r)) (xs : List A) whe
 pub reach-exact : {A L : Type 0} (r : Ranking A) (o : Order (rowOrder r)) (least : A → ℕ) (ol : Order (by least (r .tie)))
     (bound : L → ℕ) (rows : L → List A) (tie : L → L → Bool) (oL : Order (by bound tie)) (ls : List L)
     → All (λ l. All (λ x. (bound l ≤ least x) × (least x ≤ r .cost x)) (rows l)) ls → (k : ℕ) → 1 ≤ k
-    → withinReach r least k (flat rows ls) (flat rows ((bestFirst r bound rows k tie ls) .read)) ≡ withinReach r least k (flat rows ls) (flat rows ls)
+    → withinReach r least k (concatMap rows ls) (concatMap rows ((bestFirst r bound rows k tie ls) .read)) ≡ withinReach r least k (concatMap rows ls) (concatMap rows ls)
 reach-exact r o least ol bound rows tie oL ls floors k one =
-    from-one (λ n. withinReach r least n (flat rows ls) (flat rows ((bestFirst r bound rows n tie ls) .read)) ≡ withinReach r least n (flat rows ls) (flat rows ls))
+    from-one (λ n. withinReach r least n (concatMap rows ls) (concatMap rows ((bestFirst r bound rows n tie ls) .read)) ≡ withinReach r least n (concatMap rows ls) (concatMap rows ls))
     (λ j. reach-read r o least ol bound rows tie oL j ls floors) k one

@@ -3,7 +3,7 @@
 use mathlib.Core.Bool.{Bool, _&&_}
 use mathlib.Core.List.{List}
 use Prim.Native.Nat.{ℕ}
-use Rattle.lists.specs.Sorting.{keep, sort}
+use Rattle.lists.specs.Sorting.{filter, sort}
 use Rattle.lists.specs.Orders.{by}
 use Rattle.search_theory.specs.Nearest.{Ranking, inSet}
 
@@ -14,5 +14,5 @@ module _ {A : Type 0} (r : Ranking A) (least : A → ℕ) (k : ℕ) where
 
   -- the candidates among ys that may be, by least cost and then by the tie rule
   unfoldable pub withinReach : List A → List A → List A
-  unfolding keep sort
-  withinReach xs ys = sort (by least (r .tie)) (keep (mayBe xs) ys)
+  unfolding filter sort
+  withinReach xs ys = sort (by least (r .tie)) (filter (mayBe xs) ys)

@@ -7,16 +7,16 @@ use native.Mathlib.Omega.{arith}
 use lib.ListN.{length, take, getD, length-take}
 use lib.Dec.{ltb, leb, leb·suc-zero, leb·suc-suc}
 use borrow.Author.Tests.{ltb-true, ltb-false, lt-ltb, le-ltb, le-leb, lt-leb}
-use Rattle.lists.specs.Basics.{All, none, also, all-head, all-tail, all-map, flat}
-use Rattle.lists.specs.Tests.{cases, false-true}
-use Rattle.lists.specs.Sorting.{keep, count, sum, Order, ins, sort, insAll, offerAll, Sorted, end, next}
-use Rattle.lists.specs.SortingLaws.{all-sort, all-keep, none-before, sorted-ins, sorted-insAll, sorted-sort, sort-insAll, sort-canonical, insAll-append, offerAll-take, keep-append, keep-first, keep-none}
+use Rattle.lists.specs.Basics.{All, none, also, all-head, all-tail, all-map, concatMap}
+use Rattle.lists.specs.Tests.{false-true, by-cases}
+use Rattle.lists.specs.Sorting.{filter, count, sum, Order, insertBy, sort, insertAll, offerAll, Sorted, end, next}
+use Rattle.lists.specs.SortingLaws.{all-sort, all-filter, none-before, sorted-ins, sorted-insAll, sorted-sort, sort-insAll, sort-canonical, insAll-append, offerAll-take, filter-append, filter-first, filter-none}
 use Rattle.lists.specs.Orders.{by, by-lower}
-use Rattle.lists.specs.FlatLaws.{all-flat, count-flat, count-keep, sum-sort}
+use Rattle.lists.specs.ConcatMapLaws.{all-concatMap, count-concatMap, count-filter, sum-sort}
 use Rattle.search_theory.specs.Nearest.{Ranking, rowOrder, candidates, nearest, kth, exceeds, inSet, reading, offered, Floor, visit, bestFirst}
 
 pub by-floor : {A : Type 0} (f : A → ℕ) (r : A → A → Bool) (x y : A) → by f r y x ≡ false → f x ≤ f y
-by-floor f r x y e = cases (ltb (f y) (f x)) (λ t. false-true (sym e ∙ by-lower f r y x (ltb-true (f y) (f x) t))) (λ t. ltb-false (f y) (f x) t)
+by-floor f r x y e = by-cases (ltb (f y) (f x)) (λ t. false-true (sym e ∙ by-lower f r y x (ltb-true (f y) (f x) t))) (λ t. ltb-false (f y) (f x) t)
 
 -- ---- the stop test, by index: the cost at index j is below b
 
@@ -60,7 +60,7 @@ module _ {A : Type 0} (r : Ranking A) where
   exceeds-take j b xs = exceeds-below j b (take (suc j) xs) ∙ below-take (r .cost) j b xs ∙ sym (exceeds-below j b xs)
 
   not-below : (m b : ℕ) → not (ltb m b) ≡ leb b m
-  not-below m b = cases (ltb m b)
+  not-below m b = by-cases (ltb m b)
       (λ e. let q : m < b = ltb-true m b e in rw (e, lt-leb b m q))
       (λ e. let q : b ≤ m = ltb-false m b e in rw (e, le-leb b m q))
 
@@ -68,7 +68,7 @@ module _ {A : Type 0} (r : Ranking A) where
       → not (exceeds r (suc j) b rows) ≡ (ltb (length rows) (suc j) || leb b (kth r (length rows) rows))
   unfolding exceeds
   within-rows j b rows h =
-      cases (ltb (length rows) (suc j))
+      by-cases (ltb (length rows) (suc j))
       (λ e. let q : length rows < suc j = ltb-true (length rows) (suc j) e in rw (lt-leb (suc j) (length rows) q, e))
       (λ e. let q : suc j ≤ length rows = ltb-false (length rows) (suc j) e in
       let n : length rows ≡ suc j = omega arith in
@@ -87,46 +87,46 @@ module _ {A : Type 0} (r : Ranking A) (o : Order (rowOrder r)) where
   floor-all : (b : ℕ) (x : A) (ys : List A) → b ≤ r .cost x → All (λ y. rowOrder r y x ≡ false) ys → All (λ y. b ≤ r .cost y) ys
   floor-all b x ys h a = all-map (λ y e. let q = by-floor (r .cost) (r .tie) x y e in omega arith) a
 
-  below-ins : (j b : ℕ) (x : A) (s : List A) → b ≤ r .cost x → Sorted (rowOrder r) s → below (r .cost) j b (ins (rowOrder r) x s) ≡ below (r .cost) j b s
-  unfolding below ins
+  below-ins : (j b : ℕ) (x : A) (s : List A) → b ≤ r .cost x → Sorted (rowOrder r) s → below (r .cost) j b (insertBy (rowOrder r) x s) ≡ below (r .cost) j b s
+  unfolding below insertBy
   below-ins j b x [] h end = below-far (r .cost) j b (x ∷ []) (also h none)
   below-ins zero b x (y ∷ ys) h (next a s) =
-      cases (rowOrder r y x)
+      by-cases (rowOrder r y x)
       (λ e. rw e)
       (λ e. let q = by-floor (r .cost) (r .tie) x y e in rw e (le-ltb (r .cost x) b h ∙ sym (le-ltb (r .cost y) b (omega arith))))
   below-ins (suc j) b x (y ∷ ys) h (next a s) =
-      cases (rowOrder r y x)
+      by-cases (rowOrder r y x)
       (λ e. rw e (below-ins j b x ys h s))
       (λ e. let far = floor-all b x (y ∷ ys) h (also e (none-before (rowOrder r) o x y ys e a)) in
       rw e (below-far (r .cost) j b (y ∷ ys) far ∙ sym (below-far (r .cost) (suc j) b (y ∷ ys) far)))
 
   take-ins-far : (j b : ℕ) (x : A) (s : List A) → b ≤ r .cost x → Sorted (rowOrder r) s → below (r .cost) j b s ≡ true
-      → take (suc j) (ins (rowOrder r) x s) ≡ take (suc j) s
-  unfolding below ins
+      → take (suc j) (insertBy (rowOrder r) x s) ≡ take (suc j) s
+  unfolding below insertBy
   take-ins-far j b x [] h end g = false-true g
   take-ins-far zero b x (y ∷ ys) h (next a s) g =
-      cases (rowOrder r y x)
+      by-cases (rowOrder r y x)
       (λ e. rw e)
       (λ e. let q = by-floor (r .cost) (r .tie) x y e in false-true (sym (le-ltb (r .cost y) b (omega arith)) ∙ g))
   take-ins-far (suc j) b x (y ∷ ys) h (next a s) g =
-      cases (rowOrder r y x)
+      by-cases (rowOrder r y x)
       (λ e. rw e (ap (λ (t : List A). y ∷ t) (take-ins-far j b x ys h s g)))
       (λ e. let far = floor-all b x (y ∷ ys) h (also e (none-before (rowOrder r) o x y ys e a)) in
       false-true (sym (below-far (r .cost) (suc j) b (y ∷ ys) far) ∙ g))
 
   below-insAll : (j b : ℕ) (xs s : List A) → All (λ x. b ≤ r .cost x) xs → Sorted (rowOrder r) s
-      → below (r .cost) j b (insAll (rowOrder r) xs s) ≡ below (r .cost) j b s
-  unfolding insAll
+      → below (r .cost) j b (insertAll (rowOrder r) xs s) ≡ below (r .cost) j b s
+  unfolding insertAll
   below-insAll j b [] s none h = refl
   below-insAll j b (x ∷ xs) s (also f a) h =
-      below-insAll j b xs (ins (rowOrder r) x s) a (sorted-ins (rowOrder r) o x s h) ∙ below-ins j b x s f h
+      below-insAll j b xs (insertBy (rowOrder r) x s) a (sorted-ins (rowOrder r) o x s h) ∙ below-ins j b x s f h
 
   take-insAll-far : (j b : ℕ) (xs s : List A) → All (λ x. b ≤ r .cost x) xs → Sorted (rowOrder r) s → below (r .cost) j b s ≡ true
-      → take (suc j) (insAll (rowOrder r) xs s) ≡ take (suc j) s
-  unfolding insAll
+      → take (suc j) (insertAll (rowOrder r) xs s) ≡ take (suc j) s
+  unfolding insertAll
   take-insAll-far j b [] s none h g = refl
   take-insAll-far j b (x ∷ xs) s (also f a) h g =
-      take-insAll-far j b xs (ins (rowOrder r) x s) a (sorted-ins (rowOrder r) o x s h) (below-ins j b x s f h ∙ g)
+      take-insAll-far j b xs (insertBy (rowOrder r) x s) a (sorted-ins (rowOrder r) o x s h) (below-ins j b x s f h ∙ g)
       ∙ take-ins-far j b x s f h g
 
 -- ---- the visit
@@ -144,20 +144,20 @@ module _ {A L : Type 0} (r : Ranking A) (bound : L → ℕ) (rows : L → List A
 module _ {A L : Type 0} (r : Ranking A) (o : Order (rowOrder r)) (bound : L → ℕ) (rows : L → List A) (tie : L → L → Bool) where
   -- rows s with the candidates of leaves ls
   filled : List L → List A → List A
-  filled ls s = insAll (rowOrder r) (keep (r .passes) (flat rows ls)) s
+  filled ls s = insertAll (rowOrder r) (filter (r .passes) (concatMap rows ls)) s
 
-  filled-cons : (l : L) (ls : List L) (s : List A) → filled (l ∷ ls) s ≡ filled ls (insAll (rowOrder r) (keep (r .passes) (rows l)) s)
-  unfolding filled flat
+  filled-cons : (l : L) (ls : List L) (s : List A) → filled (l ∷ ls) s ≡ filled ls (insertAll (rowOrder r) (filter (r .passes) (rows l)) s)
+  unfolding filled concatMap
   filled-cons l ls s =
-      ap (λ (xs : List A). insAll (rowOrder r) xs s) (keep-append (r .passes) (rows l) (flat rows ls))
-      ∙ insAll-append (rowOrder r) (keep (r .passes) (rows l)) (keep (r .passes) (flat rows ls)) s
+      ap (λ (xs : List A). insertAll (rowOrder r) xs s) (filter-append (r .passes) (rows l) (concatMap rows ls))
+      ∙ insAll-append (rowOrder r) (filter (r .passes) (rows l)) (filter (r .passes) (concatMap rows ls)) s
 
   -- bounds of leaves in order rise, so all candidates that are left are at or past the next bound
   far-rows : (l : L) (ls : List L) → All (Floor r bound rows) (l ∷ ls) → Sorted (by bound tie) (l ∷ ls)
-      → All (λ x. bound l ≤ r .cost x) (keep (r .passes) (flat rows (l ∷ ls)))
+      → All (λ x. bound l ≤ r .cost x) (filter (r .passes) (concatMap rows (l ∷ ls)))
   far-rows l ls (also f fs) (next a s) =
-      all-keep (r .passes) (flat rows (l ∷ ls))
-      (all-flat rows (l ∷ ls) (also f (later ls fs a)))
+      all-filter (r .passes) (concatMap rows (l ∷ ls))
+      (all-concatMap rows (l ∷ ls) (also f (later ls fs a)))
     where
       later : (ms : List L) → All (Floor r bound rows) ms → All (λ m. by bound tie m l ≡ false) ms → All (λ m. All (λ x. bound l ≤ r .cost x) (rows m)) ms
       later [] none none = none
@@ -165,53 +165,53 @@ module _ {A L : Type 0} (r : Ranking A) (o : Order (rowOrder r)) (bound : L → 
           also (all-map (λ x h. let q = by-floor bound tie l m e in omega arith) g) (later ms gs es)
 
   none-left : (j b : ℕ) (l : L) (ls : List L) (t : List A) → b ≤ bound l → Sorted (by bound tie) (l ∷ ls) → below (r .cost) j b t ≡ true
-      → keep (λ m. not (exceeds r (suc j) (bound m) t)) (l ∷ ls) ≡ []
-  none-left j b l ls t h (next a s) e = keep-none (λ m. not (exceeds r (suc j) (bound m) t)) (l ∷ ls) (also (over l h) (all-map (λ m g. over m (let q = by-floor bound tie l m g in omega arith)) a))
+      → filter (λ m. not (exceeds r (suc j) (bound m) t)) (l ∷ ls) ≡ []
+  none-left j b l ls t h (next a s) e = filter-none (λ m. not (exceeds r (suc j) (bound m) t)) (l ∷ ls) (also (over l h) (all-map (λ m g. over m (let q = by-floor bound tie l m g in omega arith)) a))
     where
       over : (m : L) → b ≤ bound m → not (exceeds r (suc j) (bound m) t) ≡ false
       over m g = ap not (exceeds-below r j (bound m) t ∙ below-more (r .cost) j b (bound m) t g e)
 
   visit-filled : (j : ℕ) (ls : List L) (s : List A) → All (Floor r bound rows) ls → Sorted (by bound tie) ls → Sorted (rowOrder r) s
       → visit r bound rows (suc j) ls (take (suc j) s)
-      ≡ record { rows = take (suc j) (filled ls s); read = keep (λ l. not (exceeds r (suc j) (bound l) (filled ls s))) ls }
-  unfolding visit filled flat keep insAll
+      ≡ record { rows = take (suc j) (filled ls s); read = filter (λ l. not (exceeds r (suc j) (bound l) (filled ls s))) ls }
+  unfolding visit filled concatMap filter insertAll
   visit-filled j [] s none end h = refl
   visit-filled j (l ∷ ls) s (also f fs) (next a q) h =
       let far = far-rows l ls (also f fs) (next a q) in
       let later : below (r .cost) j (bound l) (filled (l ∷ ls) s) ≡ below (r .cost) j (bound l) s = below-insAll r o j (bound l) _ s far h in
       let now : exceeds r (suc j) (bound l) (take (suc j) s) ≡ below (r .cost) j (bound l) s = exceeds-take r j (bound l) s ∙ exceeds-below r j (bound l) s in
-      cases (below (r .cost) j (bound l) s)
+      by-cases (below (r .cost) j (bound l) s)
       (λ e. visit-stop r bound rows (suc j) l ls (take (suc j) s) (now ∙ e)
       ∙ ap₂ (λ (u : List A) (v : List L). record { rows = u; read = v })
       (sym (take-insAll-far r o j (bound l) _ s far h e))
       (sym (none-left j (bound l) l ls (filled (l ∷ ls) s) (omega arith) (next a q) (later ∙ e))))
       (λ e. visit-read r bound rows (suc j) l ls (take (suc j) s) (now ∙ e)
-      ∙ ap (λ (t : List A). reading l (visit r bound rows (suc j) ls t)) (offerAll-take (rowOrder r) (suc j) (keep (r .passes) (rows l)) s)
-      ∙ ap (reading l) (visit-filled j ls (insAll (rowOrder r) (keep (r .passes) (rows l)) s) fs q (sorted-insAll (rowOrder r) o (keep (r .passes) (rows l)) s h))
-      ∙ ap (λ (t : List A). reading l (record { rows = take (suc j) t; read = keep (λ m. not (exceeds r (suc j) (bound m) t)) ls })) (sym (filled-cons l ls s))
+      ∙ ap (λ (t : List A). reading l (visit r bound rows (suc j) ls t)) (offerAll-take (rowOrder r) (suc j) (filter (r .passes) (rows l)) s)
+      ∙ ap (reading l) (visit-filled j ls (insertAll (rowOrder r) (filter (r .passes) (rows l)) s) fs q (sorted-insAll (rowOrder r) o (filter (r .passes) (rows l)) s h))
+      ∙ ap (λ (t : List A). reading l (record { rows = take (suc j) t; read = filter (λ m. not (exceeds r (suc j) (bound m) t)) ls })) (sym (filled-cons l ls s))
       ∙ ap (λ (v : List L). record { rows = take (suc j) (filled (l ∷ ls) s); read = v })
-      (sym (keep-first (λ m. not (exceeds r (suc j) (bound m) (filled (l ∷ ls) s))) l ls (ap not (exceeds-below r j (bound l) (filled (l ∷ ls) s) ∙ later ∙ e)))))
+      (sym (filter-first (λ m. not (exceeds r (suc j) (bound m) (filled (l ∷ ls) s))) l ls (ap not (exceeds-below r j (bound l) (filled (l ∷ ls) s) ∙ later ∙ e)))))
 
   -- candidates do not go by the order of the leaves
-  candidates-sorted : (ls : List L) → candidates r (flat rows (sort (by bound tie) ls)) ≡ candidates r (flat rows ls)
+  candidates-sorted : (ls : List L) → candidates r (concatMap rows (sort (by bound tie) ls)) ≡ candidates r (concatMap rows ls)
   unfolding candidates
   candidates-sorted ls =
       sort-canonical (rowOrder r) o _ _ (λ p.
-      count-keep p (r .passes) (flat rows (sort (by bound tie) ls))
-      ∙ count-flat _ rows (sort (by bound tie) ls) ∙ sum-sort (by bound tie) _ ls ∙ sym (count-flat _ rows ls)
-      ∙ sym (count-keep p (r .passes) (flat rows ls)))
+      count-filter p (r .passes) (concatMap rows (sort (by bound tie) ls))
+      ∙ count-concatMap _ rows (sort (by bound tie) ls) ∙ sum-sort (by bound tie) _ ls ∙ sym (count-concatMap _ rows ls)
+      ∙ sym (count-filter p (r .passes) (concatMap rows ls)))
 
   module _ (oL : Order (by bound tie)) (j : ℕ) (ls : List L) (floors : All (Floor r bound rows) ls) where
     pub visit-exact : bestFirst r bound rows (suc j) tie ls
-        ≡ record { rows = nearest r (suc j) (flat rows ls); read = keep (λ l. inSet r (suc j) (flat rows ls) (bound l)) (sort (by bound tie) ls) }
+        ≡ record { rows = nearest r (suc j) (concatMap rows ls); read = filter (λ l. inSet r (suc j) (concatMap rows ls) (bound l)) (sort (by bound tie) ls) }
     unfolding bestFirst nearest candidates filled
     visit-exact =
         let leaves = sort (by bound tie) ls in
-        let all : filled leaves [] ≡ candidates r (flat rows ls) = sym (sort-insAll (rowOrder r) o _) ∙ candidates-sorted ls in
+        let all : filled leaves [] ≡ candidates r (concatMap rows ls) = sym (sort-insAll (rowOrder r) o _) ∙ candidates-sorted ls in
         visit-filled j leaves [] (all-sort (by bound tie) ls floors) (sorted-sort (by bound tie) oL ls) end
-        ∙ ap (λ (c : List A). record { rows = take (suc j) c; read = keep (λ l. not (exceeds r (suc j) (bound l) c)) leaves }) all
-        ∙ ap (λ (p : L → Bool). record { rows = nearest r (suc j) (flat rows ls); read = keep p leaves })
-        (fun-ext (λ l. sym (inSet-exceeds r j (flat rows ls) (bound l))))
+        ∙ ap (λ (c : List A). record { rows = take (suc j) c; read = filter (λ l. not (exceeds r (suc j) (bound l) c)) leaves }) all
+        ∙ ap (λ (p : L → Bool). record { rows = nearest r (suc j) (concatMap rows ls); read = filter p leaves })
+        (fun-ext (λ l. sym (inSet-exceeds r j (concatMap rows ls) (bound l))))
 
 -- ---- the visit looks at no leaf that it does not read
 
@@ -221,7 +221,7 @@ module _ {A L : Type 0} (r : Ranking A) (bound : L → ℕ) (rows rows' : L → 
   unfolding visit
   visit-alike [] s = λ h. refl
   visit-alike (l ∷ ls) s =
-      cases (exceeds r k (bound l) s)
+      by-cases (exceeds r k (bound l) s)
       (λ e. rw e (λ h. refl))
       (λ e. rw e (λ h. rw (all-head h) (ap (reading l) (visit-alike ls (offered r bound rows k l s) (all-tail h)))))
 
@@ -234,6 +234,6 @@ module _ {A L K : Type 0} (f : L → K) (r : Ranking A) (bound : L → ℕ) (row
   visit-map [] s none = refl
   visit-map (l ∷ ls) s (also h a) =
       rw (h .0, h .1)
-      (cases (exceeds r k (bound l) s)
+      (by-cases (exceeds r k (bound l) s)
       (λ e. rw e)
       (λ e. rw e (ap (reading (f l)) (visit-map ls (offered r bound rows k l s) a))))

@@ -9,10 +9,12 @@ use lib.ListN.{length, getD, take, set, length-append, length-map, length-take}
 use lib.Seq.{take-suc-set}
 use borrow.Author.Tests.{eq-eqb, ne-eqb, ltb-true, ltb-false}
 use Rattle.lists.specs.Basics.{All, none, all-append}
-use Rattle.lists.specs.Counts.{mult, by-cases, mult-append}
-use Rattle.lists.specs.FlatLaws.{map-append}
-use Rattle.lists.specs.Members.{At, same?, get-spot, spot-get, spot-below, spot-map, map-spot, all-spot, spots-all, mult-two, mult-find-two}
+use Rattle.lists.specs.Counts.{mult, mult-append, mult-none}
+use Rattle.lists.specs.ConcatMapLaws.{map-append}
+use Rattle.lists.specs.Members.{At, get-spot, spot-get, spot-below, spot-map, map-spot, all-spot, spots-all, mult-two, mult-find-two}
 use Rattle.lists.specs.Sorting.{sum}
+use Rattle.lists.specs.Tests.{by-cases, decide}
+use Rattle.lists.specs.Lengths.{length-none}
 use Rattle.pagestore.specs.declared.Record.{Record}
 use Rattle.pagestore.specs.Store.{leaf, recordsOf, recordsIn, View, viewOf, pageAt, levelAt, leafAt}
 use Rattle.pagestore.specs.declared.Leaf.{Leaf}
@@ -22,7 +24,7 @@ use Rattle.sound_faults.specs.Faults.{FailsAt}
 use Rattle.sound_faults.specs.Linked.{Followed}
 use Rattle.sound_faults.specs.Stored.{view-stored}
 use Rattle.sound_faults.specs.Shapes.{idents}
-use Rattle.sound_faults.specs.Assembled.{reached-page, mult-none, live-idents}
+use Rattle.sound_faults.specs.Assembled.{reached-page, live-idents}
 use Rattle.sound_faults.specs.Repeated.{repeated-fails}
 use Rattle.sound_repeats.specs.Repeats.{lowestRepeat, Repeated}
 use Rattle.sound_repeats.proofs.RepeatsLaws.{lowest-repeat}
@@ -71,18 +73,14 @@ if-yes : (v : View) (m : List ℕ) (p : ℕ) → ¬ (getD m p 0 ≡ 0) → pairs
 unfolding pairsIf
 if-yes v m p n = rw (ne-eqb (getD m p 0) 0 n)
 
-no-records : (xs : List Record) → length xs ≡ 0 → xs ≡ []
-no-records [] h = refl
-no-records (x ∷ xs) h = absurd (omega arith)
-
 inner-pairs : (b : List ℕ) (p : ℕ) → ¬ (levelAt b p ≡ 0) → pairsOn (viewOf b) p ≡ []
 unfolding pairsOn viewOf
-inner-pairs b p n = ap (map (λ r. (r .id, p))) (no-records (recordsOf (pageAt b p)) (inner-points b p n))
+inner-pairs b p n = ap (map (λ r. (r .id, p))) (length-none (recordsOf (pageAt b p)) (inner-points b p n))
 
 -- a page that is not marked as a leaf has none
 pub other-pairs : (b m : List ℕ) (p : ℕ) → MarksAre (viewOf b) m → ¬ (getD m p 0 ≡ 1) → pairsIf (viewOf b) m p ≡ []
 other-pairs b m p s n =
-    same? (getD m p 0) 0
+    decide (getD m p 0) 0
     (λ h. if-no (viewOf b) m p h)
     (λ h. if-yes (viewOf b) m p h ∙ inner-pairs b p (λ z. n (omega (arith, s .all p (s .reached p (omega (arith, h))), view-level b p, z))))
 
@@ -149,7 +147,7 @@ module _ (v : View) (m : List ℕ) where
   -- page 0 is not marked
   pub gathered-start : (ids holders : List ℕ) → MarksAre v m → Gathered v m 1 0 ids holders
   gathered-start ids holders s =
-      let off : pairsIf v m 0 ≡ [] = if-no v m 0 (same? (getD m 0 0) 0 (λ z. z) (λ d. absurd (omega (arith, reached-page (s .reached 0 (omega (arith, d))) .0)))) in
+      let off : pairsIf v m 0 ≡ [] = if-no v m 0 (decide (getD m 0 0) 0 (λ z. z) (λ d. absurd (omega (arith, reached-page (s .reached 0 (omega (arith, d))) .0)))) in
       gathered-none {p = 0} (record {
         few = omega arith;
         count = sym (ap length pairs-none);
@@ -178,7 +176,7 @@ module _ (v : View) (m : List ℕ) where
         ap (λ (z : ℕ). g (map identOn (pairsTo v m z))) (sym (add-one k)) ∙ ap (λ (xs : List (ℕ × ℕ)). g (map identOn xs)) (pairs-step k)
         ∙ ap g (map-append identOn (pairsTo v m k) (pairsIf v m k)) ∙ both (map identOn (pairsTo v m k)) (map identOn (pairsIf v m k)) in
         let f : sum (λ p. g (idents v p)) (markedTo m (suc k)) ≡ sum (λ p. g (idents v p)) (markedTo m (k + 1)) = ap (λ (z : ℕ). sum (λ p. g (idents v p)) (markedTo m z)) (sym (add-one k)) in
-        same? (getD m k 0) 0
+        decide (getD m k 0) 0
         (λ h. omega (arith, e, f, counted-pairs k, ap (sum (λ p. g (idents v p))) (marked-no m k h), ap (λ (xs : List (ℕ × ℕ)). g (map identOn xs)) (if-no v m k h), zip))
         (λ h. omega (arith, e, f, counted-pairs k, ap (sum (λ p. g (idents v p))) (marked-yes m k h), ap (λ (xs : List (ℕ × ℕ)). g (map identOn xs)) (if-yes v m k h), ap g (idents-on v k)))
 
@@ -199,7 +197,7 @@ module _ (v : View) (m : List ℕ) where
 
   if-page : (p : ℕ) → All PairOk (pairsIf v m p)
   if-page p =
-      same? (getD m p 0) 0
+      decide (getD m p 0) 0
       (λ h. subst (All PairOk) (sym (if-no v m p h)) none)
       (λ h. subst (All PairOk) (sym (if-yes v m p h)) (on-page p (omega (arith, h))))
 
@@ -279,7 +277,7 @@ module _ (b m : List ℕ) (c : Counted (viewOf b) m) where
       → Found ((i : ℕ) → mult i (map identOf (live (viewOf b))) ≤ 1) (FailsAt (viewOf b)) r
   repeat-found {n} {r} {ids} {holders} k e =
       let s : r ≡ lowestRepeat is hs = e ∙ (λ i. lowestRepeat (k .idents i) (k .pages i)) in
-      same? r 0
+      decide r 0
       (λ z. subst (Found ((i : ℕ) → mult i (map identOf (live v)) ≤ 1) (FailsAt v)) (sym z) (nowhere (distinct (sym s ∙ z))))
       (λ d. let o : 0 < lowestRepeat is hs = omega (arith, s, d) in
       let h = lowest-repeat is hs .held o in

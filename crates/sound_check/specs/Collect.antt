@@ -4,7 +4,7 @@ use mathlib.Core.List.{List, [], _++_, map}
 use Prim.Native.Nat.{ℕ, zero, suc, _+_, _*_, _≤_}
 use lib.Dec.{eqb}
 use lib.ListN.{length, getD, take}
-use Rattle.lists.specs.Basics.{pick}
+use Rattle.lists.specs.Basics.{if}
 use Rattle.pagestore.specs.Store.{recordsOf, View}
 use Rattle.sound_faults.specs.Faults.{FailsAt}
 use Rattle.sound_pages.specs.Judged.{Found}
@@ -23,7 +23,7 @@ pairsOn v p = map (λ r. (r .id, p)) (recordsOf (v .page p))
 
 -- those of page p, if it is marked in m
 unfoldable pub pairsIf : View → List ℕ → ℕ → List (ℕ × ℕ)
-pairsIf v m p = pick (eqb (getD m p 0) 0) [] (pairsOn v p)
+pairsIf v m p = if (eqb (getD m p 0) 0) [] (pairsOn v p)
 
 -- those of the marked pages below k, the lowest page first
 unfoldable pub pairsTo : View → List ℕ → ℕ → List (ℕ × ℕ)

@@ -5,7 +5,7 @@
 ghost use mathlib.Core.Path.{_≡_};
 ghost use Prim.Native.Nat.{_≤_};
 ghost use lib.Dec.{eqb};
-ghost use Rattle.lists.specs.Basics.{pick};
+ghost use Rattle.lists.specs.Basics.{if};
 ghost use Rattle.pagestore.specs.Store.{viewOf};
 ghost use Rattle.sound_pages.specs.Marks.{Clear, MarksAre};
 ghost use Rattle.sound_check.specs.Outcome.{Start, Lent, Whole, Verdict};
@@ -14,7 +14,6 @@ use pagestore::page_count;
 use pagestore::root_level;
 use pagestore::root_page;
 use pagestore::total_records;
-use sound_repeats::lowest_repeat_of;
 use sound_pages::find_lost;
 use sound_pages::header_fine;
 use sound_pages::judge_parents;
@@ -22,6 +21,7 @@ use sound_pages::place;
 use sound_pages::reach;
 use sound_pages::root_filled;
 use sound_pages::walk_freed;
+use sound_repeats::lowest_repeat_of;
 use visiting::visit;
 
 mod visiting;
@@ -39,7 +39,7 @@ pub struct Visit {
 }
 
 fn code_of(page: u32) -> u8
-    ensures { λ r. ⌜ r ≡ pick (eqb page 0) 0 2 ⌝ }
+    ensures { λ r. ⌜ r ≡ if (eqb page 0) 0 2 ⌝ }
 {
     if page == 0 { 0 } else { 2 }
 }

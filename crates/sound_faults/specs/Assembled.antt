@@ -7,13 +7,14 @@ use native.Mathlib.Omega.{arith}
 use lib.Dec.{eqb, ltb}
 use lib.ListN.{length, length-append, length-map}
 use borrow.Author.Tests.{ltb-true, ltb-false, lt-ltb, le-ltb, eq-eqb, ne-eqb}
-use Rattle.lists.specs.Basics.{All, none, also, all-append, flat, tick}
+use Rattle.lists.specs.Basics.{All, none, also, all-append, concatMap, indicator}
 use Rattle.lists.specs.Ascending.{Ascending}
-use Rattle.lists.specs.Counts.{mult, by-cases, mult-append, mult-not, up-below, up-past, up-within}
-use Rattle.lists.specs.Members.{At, same?, all-spot, spots-all, spot-map, map-spot, mult-spot, mult-find, mult-find-two, flat-find}
+use Rattle.lists.specs.Counts.{mult, mult-append, mult-not, rangeFrom-below, rangeFrom-past, rangeFrom-within, mult-none}
+use Rattle.lists.specs.Members.{At, all-spot, spots-all, spot-map, map-spot, mult-spot, mult-find, mult-find-two, concatMap-find}
 use Rattle.lists.specs.Sorting.{sum}
-use Rattle.lists.specs.FlatLaws.{map-append}
+use Rattle.lists.specs.ConcatMapLaws.{map-append}
 use Rattle.lists.specs.Weights.{sum-one, sum-only, sum-zero, sum-some, sum-members}
+use Rattle.lists.specs.Tests.{by-cases, decide}
 use Rattle.pagestore.specs.declared.Record.{Record}
 use Rattle.pagestore.specs.declared.Entry.{Entry}
 use Rattle.pagestore.specs.Store.{Page, leaf, inner, levelOf, fillOf, recordsOf, entriesOf, View}
@@ -56,16 +57,12 @@ unfolding Rep Filled
 all-zero v [] = (none, none)
 all-zero v (r ∷ rs) = let h = all-zero v rs in (also tt (h .0), also tt (h .1))
 
-pub mult-none : (q : ℕ) → mult q [] ≡ 0
-unfolding mult
-mult-none q = refl
-
 pub page-tree : (l : ℕ) (v : View) (p : ℕ) → treeAt l v p .0 ≡ p
 unfolding treeAt
 page-tree zero v p = refl
 page-tree (suc l) v p = refl
 
-pub is-page : (v : View) (q : ℕ) → IsPage v q → tick (isPage v q) ≡ 1
+pub is-page : (v : View) (q : ℕ) → IsPage v q → indicator (isPage v q) ≡ 1
 is-page v q h = rw (lt-ltb 0 q (h .0), lt-ltb q (v .count) (h .1))
 
 filled-root : (d l : ℕ) (t : Item (suc l)) → RootFill (node d l (t .1)) → RootFilled l t
@@ -129,7 +126,7 @@ module _ (v : View) (st : Stored v) (c : Linked v) where
       record {
         rep = (leaf-of (v .page p) k (st .items p) (fill-most h), all-zero v rs .0);
         fills = all-zero v rs .1;
-        inside = λ q m. same? q p (λ e. subst (Reached v) (sym e) h)
+        inside = λ q m. decide q p (λ e. subst (Reached v) (sym e) h)
             (λ n. absurd (omega (arith, m, mult-none q, mult-not q p [] n, ap (λ (z : List ℕ). mult q (p ∷ z)) (no-pages rs))));
       }
   built (suc l) p h k =
@@ -141,8 +138,8 @@ module _ (v : View) (st : Stored v) (c : Linked v) where
       record {
         rep = (pg ∙ (λ i. inner l (size i) (kids-is l ks i)), kids-all l (λ e x. x .built .rep) ks);
         fills = kids-all l (λ e x. x .filled) ks;
-        inside = λ q m. same? q p (λ e. subst (Reached v) (sym e) h) (λ n.
-            let w = flat-find (pages (suc l)) q ts (omega (arith, m, mult-not q p (flat (pages (suc l)) ts) n)) in
+        inside = λ q m. decide q p (λ e. subst (Reached v) (sym e) h) (λ n.
+            let w = concatMap-find (pages (suc l)) q ts (omega (arith, m, mult-not q p (concatMap (pages (suc l)) ts) n)) in
             let x = map-spot (λ e. treeAt l v (e .child)) es (w .2) in
             all-spot ks (x .1) .built .inside q (subst (λ (z : Item (suc l)). 0 < mult q (pages (suc l) z)) (x .2) (w .3)));
       }
@@ -153,10 +150,10 @@ module _ (v : View) (st : Stored v) (c : Linked v) where
       pub order : Ascending (itemRanks (v .d) (suc l) (treeAt l v p))
       pub ranges : All (RecordOk (v .d)) (records (suc l) (treeAt l v p))
 
-    flat-all : (l : ℕ) {ts : List (Item l)} → All (λ t. All (RecordOk (v .d)) (records l t)) ts → All (RecordOk (v .d)) (flat (records l) ts)
-    unfolding flat
-    flat-all l none = none
-    flat-all l (also h a) = all-append h (flat-all l a)
+    concatMap-all : (l : ℕ) {ts : List (Item l)} → All (λ t. All (RecordOk (v .d)) (records l t)) ts → All (RecordOk (v .d)) (concatMap (records l) ts)
+    unfolding concatMap
+    concatMap-all l none = none
+    concatMap-all l (also h a) = all-append h (concatMap-all l a)
 
     sorted : (l p : ℕ) → Reached v p → levelOf (v .page p) ≡ l → Sorted l p
     unfolding treeAt node records
@@ -174,8 +171,8 @@ module _ (v : View) (st : Stored v) (c : Linked v) where
         let ts : List (Item (suc l)) = map (λ e. treeAt l v (e .child)) es in
         record {
           order = kids-asc (v .d) l ts (kids-all l (λ e x. x .filled) ks) (kids-all l (λ e x. sorted l (e .child) (x .reached) (x .level) .order) ks)
-              (subst (λ (z : List Entry). Ascending (flat ends z)) (kids-is l ks) (subst (λ (x : Page). Ascending (ranksIn (v .d) x)) pg (fine p h .order)));
-          ranges = flat-all (suc l) (kids-all l (λ e x. sorted l (e .child) (x .reached) (x .level) .ranges) ks);
+              (subst (λ (z : List Entry). Ascending (concatMap ends z)) (kids-is l ks) (subst (λ (x : Page). Ascending (ranksIn (v .d) x)) pg (fine p h .order)));
+          ranges = concatMap-all (suc l) (kids-all l (λ e x. sorted l (e .child) (x .reached) (x .level) .ranges) ks);
         }
 
   -- ---- THE WHOLE TREE
@@ -197,16 +194,16 @@ module _ (v : View) (st : Stored v) (c : Linked v) where
   unfolding treeOf
   inside q h = whole .inside q h
 
-  named : (q : ℕ) → mult q ps ≡ tick (eqb q (v .root)) + sum (λ p. mult q (kids v p)) ps
+  named : (q : ℕ) → mult q ps ≡ indicator (eqb q (v .root)) + sum (λ p. mult q (kids v p)) ps
   unfolding treeOf
   named q =
-      pages-named v q (v .level) (treeOf v) whole-rep ∙ ap (λ (z : ℕ). tick (eqb q z) + sum (λ p. mult q (kids v p)) ps) (page-tree (v .level) v (v .root))
+      pages-named v q (v .level) (treeOf v) whole-rep ∙ ap (λ (z : ℕ). indicator (eqb q z) + sum (λ p. mult q (kids v p)) ps) (page-tree (v .level) v (v .root))
 
-  tick-same : (a : ℕ) → tick (eqb a a) ≡ 1
-  tick-same a = ap tick (eq-eqb a a refl)
+  indicator-same : (a : ℕ) → indicator (eqb a a) ≡ 1
+  indicator-same a = ap indicator (eq-eqb a a refl)
 
   in-tree : (q : ℕ) → Reached v q → 0 < mult q ps
-  in-tree q (Reached.root g f) = omega (arith, named (v .root), tick-same (v .root))
+  in-tree q (Reached.root g f) = omega (arith, named (v .root), indicator-same (v .root))
   in-tree q (Reached.entry {p = p} {e = e} h a g l f) =
       omega (arith, named (e .child), sum-one (λ z. mult (e .child) (kids v z)) ps p (in-tree p h), mult-spot (spot-map childOf a))
 
@@ -223,12 +220,12 @@ module _ (v : View) (st : Stored v) (c : Linked v) where
 
   no-root : (p : ℕ) → 0 < mult p ps → mult (v .root) (kids v p) ≡ 0
   no-root p h =
-      same? (mult (v .root) (kids v p)) 0 (λ e. e)
+      decide (mult (v .root) (kids v p)) 0 (λ e. e)
       (λ n. let x = names p (v .root) h (omega (arith, n)) in absurd (c .fine p (x .0) (x .1) (x .2) .root (x .3)))
 
   no-other : (p q r : ℕ) → 0 < mult p ps → 0 < mult q (kids v p) → 0 < mult r ps → r ≢ p → mult q (kids v r) ≡ 0
   no-other p q r h k g n =
-      same? (mult q (kids v r)) 0 (λ e. e)
+      decide (mult q (kids v r)) 0 (λ e. e)
       (λ z. let x = names p q h k in let y = names r q g (omega (arith, z)) in
       absurd (n (c .alone r (y .0) p (x .0) (y .1) (x .1) (y .2) (x .2) (y .3 ∙ sym (x .3)) .0)))
 
@@ -245,17 +242,17 @@ module _ (v : View) (st : Stored v) (c : Linked v) where
   -- each page is at most once in the tree: by the only page that names it
   once-step : (q : ℕ) → ((p : ℕ) → 0 < mult p ps → 0 < mult q (kids v p) → mult p ps ≤ 1) → mult q ps ≤ 1
   once-step q by =
-      same? q (v .root)
-      (λ e. subst (λ (z : ℕ). mult z ps ≤ 1) (sym e) (omega (arith, named (v .root), tick-same (v .root), sum-zero (λ p. mult (v .root) (kids v p)) ps no-root)))
+      decide q (v .root)
+      (λ e. subst (λ (z : ℕ). mult z ps ≤ 1) (sym e) (omega (arith, named (v .root), indicator-same (v .root), sum-zero (λ p. mult (v .root) (kids v p)) ps no-root)))
       (λ n. ⊎-elim
       (λ x. omega (
         arith,
         named q,
-        ap tick (ne-eqb q (v .root) n),
+        ap indicator (ne-eqb q (v .root) n),
         by (x .0) (x .1) (x .2),
         sum-only (λ p. mult q (kids v p)) (x .0) ps (one-kid (x .0) q (x .1)) (λ r g d. no-other (x .0) q r (x .1) (x .2) g d),
       ))
-      (λ z. omega (arith, named q, ap tick (ne-eqb q (v .root) n), sum-zero (λ p. mult q (kids v p)) ps z))
+      (λ z. omega (arith, named q, ap indicator (ne-eqb q (v .root) n), sum-zero (λ p. mult q (kids v p)) ps z))
       (sum-some (λ p. mult q (kids v p)) ps))
 
   level-up : (p q : ℕ) → 0 < mult p ps → 0 < mult q (kids v p) → suc (levelOf (v .page q)) ≡ levelOf (v .page p)
@@ -278,37 +275,37 @@ module _ (v : View) (st : Stored v) (c : Linked v) where
   used q (Reached.entry {p = p} {i = i} {e = e} h a g l f) =
       let ok = c .fine p i e (record { reached = h; at = a }) in (ok .freed, ok .fresh, g)
 
-  out : (q : ℕ) → v .count ≤ q → tick (isPage v q) ≡ 0
+  out : (q : ℕ) → v .count ≤ q → indicator (isPage v q) ≡ 0
   out q h = by-cases (ltb 0 q) (λ a. rw (a, le-ltb q (v .count) h)) (λ a. rw a)
 
   fresh-below : (q : ℕ) → q < v .fresh → mult q (freshPages v) ≡ 0
-  fresh-below q h = up-below q (v .fresh) (v .count - v .fresh) h
+  fresh-below q h = rangeFrom-below q (v .fresh) (v .count - v .fresh) h
 
   abbrev seen : ℕ → ℕ
   seen q = mult q ps + (mult q (v .freed) + mult q (freshPages v))
 
   -- a page of neither tree nor freed list, below the never used ones, and one of these
-  once-low : (q : ℕ) → ((p : ℕ) → IsPage v p → InState v p) → mult q ps ≡ 0 → mult q (v .freed) ≡ 0 → q < v .fresh → seen q ≡ tick (isPage v q)
+  once-low : (q : ℕ) → ((p : ℕ) → IsPage v p → InState v p) → mult q ps ≡ 0 → mult q (v .freed) ≡ 0 → q < v .fresh → seen q ≡ indicator (isPage v q)
   once-low q state a b l =
       by-cases (ltb 0 q)
       (λ y. let g : IsPage v q = (ltb-true 0 q y, omega (arith, c .ground .header .fresh .1)) in
       absurd (⊎-elim (λ r. omega (arith, in-tree q r)) (λ w. ⊎-elim (λ f. omega (arith, f)) (λ u. omega (arith, u)) w) (state q g)))
-      (λ y. let o : tick (isPage v q) ≡ 0 = rw y in omega (arith, fresh-below q l))
+      (λ y. let o : indicator (isPage v q) ≡ 0 = rw y in omega (arith, fresh-below q l))
 
-  once-high : (q : ℕ) → mult q ps ≡ 0 → mult q (v .freed) ≡ 0 → v .fresh ≤ q → seen q ≡ tick (isPage v q)
+  once-high : (q : ℕ) → mult q ps ≡ 0 → mult q (v .freed) ≡ 0 → v .fresh ≤ q → seen q ≡ indicator (isPage v q)
   once-high q a b l =
       let h = c .ground .header .fresh in
       by-cases (ltb q (v .count))
       (λ y. let m : q < v .count = ltb-true q (v .count) y in
-      omega (arith, is-page v q (omega (arith, h .0), m), up-within q (v .fresh) (v .count - v .fresh) l (omega (arith, h .1))))
+      omega (arith, is-page v q (omega (arith, h .0), m), rangeFrom-within q (v .fresh) (v .count - v .fresh) l (omega (arith, h .1))))
       (λ y. let m : v .count ≤ q = ltb-false q (v .count) y in
-      omega (arith, out q m, up-past q (v .fresh) (v .count - v .fresh) (omega (arith, h .1))))
+      omega (arith, out q m, rangeFrom-past q (v .fresh) (v .count - v .fresh) (omega (arith, h .1))))
 
   -- each page but the header is just once in the tree, freed or never used
-  once : ((p : ℕ) → IsPage v p → InState v p) → (q : ℕ) → seen q ≡ tick (isPage v q)
+  once : ((p : ℕ) → IsPage v p → InState v p) → (q : ℕ) → seen q ≡ indicator (isPage v q)
   once state q =
-      same? (mult q ps) 0
-      (λ a. same? (mult q (v .freed)) 0
+      decide (mult q ps) 0
+      (λ a. decide (mult q (v .freed)) 0
       (λ b. by-cases (ltb q (v .fresh)) (λ z. once-low q state a b (ltb-true q (v .fresh) z)) (λ z. once-high q a b (ltb-false q (v .fresh) z)))
       (λ b. let f : Freed v q = omega (arith, b) in
       omega (arith, c .ground .freed .once q, fresh-below q (c .ground .freed .used q f), is-page v q (st .freed q f))))
@@ -319,8 +316,8 @@ module _ (v : View) (st : Stored v) (c : Linked v) where
   module _ (qs : List ℕ) (f : Followed v qs) where
     same-pages : (q : ℕ) → mult q ps ≡ mult q qs
     same-pages q =
-        same? (mult q ps) 0
-        (λ a. same? (mult q qs) 0 (λ b. a ∙ sym b) (λ b. absurd (omega (arith, in-tree q (f .reached q (omega (arith, b)))))))
+        decide (mult q ps) 0
+        (λ a. decide (mult q qs) 0 (λ b. a ∙ sym b) (λ b. absurd (omega (arith, in-tree q (f .reached q (omega (arith, b)))))))
         (λ a. omega (arith, most-once q, f .once q, f .all q (inside q (omega (arith, a)))))
 
     pub live-count : length (live v) ≡ sum (λ p. length (recordsOf (v .page p))) qs

@@ -7,10 +7,10 @@ use native.Mathlib.Omega.{arith}
 use lib.Dec.{leb, ltb}
 use lib.ListN.{length, take}
 use borrow.Author.Tests.{leb-true, leb-false, le-ltb}
-use Rattle.lists.specs.Basics.{All, none, also, all-head, all-tail, tick}
+use Rattle.lists.specs.Basics.{All, none, also, all-head, all-tail, indicator}
 use Rattle.lists.specs.AscendingLaws.{ascends?}
-use Rattle.lists.specs.Counts.{mult, by-cases, mult-self, mult-not, mult-more, all-of-mult, mult-of-all}
-use Rattle.lists.specs.Members.{same?}
+use Rattle.lists.specs.Counts.{mult, mult-self, mult-not, mult-more, all-of-mult, mult-of-all}
+use Rattle.lists.specs.Tests.{by-cases, decide}
 use Rattle.geometry.specs.declared.Key.{Key}
 use Rattle.pagestore.specs.declared.Record.{Record}
 use Rattle.pagestore.specs.declared.Entry.{Entry}
@@ -27,7 +27,7 @@ pub le? : (a b : ℕ) → Either (a ≤ b)
 le? a b = by-cases (leb a b) (λ e. inl (leb-true a b e)) (λ e. inr (λ l. omega (arith, leb-false a b e)))
 
 pub eq? : (a b : ℕ) → Either (a ≡ b)
-eq? a b = same? a b (λ e. inl e) (λ n. inr n)
+eq? a b = decide a b (λ e. inl e) (λ n. inr n)
 
 either-map : {P Q : Type 0} → (P → Q) → (Q → P) → Either P → Either Q
 either-map f g (inl p) = inl (f p)
@@ -112,7 +112,7 @@ unfolding mult
 distinct? [] = inl (λ i. omega arith)
 distinct? (x ∷ xs) =
     either-map
-    (λ h i. same? i x
+    (λ h i. decide i x
     (λ e. subst (λ (k : ℕ). mult k (x ∷ xs) ≤ 1) (sym e) (omega (arith, mult-self x xs, h .0)))
     (λ n. omega (arith, mult-not i x xs n, h .1 i)))
     (λ f. (omega (arith, f x, mult-self x xs), λ i. omega (arith, f i, mult-more i x xs)))
@@ -123,22 +123,22 @@ below? : (f : ℕ → ℕ) (xs : List ℕ) (n : ℕ) → Either ((p : ℕ) → p
 below? f xs zero = inl (λ p h. absurd (omega arith))
 below? f xs (suc n) =
     either-map
-    (λ h p l. same? p n (λ e. subst (λ (k : ℕ). mult k xs ≡ f k) (sym e) (h .0)) (λ d. h .1 p (omega (arith, d))))
+    (λ h p l. decide p n (λ e. subst (λ (k : ℕ). mult k xs ≡ f k) (sym e) (h .0)) (λ d. h .1 p (omega (arith, d))))
     (λ g. (g n (omega arith), λ p l. g p (omega arith)))
     (both? (eq? (mult n xs) (f n)) (below? f xs n))
 
-past : (v : View) (p : ℕ) → v .count ≤ p → tick (isPage v p) ≡ 0
+past : (v : View) (p : ℕ) → v .count ≤ p → indicator (isPage v p) ≡ 0
 past v p h = by-cases (ltb 0 p) (λ a. rw (a, le-ltb p (v .count) h)) (λ a. rw a)
 
-once? : (v : View) (xs : List ℕ) → Either ((p : ℕ) → mult p xs ≡ tick (isPage v p))
+once? : (v : View) (xs : List ℕ) → Either ((p : ℕ) → mult p xs ≡ indicator (isPage v p))
 once? v xs =
     either-map
     (λ h p. ⊎-elim (λ l. h .1 p l)
     (λ n. let g : v .count ≤ p = omega (arith, n) in
-    same? (mult p xs) 0 (λ e. e ∙ sym (past v p g)) (λ d. absurd (omega (arith, mult-of-all (h .0) p (omega (arith, d))))))
+    decide (mult p xs) 0 (λ e. e ∙ sym (past v p g)) (λ d. absurd (omega (arith, mult-of-all (h .0) p (omega (arith, d))))))
     (le? (suc p) (v .count)))
     (λ f. (all-of-mult xs (λ q l. ⊎-elim (λ y. y) (λ n. absurd (omega (arith, f q, past v q (omega (arith, n)), l))) (le? (suc q) (v .count))), λ p l. f p))
-    (both? (all? (λ x. le? (suc x) (v .count)) xs) (below? (λ p. tick (isPage v p)) xs (v .count)))
+    (both? (all? (λ x. le? (suc x) (v .count)) xs) (below? (λ p. indicator (isPage v p)) xs (v .count)))
 
 -- soundness
 pub sound? : (v : View) → Either (Sound v)

@@ -9,8 +9,9 @@ use lib.ListN.{length, take}
 use borrow.Author.Tests.{ltb-true, ltb-false, leb-true, leb-false}
 use Rattle.lists.specs.Ascending.{Ascending}
 use Rattle.lists.specs.AscendingLaws.{ascends?}
-use Rattle.lists.specs.Counts.{mult, by-cases}
-use Rattle.lists.specs.Members.{same?, all-spot, spots-all}
+use Rattle.lists.specs.Counts.{mult}
+use Rattle.lists.specs.Members.{all-spot, spots-all}
+use Rattle.lists.specs.Tests.{by-cases, decide}
 use Rattle.geometry.specs.declared.Key.{Key}
 use Rattle.pagestore.specs.declared.Record.{Record}
 use Rattle.pagestore.specs.declared.Entry.{Entry}
@@ -33,7 +34,7 @@ lt-not-le : (a b : ℕ) → ¬ (b ≤ a) → a < b
 lt-not-le a b h = by-cases (ltb a b) (λ e. ltb-true a b e) (λ e. absurd (h (ltb-false a b e)))
 
 eq-not-not : (a b : ℕ) → ¬ ¬ (a ≡ b) → a ≡ b
-eq-not-not a b h = same? a b (λ e. e) (λ n. absurd (h n))
+eq-not-not a b h = decide a b (λ e. e) (λ n. absurd (h n))
 
 both-not-not : {A B : Type 0} → (¬ ¬ A → A) → (¬ ¬ B → B) → ¬ ¬ (A × B) → A × B
 both-not-not f g h = (f (λ n. h (λ x. n (x .0))), g (λ n. h (λ x. n (x .1))))
@@ -139,8 +140,8 @@ module _ (v : View) (st : Stored v) (nf : (p : ℕ) → ¬ FailsAt v p) where
   states : (q : ℕ) → IsPage v q → InState v q
   states q g =
       let f = tree-followed v st linked in
-      same? (mult q (pages (suc (v .level)) (treeOf v))) 0
-      (λ a. same? (mult q (v .freed)) 0
+      decide (mult q (pages (suc (v .level)) (treeOf v))) 0
+      (λ a. decide (mult q (v .freed)) 0
       (λ b. by-cases (ltb q (v .fresh))
       (λ z. absurd (nf q (FailsAt.state no-fault g (λ r. omega (arith, f .all q r)) (λ w. omega (arith, w)) (λ w. omega (arith, w .1, ltb-true q (v .fresh) z)))))
       (λ z. inr (inr (ltb-false q (v .fresh) z))))

@@ -3,7 +3,7 @@ use mathlib.Core.Path.{_≡_}
 use mathlib.Core.List.{List, [], _∷_, map}
 use Prim.Native.Nat.{ℕ, suc, _*_, _≤_, _<_}
 use lib.ListN.{length}
-use Rattle.lists.specs.Basics.{flat}
+use Rattle.lists.specs.Basics.{concatMap}
 use Rattle.lists.specs.Ascending.{headOr, lastOr, Ascending}
 use Rattle.lists.specs.Counts.{mult}
 use Rattle.lists.specs.Members.{At}
@@ -59,7 +59,7 @@ ends e = keyNumber (e .first) ∷ keyNumber (e .last) ∷ []
 
 abbrev pub ranksIn : ℕ → Page → List ℕ
 ranksIn d (leaf n rs) = map (rankOf d) rs
-ranksIn d (inner l n es) = flat ends es
+ranksIn d (inner l n es) = concatMap ends es
 
 -- ---- THE PAGES THAT ARE FOLLOWED
 

@@ -8,13 +8,15 @@ use native.Mathlib.Nat.{lt-of-not-le}
 use lib.Dec.{eqb, ltb}
 use lib.ListN.{length}
 use borrow.Author.Tests.{ltb-true, eq-eqb}
-use Rattle.lists.specs.Basics.{All, none, flat, tick}
+use Rattle.lists.specs.Basics.{All, none, concatMap, indicator}
 use Rattle.lists.specs.Ascending.{Ascending, asc-left, asc-right}
-use Rattle.lists.specs.Counts.{mult, by-cases, mult-append, mult-self, mult-not, up-below, up-within}
-use Rattle.lists.specs.Members.{At, here, next, same?, all-spot, spot-below, spot-map, map-spot, all-flat-spot, mult-spot, mult-two, flat-in, flat-find}
+use Rattle.lists.specs.Counts.{mult, mult-append, mult-self, mult-not, rangeFrom-below, rangeFrom-within, mult-none}
+use Rattle.lists.specs.Members.{At, here, next, all-spot, spot-below, spot-map, map-spot, all-concatMap-spot, mult-spot, mult-two, concatMap-in, concatMap-find}
 use Rattle.lists.specs.Sorting.{sum}
-use Rattle.lists.specs.FlatLaws.{map-append}
+use Rattle.lists.specs.ConcatMapLaws.{map-append}
 use Rattle.lists.specs.Weights.{sum-one, sum-two}
+use Rattle.lists.specs.Tests.{by-cases, decide}
+use Rattle.lists.specs.Choices.{indicator-le}
 use Rattle.pagestore.specs.declared.Record.{Record}
 use Rattle.pagestore.specs.declared.Entry.{Entry}
 use Rattle.pagestore.specs.Store.{Page, levelOf, fillOf, recordsOf, entriesOf, View}
@@ -23,26 +25,22 @@ use Rattle.tree_model.specs.TreeLaws.{fill-node, rep-level}
 use Rattle.tree_model.specs.Sound.{isPage, freshPages, Filled, RootFilled, RecordOk, Sound}
 use Rattle.sound_faults.specs.Faults.{IsPage, Freed, Fresh, RootFill, firstOf, lastOf, ranksIn, Reached, EntryAt, RecordAt, EntryFault, FailsAt}
 use Rattle.sound_faults.specs.Shapes.{childOf, kids, idents, ranks, itemRanks, pages-named, records-held, no-pages, own-records, first-node, last-node, asc-node}
-use Rattle.sound_faults.specs.Assembled.{page-tree, is-page, mult-none}
+use Rattle.sound_faults.specs.Assembled.{page-tree, is-page}
 
-page-is : (v : View) (q : ℕ) → 0 < tick (isPage v q) → IsPage v q
+page-is : (v : View) (q : ℕ) → 0 < indicator (isPage v q) → IsPage v q
 page-is v q h =
     by-cases (ltb 0 q)
-    (λ a. by-cases (ltb q (v .count)) (λ b. (ltb-true 0 q a, ltb-true q (v .count) b)) (λ b. absurd (let z : tick (isPage v q) ≡ 0 = rw (a, b) in omega arith)))
-    (λ a. absurd (let z : tick (isPage v q) ≡ 0 = rw a in omega arith))
-
-tick-one : (c : Bool) → tick c ≤ 1
-tick-one true = omega arith
-tick-one false = omega arith
+    (λ a. by-cases (ltb q (v .count)) (λ b. (ltb-true 0 q a, ltb-true q (v .count) b)) (λ b. absurd (let z : indicator (isPage v q) ≡ 0 = rw (a, b) in omega arith)))
+    (λ a. absurd (let z : indicator (isPage v q) ≡ 0 = rw a in omega arith))
 
 fresh-in : (v : View) (q : ℕ) → Fresh v q → mult q (freshPages v) ≡ 1
-fresh-in v q h = up-within q (v .fresh) (v .count - v .fresh) (h .1) (omega (arith, h .0 .1, h .1))
+fresh-in v q h = rangeFrom-within q (v .fresh) (v .count - v .fresh) (h .1) (omega (arith, h .0 .1, h .1))
 
 not-freed : (v : View) (q : ℕ) → ¬ Freed v q → mult q (v .freed) ≡ 0
 not-freed v q n = omega (arith, n)
 
 not-fresh : (v : View) (q : ℕ) → IsPage v q → ¬ Fresh v q → mult q (freshPages v) ≡ 0
-not-fresh v q g n = up-below q (v .fresh) (v .count - v .fresh) (lt-of-not-le (λ h. n (g, h)))
+not-fresh v q g n = rangeFrom-below q (v .fresh) (v .count - v .fresh) (lt-of-not-le (λ h. n (g, h)))
 
 -- the items below page p, in a tree of the pages ps
 record Sits (v : View) (ps : List ℕ) (p : ℕ) : Type 0 where
@@ -51,15 +49,15 @@ record Sits (v : View) (ps : List ℕ) (p : ℕ) : Type 0 where
   pub page : v .page p ≡ node (v .d) level items
   pub reps : All (Rep level v) items
   pub fills : All (Filled level) items
-  pub ranges : All (RecordOk (v .d)) (flat (records level) items)
-  pub order : Ascending (ranks (v .d) (flat (records level) items))
+  pub ranges : All (RecordOk (v .d)) (concatMap (records level) items)
+  pub order : Ascending (ranks (v .d) (concatMap (records level) items))
   pub inTree : 0 < mult p ps
 
-asc-at : (d l : ℕ) {ts : List (Item l)} {i : ℕ} {t : Item l} → At ts i t → Ascending (ranks d (flat (records l) ts)) → Ascending (itemRanks d l t)
-unfolding flat
-asc-at d l (here {x = t} {xs = ts}) h = asc-left (itemRanks d l t) (ranks d (flat (records l) ts)) (subst Ascending (map-append (rankOf d) (records l t) (flat (records l) ts)) h)
+asc-at : (d l : ℕ) {ts : List (Item l)} {i : ℕ} {t : Item l} → At ts i t → Ascending (ranks d (concatMap (records l) ts)) → Ascending (itemRanks d l t)
+unfolding concatMap
+asc-at d l (here {x = t} {xs = ts}) h = asc-left (itemRanks d l t) (ranks d (concatMap (records l) ts)) (subst Ascending (map-append (rankOf d) (records l t) (concatMap (records l) ts)) h)
 asc-at d l (next {x = u} {xs = ts} a) h =
-    asc-at d l a (asc-right (itemRanks d l u) (ranks d (flat (records l) ts)) (subst Ascending (map-append (rankOf d) (records l u) (flat (records l) ts)) h))
+    asc-at d l a (asc-right (itemRanks d l u) (ranks d (concatMap (records l) ts)) (subst Ascending (map-append (rankOf d) (records l u) (concatMap (records l) ts)) h))
 
 -- an entry of such a page
 record Below (v : View) (ps : List ℕ) (p i : ℕ) (e : Entry) : Type 0 where
@@ -84,18 +82,18 @@ tree-reached : (v : View) (l : ℕ) (t : Item (suc l)) → Rep (suc l) v t → A
     → (q : ℕ) → 0 < mult q (pages (suc l) t) → Reached v q
 unfolding pages Rep node Filled mult
 tree-reached v zero t r f h g q m =
-    same? q (t .0) (λ e. subst (Reached v) (sym e) h)
+    decide q (t .0) (λ e. subst (Reached v) (sym e) h)
     (λ n. absurd (omega (arith, mult-not q (t .0) [] n, m, ap (λ (z : List ℕ). mult q (t .0 ∷ z)) (no-pages (t .1)))))
 tree-reached v (suc l) t r f h g q m =
-    same? q (t .0) (λ e. subst (Reached v) (sym e) h)
+    decide q (t .0) (λ e. subst (Reached v) (sym e) h)
     (λ n.
-    let w = flat-find (pages (suc l)) q (t .1) (omega (arith, mult-not q (t .0) (flat (pages (suc l)) (t .1)) n, m)) in
+    let w = concatMap-find (pages (suc l)) q (t .1) (omega (arith, mult-not q (t .0) (concatMap (pages (suc l)) (t .1)) n, m)) in
     let u : Item (suc l) = w .1 in
     let ru : Rep (suc l) v u = all-spot (r .1) (w .2) in
     let fu : Filled (suc l) u = all-spot f (w .2) in
-    let gu : (c : ℕ) → 0 < mult c (pages (suc l) u) → IsPage v c = λ c k. g c (omega (arith, flat-in (pages (suc l)) c (w .2) k)) in
+    let gu : (c : ℕ) → 0 < mult c (pages (suc l) u) → IsPage v c = λ c k. g c (omega (arith, concatMap-in (pages (suc l)) c (w .2) k)) in
     let a : At (entriesOf (v .page (t .0))) (w .0) (entryOf (v .d) l u) = subst (λ (x : Page). At (entriesOf x) (w .0) (entryOf (v .d) l u)) (sym (r .0)) (spot-map (entryOf (v .d) l) (w .2)) in
-    tree-reached v l u ru (fu .2) (kid v (t .0) (w .0) l u h a (gu (u .0) (omega (arith, mult-self (u .0) (flat (pages l) (u .1))))) (ap levelOf (r .0)) ru fu) gu q (w .3))
+    tree-reached v l u ru (fu .2) (kid v (t .0) (w .0) l u h a (gu (u .0) (omega (arith, mult-self (u .0) (concatMap (pages l) (u .1))))) (ap levelOf (r .0)) ru fu) gu q (w .3))
 
 root-filled : (d l : ℕ) (t : Item (suc l)) → RootFilled l t → RootFill (node d l (t .1))
 unfolding RootFilled node
@@ -110,20 +108,20 @@ module _ (v : View) (s : Sound v) where
   unfolding treeOf
   root-is = page-tree (v .level) v (v .root)
 
-  once : (q : ℕ) → mult q ps + (mult q (v .freed) + mult q (freshPages v)) ≡ tick (isPage v q)
+  once : (q : ℕ) → mult q ps + (mult q (v .freed) + mult q (freshPages v)) ≡ indicator (isPage v q)
   once q = omega (arith, s .once q, mult-append q ps (v .freed ++ freshPages v), mult-append q (v .freed) (freshPages v))
 
-  named : (c : ℕ) → mult c ps ≡ tick (eqb c (v .root)) + sum (λ p. mult c (kids v p)) ps
-  named c = pages-named v c (v .level) (treeOf v) (s .rep) ∙ ap (λ (z : ℕ). tick (eqb c z) + sum (λ p. mult c (kids v p)) ps) root-is
+  named : (c : ℕ) → mult c ps ≡ indicator (eqb c (v .root)) + sum (λ p. mult c (kids v p)) ps
+  named c = pages-named v c (v .level) (treeOf v) (s .rep) ∙ ap (λ (z : ℕ). indicator (eqb c z) + sum (λ p. mult c (kids v p)) ps) root-is
 
   most-once : (c : ℕ) → mult c ps ≤ 1
-  most-once c = omega (arith, once c, tick-one (isPage v c))
+  most-once c = omega (arith, once c, indicator-le (isPage v c))
 
-  tick-same : (a : ℕ) → tick (eqb a a) ≡ 1
-  tick-same a = ap tick (eq-eqb a a refl)
+  indicator-same : (a : ℕ) → indicator (eqb a a) ≡ 1
+  indicator-same a = ap indicator (eq-eqb a a refl)
 
   root-in : 0 < mult (v .root) ps
-  root-in = omega (arith, named (v .root), tick-same (v .root))
+  root-in = omega (arith, named (v .root), indicator-same (v .root))
 
   kid-in : (p c : ℕ) → 0 < mult p ps → 0 < mult c (kids v p) → 0 < mult c ps
   kid-in p c h k = omega (arith, named c, sum-one (λ q. mult c (kids v q)) ps p h)
@@ -133,8 +131,8 @@ module _ (v : View) (s : Sound v) where
   under p i e t a =
       go (t .level) (t .items) (t .page) (t .reps) (t .fills) (t .ranges) (t .order) (subst (λ (x : Page). At (entriesOf x) i e) (t .page) a)
     where
-      go : (l : ℕ) (ts : List (Item l)) → v .page p ≡ node (v .d) l ts → All (Rep l v) ts → All (Filled l) ts → All (RecordOk (v .d)) (flat (records l) ts)
-          → Ascending (ranks (v .d) (flat (records l) ts)) → At (entriesOf (node (v .d) l ts)) i e → Below v ps p i e
+      go : (l : ℕ) (ts : List (Item l)) → v .page p ≡ node (v .d) l ts → All (Rep l v) ts → All (Filled l) ts → All (RecordOk (v .d)) (concatMap (records l) ts)
+          → Ascending (ranks (v .d) (concatMap (records l) ts)) → At (entriesOf (node (v .d) l ts)) i e → Below v ps p i e
       go zero ts x r f o h b = absurd (omega (arith, spot-below b))
       go (suc l) ts x r f o h b =
           let m = map-spot (entryOf (v .d) l) ts b in
@@ -155,7 +153,7 @@ module _ (v : View) (s : Sound v) where
               page = ru .0;
               reps = ru .1;
               fills = fu .2;
-              ranges = all-flat-spot (records (suc l)) (m .1) o;
+              ranges = all-concatMap-spot (records (suc l)) (m .1) o;
               order = asc-at (v .d) (suc l) (m .1) h;
               inTree = subst (λ (z : ℕ). 0 < mult z ps) c (kid-in p (e .child) (t .inTree) (mult-spot (spot-map childOf a)));
             };
@@ -188,7 +186,7 @@ module _ (v : View) (s : Sound v) where
       let qb : At (kids v q) j c = subst (λ (z : ℕ). At (kids v q) j z) y (spot-map childOf (b .at)) in
       let ip : 0 < mult p ps = sits p (a .reached) .inTree in
       let iq : 0 < mult q ps = sits q (b .reached) .inTree in
-      same? p q
+      decide p q
       (λ g. let w : 2 ≤ mult c (kids v p) = mult-two pa (subst (λ (z : ℕ). At (kids v z) j c) (sym g) qb) (λ h. n (g, h)) in
       omega (arith, named c, sum-one (λ z. mult c (kids v z)) ps p ip))
       (λ g. omega (arith, named c, sum-two (λ z. mult c (kids v z)) ps p q ip iq g, mult-spot pa, mult-spot qb))
@@ -225,9 +223,9 @@ module _ (v : View) (s : Sound v) where
       ∙ sym (ap (λ (z : ℕ). lastOf (v .d) (v .page z)) (child-is b) ∙ ap (lastOf (v .d)) (b .rep .0) ∙ last-node (v .d) (b .level) (b .tree .1) (some-below b) (b .filled .2)))
   no-entry p (EntryFault.root {i = i} {e = e} a n) =
       let c : At (kids v p) i (v .root) = subst (λ (z : ℕ). At (kids v p) i z) n (spot-map childOf (a .at)) in
-      omega (arith, most-once (v .root), named (v .root), tick-same (v .root), sum-one (λ z. mult (v .root) (kids v z)) ps p (sits p (a .reached) .inTree), mult-spot c)
-  no-entry p (EntryFault.freed {i = i} {e = e} a n) = omega (arith, n, once (e .child), tick-one (isPage v (e .child)), entry-in a)
-  no-entry p (EntryFault.fresh {i = i} {e = e} a n) = omega (arith, fresh-in v (e .child) n, once (e .child), tick-one (isPage v (e .child)), entry-in a)
+      omega (arith, most-once (v .root), named (v .root), indicator-same (v .root), sum-one (λ z. mult (v .root) (kids v z)) ps p (sits p (a .reached) .inTree), mult-spot c)
+  no-entry p (EntryFault.freed {i = i} {e = e} a n) = omega (arith, n, once (e .child), indicator-le (isPage v (e .child)), entry-in a)
+  no-entry p (EntryFault.fresh {i = i} {e = e} a n) = omega (arith, fresh-in v (e .child) n, once (e .child), indicator-le (isPage v (e .child)), entry-in a)
   no-entry p (EntryFault.named {i = i} {q = q} {j = j} {e = e} {f = f} a b n c) = omega (arith, most-once (f .child), two-names (f .child) p i q j a b c refl n)
 
   root-page : IsPage v (v .root)
@@ -248,7 +246,7 @@ module _ (v : View) (s : Sound v) where
   unfolding node
   holds p h = let t = sits p h in go (t .level) (t .items) (t .page) (t .ranges)
     where
-      go : (l : ℕ) (ts : List (Item l)) → v .page p ≡ node (v .d) l ts → All (RecordOk (v .d)) (flat (records l) ts) → All (RecordOk (v .d)) (recordsOf (v .page p))
+      go : (l : ℕ) (ts : List (Item l)) → v .page p ≡ node (v .d) l ts → All (RecordOk (v .d)) (concatMap (records l) ts) → All (RecordOk (v .d)) (recordsOf (v .page p))
       go zero ts x o = subst (λ (z : Page). All (RecordOk (v .d)) (recordsOf z)) (sym x) (subst (All (RecordOk (v .d))) (own-records ts) o)
       go (suc l) ts x o = subst (λ (z : Page). All (RecordOk (v .d)) (recordsOf z)) (sym x) none
 
@@ -265,7 +263,7 @@ module _ (v : View) (s : Sound v) where
       let qb : At (idents v q) j c = spot-map identOf (b .at) in
       let ip : 0 < mult p ps = sits p (a .reached) .inTree in
       let iq : 0 < mult q ps = sits q (b .reached) .inTree in
-      same? p q
+      decide p q
       (λ g. let w : 2 ≤ mult c (idents v p) = mult-two pa (subst (λ (z : ℕ). At (idents v z) j c) (sym g) qb) (λ h. n (g, h)) in
       omega (arith, ident-sum c, sum-one (λ z. mult c (idents v z)) ps p ip))
       (λ g. omega (arith, ident-sum c, sum-two (λ z. mult c (idents v z)) ps p q ip iq g, mult-spot pa, mult-spot qb))
@@ -275,13 +273,13 @@ module _ (v : View) (s : Sound v) where
   sound-fails p (FailsAt.features n) = n (s .d)
   sound-fails p (FailsAt.rootRange n) = n root-page
   sound-fails p (FailsAt.rootLevel n) = n (ap (λ (z : ℕ). levelOf (v .page z)) (sym root-is) ∙ rep-level (v .level) v (treeOf v) (s .rep))
-  sound-fails p (FailsAt.rootFreed n) = omega (arith, n, once (v .root), tick-one (isPage v (v .root)), root-in)
-  sound-fails p (FailsAt.rootFresh n) = omega (arith, fresh-in v (v .root) n, once (v .root), tick-one (isPage v (v .root)), root-in)
+  sound-fails p (FailsAt.rootFreed n) = omega (arith, n, once (v .root), indicator-le (isPage v (v .root)), root-in)
+  sound-fails p (FailsAt.rootFresh n) = omega (arith, fresh-in v (v .root) n, once (v .root), indicator-le (isPage v (v .root)), root-in)
   sound-fails p (FailsAt.total f n) = n (s .total)
   sound-fails p (FailsAt.most f n) = omega (arith, n, s .most, s .total)
   sound-fails p (FailsAt.chain n) = n (s .chain)
-  sound-fails p (FailsAt.freedTwice q n) = omega (arith, n, once q, tick-one (isPage v q))
-  sound-fails p (FailsAt.freedFresh q f n) = omega (arith, f, fresh-in v q n, once q, tick-one (isPage v q))
+  sound-fails p (FailsAt.freedTwice q n) = omega (arith, n, once q, indicator-le (isPage v q))
+  sound-fails p (FailsAt.freedFresh q f n) = omega (arith, f, fresh-in v q n, once q, indicator-le (isPage v q))
   sound-fails p (FailsAt.fresh n) = n (s .fresh)
   sound-fails p (FailsAt.repeated a b n x) = two-holders a b n x
   sound-fails p (FailsAt.entry f) = no-entry p f

@@ -6,10 +6,11 @@ use Prim.Native.Nat.{ℕ, _≤_}
 use native.Mathlib.Omega.{arith}
 use lib.Dec.{ltb}
 use borrow.Author.Tests.{ltb-true, ltb-false}
-use Rattle.lists.specs.Counts.{mult, by-cases}
-use Rattle.lists.specs.Members.{same?, map-spot, mult-find, mult-find-two}
+use Rattle.lists.specs.Counts.{mult}
+use Rattle.lists.specs.Members.{map-spot, mult-find, mult-find-two}
 use Rattle.lists.specs.Sorting.{sum}
 use Rattle.lists.specs.Weights.{sum-only, sum-other, sum-some, sum-zero}
+use Rattle.lists.specs.Tests.{by-cases, decide}
 use Rattle.pagestore.specs.declared.Record.{Record}
 use Rattle.pagestore.specs.Store.{recordsOf, View}
 use Rattle.tree_model.specs.Trees.{identOf}
@@ -30,7 +31,7 @@ module _ (v : View) (ps : List ℕ) (f : Followed v ps) where
       (λ b. let w = mult-find-two (r .id) (idents v p) (omega (arith, ltb-true 1 here b)) in
       let x = map-spot identOf (recordsOf (v .page p)) (w .2) in
       let y = map-spot identOf (recordsOf (v .page p)) (w .3) in
-      same? j (w .0)
+      decide j (w .0)
       (λ e. FailsAt.repeated a (record { reached = a .reached; at = y .1 }) (λ z. w .4 (sym e ∙ z .1)) (y .2))
       (λ n. FailsAt.repeated a (record { reached = a .reached; at = x .1 }) (λ z. n (z .1)) (x .2)))
       (λ b. let l : here ≤ 1 = ltb-false 1 here b in

@@ -4,10 +4,11 @@ use mathlib.Core.List.{List, [], _∷_}
 use Prim.Native.Nat.{ℕ, _≤_, _<_}
 use native.Mathlib.Omega.{arith}
 use lib.ListN.{length, getD}
-use Rattle.lists.specs.Basics.{All, none, also, flat}
+use Rattle.lists.specs.Basics.{All, none, also, concatMap}
 use Rattle.lists.specs.Ascending.{headOr, lastOr}
-use Rattle.lists.specs.AscendingLaws.{hd, lst}
-use Rattle.lists.specs.Members.{At, same?, all-spot, spot-below}
+use Rattle.lists.specs.AscendingLaws.{headNo, lastNo}
+use Rattle.lists.specs.Members.{At, all-spot, spot-below}
+use Rattle.lists.specs.Tests.{decide}
 use Rattle.geometry.specs.declared.Key.{Key}
 use Rattle.geometry.specs.Keys.{keyNumber}
 use Rattle.geometry.proofs.KeyLaws.{KeyFits}
@@ -29,27 +30,27 @@ use Rattle.sound_pages.proofs.ViewLaws.{view-fill}
 
 -- ---- NUMBERS OF THE ENDS
 
-first-number : (es : List Entry) → 0 < length es → hd (flat ends es) ≡ keyNumber (headOr noEntry es .first)
-unfolding flat headOr
+first-number : (es : List Entry) → 0 < length es → headNo (concatMap ends es) ≡ keyNumber (headOr noEntry es .first)
+unfolding concatMap headOr
 first-number [] h = absurd (omega arith)
 first-number (e ∷ es) h = refl
 
-last-number : (x : ℕ) (e : Entry) (es : List Entry) → x ≡ keyNumber (e .last) → lastOr x (flat ends es) ≡ keyNumber (lastOr e es .last)
-unfolding flat lastOr
+last-number : (x : ℕ) (e : Entry) (es : List Entry) → x ≡ keyNumber (e .last) → lastOr x (concatMap ends es) ≡ keyNumber (lastOr e es .last)
+unfolding concatMap lastOr
 last-number x e [] h = h
 last-number x e (f ∷ es) h = last-number (keyNumber (f .last)) f es refl
 
-last-ends : (es : List Entry) → 0 < length es → lst (flat ends es) ≡ keyNumber (lastOr noEntry es .last)
-unfolding flat lastOr
+last-ends : (es : List Entry) → 0 < length es → lastNo (concatMap ends es) ≡ keyNumber (lastOr noEntry es .last)
+unfolding concatMap lastOr
 last-ends [] h = absurd (omega arith)
 last-ends (e ∷ es) h = last-number (keyNumber (e .last)) e es refl
 
 module _ (d : ℕ) where
-  pub page-first : {x : Page} → PageFits x → 0 < fillOf x → hd (ranksIn d x) ≡ keyNumber (firstOf d x)
+  pub page-first : {x : Page} → PageFits x → 0 < fillOf x → headNo (ranksIn d x) ≡ keyNumber (firstOf d x)
   page-first (leafFits {rs = rs} n a) h = sym (first-rank d rs h)
   page-first (innerFits {es = es} v n a) h = first-number es h
 
-  pub page-last : {x : Page} → PageFits x → 0 < fillOf x → lst (ranksIn d x) ≡ keyNumber (lastOf d x)
+  pub page-last : {x : Page} → PageFits x → 0 < fillOf x → lastNo (ranksIn d x) ≡ keyNumber (lastOf d x)
   page-last (leafFits {rs = rs} n a) h = sym (last-rank d rs h)
   page-last (innerFits {es = es} v n a) h = last-ends es h
 
@@ -92,8 +93,8 @@ entry-fits (innerFits v n a) s = all-spot a s
 
 module _ (b firsts lasts : List ℕ) (p i : ℕ) (e : Entry) (a : EntryAt (viewOf b) p i e) (fill : NodeFill (viewOf b .page (e .child)))
     (fine : PageFine (viewOf b) (e .child))
-    (low : getD firsts (e .child) 0 ≡ hd (ranksIn (viewOf b .d) (viewOf b .page (e .child))))
-    (high : getD lasts (e .child) 0 ≡ lst (ranksIn (viewOf b .d) (viewOf b .page (e .child)))) where
+    (low : getD firsts (e .child) 0 ≡ headNo (ranksIn (viewOf b .d) (viewOf b .page (e .child))))
+    (high : getD lasts (e .child) 0 ≡ lastNo (ranksIn (viewOf b .d) (viewOf b .page (e .child)))) where
   fits : (q : ℕ) → fillOf (viewOf b .page q) ≤ 16 → PageFits (viewOf b .page q)
   unfolding viewOf
   fits q h = page-fits b q (omega (arith, view-fill b q))
@@ -125,8 +126,8 @@ module _ (b firsts lasts : List ℕ) (p i : ℕ) (e : Entry) (a : EntryAt (viewO
 
   pub ends-fault : ¬ EndsKept e firsts lasts → EntryFault (viewOf b) p
   ends-fault n =
-      same? (keyNumber (e .first)) (getD firsts (e .child) 0)
-      (λ x. same? (keyNumber (e .last)) (getD lasts (e .child) 0)
+      decide (keyNumber (e .first)) (getD firsts (e .child) 0)
+      (λ x. decide (keyNumber (e .last)) (getD lasts (e .child) 0)
       (λ y. absurd (n (record { first = x; last = y })))
       (λ y. EntryFault.last a (λ z. y (ap keyNumber z ∙ sym last-is))))
       (λ x. EntryFault.first a (λ z. x (ap keyNumber z ∙ sym first-is)))

@@ -6,8 +6,8 @@ use native.Mathlib.Omega.{arith}
 use lib.Dec.{leb, ltb}
 use lib.ListN.{length, getD, set, length-set}
 use borrow.Author.Tests.{leb-true, leb-false, ltb-true, ltb-false}
-use Rattle.lists.specs.Counts.{by-cases}
-use Rattle.lists.specs.Members.{At, same?, spot-below}
+use Rattle.lists.specs.Members.{At, spot-below}
+use Rattle.lists.specs.Tests.{by-cases, decide}
 use Rattle.pagestore.specs.declared.Entry.{Entry}
 use Rattle.pagestore.specs.declared.Inner.{Inner}
 use Rattle.pagestore.specs.declared.Leaf.{Leaf}
@@ -31,7 +31,7 @@ not-follows v p i e a n =
     let k : ℕ = fillOf (v .page (e .child)) in
     by-cases (ltb 0 (e .child))
     (λ x. by-cases (ltb (e .child) (v .count))
-    (λ y. same? (suc (levelOf (v .page (e .child)))) (levelOf (v .page p))
+    (λ y. decide (suc (levelOf (v .page (e .child)))) (levelOf (v .page p))
     (λ l. by-cases (leb 8 k)
     (λ z. by-cases (leb k 16)
     (λ t. absurd (n (record { range = (ltb-true 0 (e .child) x, ltb-true (e .child) (v .count) y); level = l; fill = (leb-true 8 k z, leb-true k 16 t) })))
@@ -128,19 +128,19 @@ module _ (b : List ℕ) where
       let apart : (q j : ℕ) (f : Entry) → EntryAt v q j f → 16 * q + j < 16 * p + i → f .child ≡ c → ⊥ = λ q j f x h z. new (subst (Marked m) z (n .marked q j f x h)) in
       record {
         size = omega (arith, length-set m c 1, n .size);
-        by = λ k h. same? k c (λ z. (p, i, e, a, sym z, omega arith))
+        by = λ k h. decide k c (λ z. (p, i, e, a, sym z, omega arith))
             (λ d. let x = n .by k (set-old m c k d h) in (x .0, x .1, x .2, x .3, x .4, omega (arith, x .5)));
-        fine = λ q j f x h. same? (16 * q + j) (16 * p + i)
+        fine = λ q j f x h. decide (16 * q + j) (16 * p + i)
             (λ z. let w = place p i q j e f a x z in subst (λ (g : Entry). EntryFine v q g) (is q j f x z) (subst (λ (r : ℕ). EntryFine v r e) (sym (w .0)) ok))
             (λ d. n .fine q j f x (before q j f x h d));
-        marked = λ q j f x h. same? (16 * q + j) (16 * p + i)
+        marked = λ q j f x h. decide (16 * q + j) (16 * p + i)
             (λ z. subst (λ (g : Entry). Marked (set m c 1) (g .child)) (is q j f x z) (set-here m c l))
             (λ d. set-keep m c (f .child) l (n .marked q j f x (before q j f x h d)));
-        alone = λ q j q' j' f f' x x' h h' y. same? (16 * q + j) (16 * p + i)
-            (λ z. same? (16 * q' + j') (16 * p + i)
+        alone = λ q j q' j' f f' x x' h h' y. decide (16 * q + j) (16 * p + i)
+            (λ z. decide (16 * q' + j') (16 * p + i)
             (λ z'. let w = place p i q j e f a x z in let w' = place p i q' j' e f' a x' z' in (w .0 ∙ sym (w' .0), w .1 ∙ sym (w' .1)))
             (λ d'. absurd (apart q' j' f' x' (before q' j' f' x' h' d') (sym y ∙ ap (λ (g : Entry). g .child) (sym (is q j f x z))))))
-            (λ d. same? (16 * q' + j') (16 * p + i)
+            (λ d. decide (16 * q' + j') (16 * p + i)
             (λ z'. absurd (apart q j f x (before q j f x h d) (y ∙ ap (λ (g : Entry). g .child) (sym (is q' j' f' x' z')))))
             (λ d'. n .alone q j q' j' f f' x x' (before q j f x h d) (before q' j' f' x' h' d') y));
       }
@@ -161,7 +161,7 @@ module _ (b : List ℕ) where
   named-done p i most le n =
       named-skip (omega arith)
       (λ q j f x h. let y : j < 16 = spot-16 x in
-      same? q p
+      decide q p
       (λ z. let w : j < length (entriesOf (v .page p)) = subst (λ (r : ℕ). j < length (entriesOf (v .page r))) z (spot-below (x .at)) in
       omega (arith, most (subst (Reached v) z (x .reached))))
       (λ d. omega (arith, d)))
@@ -178,7 +178,7 @@ module _ (b : List ℕ) where
   -- a page that is not followed, or is a leaf, by its mark
   pub named-below : {m n : List ℕ} (p : ℕ) → MarksAre (viewOf b) m → getD m p 0 ≤ 1 → Named (viewOf b) n (16 * p) → Named (viewOf b) n (16 * (p + 1))
   named-below {m} {n} p s h w =
-      same? (getD m p 0) 0
+      decide (getD m p 0) 0
       (λ z. named-none p (λ r. omega (arith, z, s .all p r)) w)
       (λ d. named-leaf p (no-entries (v .page p) (omega (arith, s .all p (s .reached p (omega (arith, d)))))) w)
 

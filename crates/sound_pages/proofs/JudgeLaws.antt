@@ -9,23 +9,23 @@ use lib.Dec.{leb, ltb, eqb}
 use lib.ListN.{length, getD, take, drop, length-append, length-take, take-append-drop}
 use lib.Seq.{take-suc, getD-take, take-take, drop-cons}
 use borrow.Author.Tests.{eqb-true, eqb-false, eq-eqb, ne-eqb, leb-true, leb-false, ltb-true, ltb-false}
-use Rattle.lists.specs.Basics.{tick, pick, All, none, also, flat, flat-append, all-append}
+use Rattle.lists.specs.Basics.{indicator, if, All, none, also, concatMap, concatMap-append, all-append}
 use Rattle.lists.specs.Ascending.{Ascending, one, headOr, lastOr, last-append}
-use Rattle.lists.specs.AscendingLaws.{hd, lst, asc-append, asc-cross}
-use Rattle.lists.specs.Counts.{by-cases}
-use Rattle.lists.specs.FlatLaws.{map-append}
+use Rattle.lists.specs.AscendingLaws.{headNo, lastNo, asc-append, asc-cross}
+use Rattle.lists.specs.ConcatMapLaws.{map-append}
 use Rattle.lists.specs.Members.{At, get-spot}
-use Rattle.sound_pages.specs.Judged.{Judges, pass, fault, Found, nowhere, at, Rising, Spans}
+use Rattle.lists.specs.Tests.{by-cases}
+use Rattle.sound_pages.specs.Judged.{Judges, pass, fault, Found, nowhere, at, AscendingSpan, Spans}
 use Rattle.sound_pages.specs.declared.Span.{Span}
 
 -- ---- TESTS
 
 pub passes : {P Q : Type 0} {r : Bool} → Judges P Q r → r ≡ true → P
 passes (pass h) e = h
-passes (fault h) e = absurd (let z : _≡_ {A = ℕ} 0 1 = ap tick e in omega arith)
+passes (fault h) e = absurd (let z : _≡_ {A = ℕ} 0 1 = ap indicator e in omega arith)
 
 pub faults : {P Q : Type 0} {r : Bool} → Judges P Q r → r ≡ false → Q
-faults (pass h) e = absurd (let z : _≡_ {A = ℕ} 1 0 = ap tick e in omega arith)
+faults (pass h) e = absurd (let z : _≡_ {A = ℕ} 1 0 = ap indicator e in omega arith)
 faults (fault h) e = h
 
 pub judge-map : {P P' Q Q' : Type 0} {r : Bool} → (P → P') → (Q → Q') → Judges P Q r → Judges P' Q' r
@@ -74,17 +74,17 @@ module _ {A : Type 0} (d : A) (xs : List A) where
 
 -- ---- NUMBERS THAT RISE
 
-pub rising-start : Rising [] 0 0
+pub rising-start : AscendingSpan [] 0 0
 unfolding headOr
 rising-start = record { ascends = Ascending.none; first = refl; last = λ h. absurd (omega arith); empty = λ h. refl }
 
 -- the first number is the next one, where there was none before
-rising-first : (xs : List ℕ) (f n x g : ℕ) → Rising xs f n → g ≡ pick (eqb n 0) x f → g ≡ hd (xs ++ (x ∷ []))
+rising-first : (xs : List ℕ) (f n x g : ℕ) → AscendingSpan xs f n → g ≡ if (eqb n 0) x f → g ≡ headNo (xs ++ (x ∷ []))
 unfolding headOr
-rising-first [] f n x g r e = e ∙ ap (λ (t : Bool). pick t x f) (eq-eqb n 0 (r .empty refl))
-rising-first (y ∷ ys) f n x g r e = e ∙ ap (λ (t : Bool). pick t x f) (ne-eqb n 0 (λ z. absurd (omega (arith, z, r .last (omega arith))))) ∙ r .first
+rising-first [] f n x g r e = e ∙ ap (λ (t : Bool). if t x f) (eq-eqb n 0 (r .empty refl))
+rising-first (y ∷ ys) f n x g r e = e ∙ ap (λ (t : Bool). if t x f) (ne-eqb n 0 (λ z. absurd (omega (arith, z, r .last (omega arith))))) ∙ r .first
 
-pub rising-step : (xs : List ℕ) (f n x g : ℕ) → Rising xs f n → n ≤ x → g ≡ pick (eqb n 0) x f → Rising (xs ++ (x ∷ [])) g (x + 1)
+pub rising-step : (xs : List ℕ) (f n x g : ℕ) → AscendingSpan xs f n → n ≤ x → g ≡ if (eqb n 0) x f → AscendingSpan (xs ++ (x ∷ [])) g (x + 1)
 unfolding headOr lastOr
 rising-step xs f n x g r h e =
     record {
@@ -95,7 +95,7 @@ rising-step xs f n x g r h e =
     }
 
 -- a number below n ends it
-pub rising-stop : (xs : List ℕ) (f n x : ℕ) (ys : List ℕ) → Rising xs f n → x < n → ¬ Ascending (xs ++ (x ∷ ys))
+pub rising-stop : (xs : List ℕ) (f n x : ℕ) (ys : List ℕ) → AscendingSpan xs f n → x < n → ¬ Ascending (xs ++ (x ∷ ys))
 unfolding headOr
 rising-stop xs f n x ys r h a =
     by-cases (ltb 0 (length xs))
@@ -103,20 +103,20 @@ rising-stop xs f n x ys r h a =
     (λ e. omega (arith, r .empty (omega (arith, ltb-false 0 (length xs) e))))
 
 -- the last one
-rising-last : (xs : List ℕ) (f n : ℕ) → Rising xs f n → n - 1 ≡ lst xs
+rising-last : (xs : List ℕ) (f n : ℕ) → AscendingSpan xs f n → n - 1 ≡ lastNo xs
 unfolding lastOr
 rising-last [] f n r = omega (arith, r .empty refl)
 rising-last (x ∷ xs) f n r = omega (arith, r .last (omega arith))
 
 -- the same of numbers f x of the elements x of a list
 module _ {A : Type 0} (f : A → ℕ) (d : A) (xs : List A) where
-  pub ranks-step : (i k n x g : ℕ) → i < length xs → x ≡ f (getD xs i d) → Rising (map f (take i xs)) k n → n ≤ x → g ≡ pick (eqb n 0) x k
-      → Rising (map f (take (i + 1) xs)) g (x + 1)
+  pub ranks-step : (i k n x g : ℕ) → i < length xs → x ≡ f (getD xs i d) → AscendingSpan (map f (take i xs)) k n → n ≤ x → g ≡ if (eqb n 0) x k
+      → AscendingSpan (map f (take (i + 1) xs)) g (x + 1)
   ranks-step i k n x g h e r l w =
       rw (take-more d xs i h, map-append f (take i xs) (getD xs i d ∷ []))
-      (subst (λ (y : ℕ). Rising (map f (take i xs) ++ (y ∷ [])) g (x + 1)) e (rising-step (map f (take i xs)) k n x g r l w))
+      (subst (λ (y : ℕ). AscendingSpan (map f (take i xs) ++ (y ∷ [])) g (x + 1)) e (rising-step (map f (take i xs)) k n x g r l w))
 
-  pub ranks-stop : (i k n m x : ℕ) → i < m → m ≤ length xs → x ≡ f (getD xs i d) → Rising (map f (take i xs)) k n → x < n → ¬ Ascending (map f (take m xs))
+  pub ranks-stop : (i k n m x : ℕ) → i < m → m ≤ length xs → x ≡ f (getD xs i d) → AscendingSpan (map f (take i xs)) k n → x < n → ¬ Ascending (map f (take m xs))
   ranks-stop i k n m x h g e r l a =
       let w = take-next d xs i m h g in
       rising-stop (map f (take i xs)) k n (f (getD xs i d)) (map f (w .0)) r (omega arith)
@@ -124,48 +124,48 @@ module _ {A : Type 0} (f : A → ℕ) (d : A) (xs : List A) where
 
 -- and of two numbers each, x and y
 module _ {A : Type 0} (f : A → List ℕ) (d : A) (xs : List A) where
-  one-pair : (i x y : ℕ) → i < length xs → f (getD xs i d) ≡ x ∷ y ∷ [] → flat f (take (i + 1) xs) ≡ (flat f (take i xs) ++ (x ∷ [])) ++ (y ∷ [])
-  unfolding flat
+  one-pair : (i x y : ℕ) → i < length xs → f (getD xs i d) ≡ x ∷ y ∷ [] → concatMap f (take (i + 1) xs) ≡ (concatMap f (take i xs) ++ (x ∷ [])) ++ (y ∷ [])
+  unfolding concatMap
   one-pair i x y h e =
-      ap (flat f) (take-more d xs i h) ∙ flat-append f (take i xs) (getD xs i d ∷ [])
-      ∙ ap (λ (r : List ℕ). flat f (take i xs) ++ (r ++ [])) e ∙ sym (append-assoc (flat f (take i xs)) (x ∷ []) (y ∷ []))
+      ap (concatMap f) (take-more d xs i h) ∙ concatMap-append f (take i xs) (getD xs i d ∷ [])
+      ∙ ap (λ (r : List ℕ). concatMap f (take i xs) ++ (r ++ [])) e ∙ sym (append-assoc (concatMap f (take i xs)) (x ∷ []) (y ∷ []))
 
-  next-pair : (i m x y : ℕ) → i < m → m ≤ length xs → f (getD xs i d) ≡ x ∷ y ∷ [] → (zs : List ℕ) × (flat f (take m xs) ≡ flat f (take i xs) ++ (x ∷ y ∷ zs))
-  unfolding flat
+  next-pair : (i m x y : ℕ) → i < m → m ≤ length xs → f (getD xs i d) ≡ x ∷ y ∷ [] → (zs : List ℕ) × (concatMap f (take m xs) ≡ concatMap f (take i xs) ++ (x ∷ y ∷ zs))
+  unfolding concatMap
   next-pair i m x y h g e =
       let w = take-next d xs i m h g in
-      (flat f (w .0), ap (flat f) (w .1) ∙ flat-append f (take i xs) (getD xs i d ∷ w .0) ∙ ap (λ (r : List ℕ). flat f (take i xs) ++ (r ++ flat f (w .0))) e)
+      (concatMap f (w .0), ap (concatMap f) (w .1) ∙ concatMap-append f (take i xs) (getD xs i d ∷ w .0) ∙ ap (λ (r : List ℕ). concatMap f (take i xs) ++ (r ++ concatMap f (w .0))) e)
 
-  pub pairs-step : (i k n x y g : ℕ) → i < length xs → f (getD xs i d) ≡ x ∷ y ∷ [] → Rising (flat f (take i xs)) k n → n ≤ x → x < y → g ≡ pick (eqb n 0) x k
-      → Rising (flat f (take (i + 1) xs)) g (y + 1)
+  pub pairs-step : (i k n x y g : ℕ) → i < length xs → f (getD xs i d) ≡ x ∷ y ∷ [] → AscendingSpan (concatMap f (take i xs)) k n → n ≤ x → x < y → g ≡ if (eqb n 0) x k
+      → AscendingSpan (concatMap f (take (i + 1) xs)) g (y + 1)
   pairs-step i k n x y g h e r l m w =
-      let same : g ≡ pick (eqb (x + 1) 0) y g = sym (ap (λ (t : Bool). pick t y g) (ne-eqb (x + 1) 0 (λ z. absurd (omega (arith, z))))) in
-      subst (λ (zs : List ℕ). Rising zs g (y + 1)) (sym (one-pair i x y h e))
-      (rising-step (flat f (take i xs) ++ (x ∷ [])) g (x + 1) y g (rising-step (flat f (take i xs)) k n x g r l w) (omega arith) same)
+      let same : g ≡ if (eqb (x + 1) 0) y g = sym (ap (λ (t : Bool). if t y g) (ne-eqb (x + 1) 0 (λ z. absurd (omega (arith, z))))) in
+      subst (λ (zs : List ℕ). AscendingSpan zs g (y + 1)) (sym (one-pair i x y h e))
+      (rising-step (concatMap f (take i xs) ++ (x ∷ [])) g (x + 1) y g (rising-step (concatMap f (take i xs)) k n x g r l w) (omega arith) same)
 
-  pub pairs-stop : (i k n m x y : ℕ) → i < m → m ≤ length xs → f (getD xs i d) ≡ x ∷ y ∷ [] → Rising (flat f (take i xs)) k n → x < n → ¬ Ascending (flat f (take m xs))
+  pub pairs-stop : (i k n m x y : ℕ) → i < m → m ≤ length xs → f (getD xs i d) ≡ x ∷ y ∷ [] → AscendingSpan (concatMap f (take i xs)) k n → x < n → ¬ Ascending (concatMap f (take m xs))
   pairs-stop i k n m x y h g e r l a =
       let w = next-pair i m x y h g e in
-      rising-stop (flat f (take i xs)) k n x (y ∷ w .0) r l (subst Ascending (w .1) a)
+      rising-stop (concatMap f (take i xs)) k n x (y ∷ w .0) r l (subst Ascending (w .1) a)
 
-  pub pair-stop : (i k n m x y : ℕ) → i < m → m ≤ length xs → f (getD xs i d) ≡ x ∷ y ∷ [] → Rising (flat f (take i xs)) k n → n ≤ x → y ≤ x → ¬ Ascending (flat f (take m xs))
+  pub pair-stop : (i k n m x y : ℕ) → i < m → m ≤ length xs → f (getD xs i d) ≡ x ∷ y ∷ [] → AscendingSpan (concatMap f (take i xs)) k n → n ≤ x → y ≤ x → ¬ Ascending (concatMap f (take m xs))
   pair-stop i k n m x y h g e r l t a =
       let w = next-pair i m x y h g e in
-      rising-stop (flat f (take i xs) ++ (x ∷ [])) (pick (eqb n 0) x k) (x + 1) y (w .0) (rising-step (flat f (take i xs)) k n x (pick (eqb n 0) x k) r l refl) (omega arith)
-      (subst Ascending (w .1 ∙ sym (append-assoc (flat f (take i xs)) (x ∷ []) (y ∷ w .0))) a)
+      rising-stop (concatMap f (take i xs) ++ (x ∷ [])) (if (eqb n 0) x k) (x + 1) y (w .0) (rising-step (concatMap f (take i xs)) k n x (if (eqb n 0) x k) r l refl) (omega arith)
+      (subst Ascending (w .1 ∙ sym (append-assoc (concatMap f (take i xs)) (x ∷ []) (y ∷ w .0))) a)
 
 -- ---- SPANS
 
-pub span-fine : {P Q : Type 0} {xs : List ℕ} {f n : ℕ} {r : Span} → P → Rising xs f n → (r .fine ≡ true) × (r .first ≡ f) × (r .last ≡ n - 1) → Spans P Q xs r
+pub span-fine : {P Q : Type 0} {xs : List ℕ} {f n : ℕ} {r : Span} → P → AscendingSpan xs f n → (r .fine ≡ true) × (r .first ≡ f) × (r .last ≡ n - 1) → Spans P Q xs r
 span-fine {P} {Q} {xs} {f} {n} p u e =
     record { judged = subst (Judges P Q) (sym (e .0)) (pass p); ends = λ t. (e .1 ∙ u .first, e .2 ∙ rising-last xs f n u) }
 
 pub span-faulty : {P Q : Type 0} {xs : List ℕ} {r : Span} → Q → r .fine ≡ false → Spans P Q xs r
 span-faulty {P} {Q} q e =
-    record { judged = subst (Judges P Q) (sym e) (fault q); ends = λ t. absurd (let z : _≡_ {A = ℕ} 0 1 = ap tick (sym e ∙ t) in omega arith) }
+    record { judged = subst (Judges P Q) (sym e) (fault q); ends = λ t. absurd (let z : _≡_ {A = ℕ} 0 1 = ap indicator (sym e ∙ t) in omega arith) }
 
 pub span-map : {P P' Q Q' : Type 0} {xs ys : List ℕ} {r : Span} → (P → P') → (Q → Q') → xs ≡ ys → Spans P Q xs r → Spans P' Q' ys r
-span-map f g e s = record { judged = judge-map f g (s .judged); ends = λ t. (s .ends t .0 ∙ ap hd e, s .ends t .1 ∙ ap lst e) }
+span-map f g e s = record { judged = judge-map f g (s .judged); ends = λ t. (s .ends t .0 ∙ ap headNo e, s .ends t .1 ∙ ap lastNo e) }
 
 -- ---- WHAT HOLDS OF THE FIRST i
 

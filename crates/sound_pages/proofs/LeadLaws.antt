@@ -8,8 +8,9 @@ use lib.Dec.{ltb}
 use lib.IntN.{natAbs}
 use lib.ListN.{length, getD, take, drop, set, replicate, length-take, length-set, length-replicate}
 use lib.Seq.{getD-take, getD-set-same, getD-set-other}
-use Rattle.lists.specs.Basics.{pick}
-use Rattle.lists.specs.Members.{same?, all-spot, get-spot}
+use Rattle.lists.specs.Basics.{if}
+use Rattle.lists.specs.Members.{all-spot, get-spot}
+use Rattle.lists.specs.Tests.{decide}
 use Rattle.geometry.specs.declared.Key.{Key}
 use Rattle.geometry.specs.Points.{heightOf, axisOf, pyramidOf}
 use Rattle.geometry.specs.Stored.{coordOf, pointOf}
@@ -60,7 +61,7 @@ module _ (x : Leaf) (m k n : ℕ) where
       let l : i < length tops = omega (arith, s .size) in
       record {
         size = omega (arith, length-set tops i t, s .size);
-        done = λ j b. same? j i
+        done = λ j b. decide j i
             (λ z. subst (λ (y : ℕ). getD (set tops i t) y 0 ≡ leadTo k (getD (x .records) y noRecord .coords)) (sym z)
             (getD-set-same tops i t 0 l ∙ f (s .left i (omega arith) h)))
             (λ d. getD-set-other tops i j t 0 d ∙ s .done j (omega (arith, d)));
@@ -117,11 +118,11 @@ module _ (cs : List ℕ) (d : ℕ) (some : 1 ≤ d) (room : d ≤ length cs) whe
   pub lead-inside : {t : ℕ} → d ≤ 16 → t ≡ leadTo d cs → 15 - t % 16 < d
   lead-inside l e = omega (arith, lead-axis l e, axis-low)
 
-  pub lead-pyramid : {t x : ℕ} → d ≤ 16 → t ≡ leadTo d cs → x ≡ getD cs (15 - t % 16) 0 → pick (ltb x 1000) (15 - t % 16) (15 - t % 16 + d) ≡ pyramidOf (pointOf (take d cs))
+  pub lead-pyramid : {t x : ℕ} → d ≤ 16 → t ≡ leadTo d cs → x ≡ getD cs (15 - t % 16) 0 → if (ltb x 1000) (15 - t % 16) (15 - t % 16 + d) ≡ pyramidOf (pointOf (take d cs))
   lead-pyramid {t} {x} l e f =
       let j : ℕ = 15 - t % 16 in
       let g : x ≡ getD p j 0 = f ∙ sym (getD-take d cs j 0 (lead-inside l e)) in
-      ap (λ (y : ℕ). pick (ltb y 1000) j (j + d)) g ∙ ap (λ (n : ℕ). pick (ltb (getD p j 0) 1000) j (j + n)) (sym point-length)
+      ap (λ (y : ℕ). if (ltb y 1000) j (j + d)) g ∙ ap (λ (n : ℕ). if (ltb (getD p j 0) 1000) j (j + n)) (sym point-length)
       ∙ pyramid-is p j (omega (arith, lead-inside l e, point-length)) (lead-axis l e)
 
 pub lead-key : (r : Record) (d : ℕ) (k : Key) → k .pyramid .0 ≡ pyramidOf (pointOf (take d (r .coords))) → k .height .0 ≡ heightOf (pointOf (take d (r .coords))) → k .id ≡ r .id → k ≡ keyOf d r

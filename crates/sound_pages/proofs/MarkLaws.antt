@@ -5,7 +5,8 @@ use Prim.Native.Nat.{ℕ, suc, _+_, _-_, _≤_, _<_}
 use native.Mathlib.Omega.{arith}
 use lib.ListN.{length, getD, set, length-set}
 use lib.Seq.{getD-set-same, getD-set-other}
-use Rattle.lists.specs.Members.{At, here, next, same?, spot-below}
+use Rattle.lists.specs.Members.{At, here, next, spot-below}
+use Rattle.lists.specs.Tests.{decide}
 use Rattle.pagestore.specs.declared.Entry.{Entry}
 use Rattle.pagestore.specs.Store.{Page, leaf, inner, levelOf, fillOf, entriesOf, View}
 use Rattle.sound_faults.specs.Faults.{RootFill, Reached}
@@ -22,7 +23,7 @@ pub set-here : (m : List ℕ) (p : ℕ) → p < length m → Marked (set m p 1) 
 set-here m p l = getD-set-same m p 1 0 l
 
 pub set-keep : (m : List ℕ) (p q : ℕ) → p < length m → Marked m q → Marked (set m p 1) q
-set-keep m p q l h = same? q p (λ e. subst (Marked (set m p 1)) (sym e) (set-here m p l)) (λ n. getD-set-other m p q 1 0 n ∙ h)
+set-keep m p q l h = decide q p (λ e. subst (Marked (set m p 1)) (sym e) (set-here m p l)) (λ n. getD-set-other m p q 1 0 n ∙ h)
 
 pub set-old : (m : List ℕ) (p q : ℕ) → ¬ (q ≡ p) → Marked (set m p 1) q → Marked m q
 set-old m p q n h = sym (getD-set-other m p q 1 0 n) ∙ h
@@ -35,7 +36,7 @@ pub seen-old : (m : List ℕ) (p q x : ℕ) → ¬ (q ≡ p) → Seen (set m p x
 seen-old m p q x n h = omega (arith, getD-set-other m p q x 0 n)
 
 pub seen-keep : (m : List ℕ) (p q x : ℕ) → p < length m → 0 < x → Seen m q → Seen (set m p x) q
-seen-keep m p q x l h s = same? q p (λ e. subst (Seen (set m p x)) (sym e) (seen-here m p x l h)) (λ n. omega (arith, getD-set-other m p q x 0 n))
+seen-keep m p q x l h s = decide q p (λ e. subst (Seen (set m p x)) (sym e) (seen-here m p x l h)) (λ n. omega (arith, getD-set-other m p q x 0 n))
 
 module _ (v : View) where
   -- ---- the first page
@@ -75,7 +76,7 @@ module _ (v : View) where
         → (Follows v (levelOf (v .page page)) (e .child) → Seen m'' (e .child))
         → (j : ℕ) (f : Entry) → j < i + 1 → At (entriesOf (v .page page)) j f → Follows v (levelOf (v .page page)) (f .child) → Seen m'' (f .child)
     kids-more m' m'' i e a keep old new j f l b w =
-        same? j i
+        decide j i
         (λ z. let s : e ≡ f = spot-same a (subst (λ (k : ℕ). At (entriesOf (v .page page)) k f) z b) in
         subst (λ (x : Entry). Seen m'' (x .child)) s (new (subst (λ (x : Entry). Follows v (levelOf (v .page page)) (x .child)) (sym s) w)))
         (λ n. keep (f .child) (old j f (omega (arith, n)) b w))
@@ -108,10 +109,10 @@ module _ (v : View) where
           size = length-set m' page x ∙ g .size;
           marks = record {
             size = omega (arith, length-set m' page x, g .marks .size);
-            reached = λ q h. same? q page (λ e. subst (Reached v) (sym e) r) (λ d. g .marks .reached q (seen-old m' page q x d h));
-            level = λ q h. same? q page (λ e. subst (λ (y : ℕ). getD (set m' page x) y 0 ≡ suc (levelOf (v .page y))) (sym e) (getD-set-same m' page x 0 l ∙ t))
+            reached = λ q h. decide q page (λ e. subst (Reached v) (sym e) r) (λ d. g .marks .reached q (seen-old m' page q x d h));
+            level = λ q h. decide q page (λ e. subst (λ (y : ℕ). getD (set m' page x) y 0 ≡ suc (levelOf (v .page y))) (sym e) (getD-set-same m' page x 0 l ∙ t))
                 (λ d. getD-set-other m' page q x 0 d ∙ g .marks .level q (seen-old m' page q x d h));
-            closed = λ p j e h a f. seen-keep m' page (e .child) x l o (same? p page
+            closed = λ p j e h a f. seen-keep m' page (e .child) x l o (decide p page
                 (λ z. let b : At (entriesOf (v .page page)) j e = subst (λ (y : ℕ). At (entriesOf (v .page y)) j e) z a in
                 g .kids j e (omega (arith, spot-below b)) b (subst (λ (y : ℕ). Follows v (levelOf (v .page y)) (e .child)) z f))
                 (λ d. g .marks .closed p j e (seen-old m' page p x d h) a f));

@@ -2,7 +2,7 @@
 use mathlib.Core.Path.{_≡_, sym, ap, _∙_, subst}
 use mathlib.Core.List.{List, [], map}
 use Prim.Native.Nat.{ℕ}
-use Rattle.lists.specs.Basics.{All, none, flat}
+use Rattle.lists.specs.Basics.{All, none, concatMap}
 use Rattle.lists.specs.Ascending.{Ascending}
 use Rattle.lists.specs.Members.{At}
 use Rattle.pagestore.specs.declared.Leaf.{Leaf}
@@ -43,7 +43,7 @@ module _ (b : List ℕ) (p d : ℕ) (same : d ≡ viewOf b .d) where
     leaf-judged r s = span-map leaf-fine (leaf-fails r) leaf-ranks s
 
 module _ (b : List ℕ) (p : ℕ) (x : Inner) (e : x ≡ innerAt b p) (deep : ¬ (levelAt b p ≡ 0)) where
-  inner-ranks : (d : ℕ) → ranksIn d (viewOf b .page p) ≡ flat ends (entriesIn x)
+  inner-ranks : (d : ℕ) → ranksIn d (viewOf b .page p) ≡ concatMap ends (entriesIn x)
   unfolding viewOf
   inner-ranks d = ap (ranksIn d) (inner-is b p x e deep)
 
@@ -51,14 +51,14 @@ module _ (b : List ℕ) (p : ℕ) (x : Inner) (e : x ≡ innerAt b p) (deep : ¬
   unfolding viewOf
   inner-records = ap recordsOf (inner-is b p x e deep)
 
-  inner-fine : Ascending (flat ends (entriesIn x)) → PageFine (viewOf b) p
+  inner-fine : Ascending (concatMap ends (entriesIn x)) → PageFine (viewOf b) p
   inner-fine a =
       record {
         order = subst Ascending (sym (inner-ranks (viewOf b .d))) a;
         records = subst (All (RecordOk (viewOf b .d))) (sym inner-records) none;
       }
 
-  inner-fails : Reached (viewOf b) p → ¬ Ascending (flat ends (entriesIn x)) → FailsAt (viewOf b) p
+  inner-fails : Reached (viewOf b) p → ¬ Ascending (concatMap ends (entriesIn x)) → FailsAt (viewOf b) p
   inner-fails r n = FailsAt.order r (λ a. n (subst Ascending (inner-ranks (viewOf b .d)) a))
 
   pub inner-judged : {r : Span} → Reached (viewOf b) p → InnerJudged (entriesIn x) r → PageJudged (viewOf b) p r

@@ -9,13 +9,13 @@ use lib.Dec.{ltb}
 use lib.ListN.{length, getD, set, length-set}
 use lib.Seq.{getD-set-same, getD-set-other}
 use borrow.Author.Tests.{eq-eqb, ne-eqb, ltb-true, ltb-false}
-use Rattle.lists.specs.AscendingLaws.{hd, lst}
-use Rattle.lists.specs.Counts.{mult, by-cases, mult-self, mult-not}
-use Rattle.lists.specs.Members.{same?}
+use Rattle.lists.specs.AscendingLaws.{headNo, lastNo}
+use Rattle.lists.specs.Counts.{mult, mult-self, mult-not, mult-none}
+use Rattle.lists.specs.Tests.{by-cases, decide}
 use Rattle.pagestore.specs.Store.{View, viewOf}
 use Rattle.sound_faults.specs.Faults.{IsPage, ranksIn, Reached, FailsAt}
 use Rattle.sound_faults.specs.Linked.{PageFine, InState, Followed}
-use Rattle.sound_faults.specs.Assembled.{reached-page, mult-none}
+use Rattle.sound_faults.specs.Assembled.{reached-page}
 use Rattle.sound_pages.specs.Judged.{Judges, PageJudged}
 use Rattle.sound_pages.specs.declared.Span.{Span}
 use Rattle.sound_pages.proofs.JudgeLaws.{passes, faults}
@@ -43,16 +43,16 @@ record There (m : List ℕ) (k q : ℕ) : Type 0 where
 
 there-more : (m : List ℕ) (q k : ℕ) → There m k q → There m (k + 1) q
 there-more m q k t =
-    same? (getD m k 0) 0
+    decide (getD m k 0) 0
     (λ n. let e : mult q (markedTo m (k + 1)) ≡ mult q (markedTo m k) = ap (mult q) (marked-no m k n) in
     record {
       once = omega (arith, t .once);
       is = λ x. let w = t .is (omega arith) in (w .0, omega (arith, w .1));
-      has = λ x l. same? q k (λ s. absurd (omega (arith, n, subst (Seen m) s x))) (λ d. omega (arith, t .has x (omega (arith, d))));
+      has = λ x l. decide q k (λ s. absurd (omega (arith, n, subst (Seen m) s x))) (λ d. omega (arith, t .has x (omega (arith, d))));
     })
     (λ h. let e : mult q (markedTo m (k + 1)) ≡ mult q (k ∷ markedTo m k) = ap (mult q) (marked-yes m k h) in
-    same? q k
-    (λ s. let z : mult q (markedTo m k) ≡ 0 = same? (mult q (markedTo m k)) 0 (λ x. x) (λ x. absurd (omega (arith, t .is (omega (arith, x)) .1, s))) in
+    decide q k
+    (λ s. let z : mult q (markedTo m k) ≡ 0 = decide (mult q (markedTo m k)) 0 (λ x. x) (λ x. absurd (omega (arith, t .is (omega (arith, x)) .1, s))) in
     let o : mult q (k ∷ markedTo m k) ≡ 1 + mult q (markedTo m k) = subst (λ (x : ℕ). mult q (x ∷ markedTo m k) ≡ 1 + mult q (markedTo m k)) s (mult-self q (markedTo m k)) in
     let y : Seen m k = omega (arith, h) in
     record { once = omega arith; is = λ x. (subst (Seen m) (sym s) y, omega arith); has = λ x l. omega arith })
@@ -90,7 +90,7 @@ pages-start v f l h g =
 
 pub pages-skip : (v : View) {f l : List ℕ} {p : ℕ} → PagesFine v f l p → ¬ Reached v p → PagesFine v f l (p + 1)
 pages-skip v {f} {l} {p} s n =
-    let low : (q : ℕ) → q < p + 1 → Reached v q → q < p = λ q k r. same? q p (λ e. absurd (n (subst (Reached v) e r))) (λ d. omega (arith, d)) in
+    let low : (q : ℕ) → q < p + 1 → Reached v q → q < p = λ q k r. decide q p (λ e. absurd (n (subst (Reached v) e r))) (λ d. omega (arith, d)) in
     record {
       pages = λ q k r. s .pages q (low q k r) r;
       firstRoom = s .firstRoom;
@@ -103,19 +103,19 @@ pages-skip v {f} {l} {p} s n =
 kept-more : (v : View) (h : ℕ → ℕ) (m : List ℕ) (p x : ℕ) → p < length m → x ≡ h p → ((q : ℕ) → q < p → Reached v q → getD m q 0 ≡ h q)
     → (q : ℕ) → q < p + 1 → Reached v q → getD (set m p x) q 0 ≡ h q
 kept-more v h m p x l e f q k r =
-    same? q p
+    decide q p
     (λ s. subst (λ (y : ℕ). getD (set m p x) y 0 ≡ h y) (sym s) (getD-set-same m p x 0 l ∙ e))
     (λ d. getD-set-other m p q x 0 d ∙ f q (omega (arith, d)) r)
 
 pub pages-step : (v : View) {f l : List ℕ} {p x y : ℕ} → PagesFine v f l p → p < v .count → PageFine v p
-    → (x ≡ hd (ranksIn (v .d) (v .page p))) × (y ≡ lst (ranksIn (v .d) (v .page p))) → PagesFine v (set f p x) (set l p y) (p + 1)
+    → (x ≡ headNo (ranksIn (v .d) (v .page p))) × (y ≡ lastNo (ranksIn (v .d) (v .page p))) → PagesFine v (set f p x) (set l p y) (p + 1)
 pages-step v {f} {l} {p} {x} {y} s k g e =
     record {
-      pages = λ q h r. same? q p (λ z. subst (PageFine v) (sym z) g) (λ d. s .pages q (omega (arith, d)) r);
+      pages = λ q h r. decide q p (λ z. subst (PageFine v) (sym z) g) (λ d. s .pages q (omega (arith, d)) r);
       firstRoom = omega (arith, length-set f p x, s .firstRoom);
       lastRoom = omega (arith, length-set l p y, s .lastRoom);
-      first = kept-more v (λ q. hd (ranksIn (v .d) (v .page q))) f p x (omega (arith, s .firstRoom)) (e .0) (s .first);
-      last = kept-more v (λ q. lst (ranksIn (v .d) (v .page q))) l p y (omega (arith, s .lastRoom)) (e .1) (s .last);
+      first = kept-more v (λ q. headNo (ranksIn (v .d) (v .page q))) f p x (omega (arith, s .firstRoom)) (e .0) (s .first);
+      last = kept-more v (λ q. lastNo (ranksIn (v .d) (v .page q))) l p y (omega (arith, s .lastRoom)) (e .1) (s .last);
     }
 
 -- page p judged by itself, and its ends stored at its place
@@ -140,7 +140,7 @@ named-start v m c =
 -- ---- STATES
 
 pub state-more : (v : View) {p : ℕ} → ((q : ℕ) → IsPage v q → q < p → InState v q) → InState v p → (q : ℕ) → IsPage v q → q < p + 1 → InState v q
-state-more v {p} f s q g l = same? q p (λ e. subst (InState v) (sym e) s) (λ d. f q g (omega (arith, d)))
+state-more v {p} f s q g l = decide q p (λ e. subst (InState v) (sym e) s) (λ d. f q g (omega (arith, d)))
 
 pub state-of : (v : View) (m f : List ℕ) {p : ℕ} → MarksAre v m → FreedMarks v f → Seen m p ⊎ Marked f p → InState v p
 state-of v m f s o (inl h) = inl (s .reached _ h)

@@ -9,7 +9,7 @@ use Rattle.pagestore.specs.declared.Leaf.{Leaf}
 use Rattle.pagestore.specs.declared.Inner.{Inner}
 use Rattle.pagestore.specs.Store.{leaf, inner, levelOf, fillOf, pageAt, levelAt, countAt, leafAt, innerAt, recordsIn, entriesIn, inRange, viewOf}
 use Rattle.pagestore.specs.Store.PageLaws.{leaf-page, inner-page, page-fill, page-level, leaf-counts, inner-counts}
-use Rattle.lists.specs.Basics.{tick}
+use Rattle.lists.specs.Basics.{indicator}
 use Rattle.pagestore.specs.Store.RangeLaws.{range-low, range-high, range-is, range-whole}
 use Rattle.sound_faults.specs.Faults.{IsPage}
 
@@ -38,7 +38,7 @@ page-of b p h = (range-low b p h, range-high b p h)
 
 pub page-out : (b : List ℕ) (p : ℕ) → inRange b p ≡ false → ¬ IsPage (viewOf b) p
 unfolding viewOf
-page-out b p h r = let z : _≡_ {A = ℕ} 0 1 = ap tick (sym h ∙ range-is b p (r .0) (r .1)) in omega arith
+page-out b p h r = let z : _≡_ {A = ℕ} 0 1 = ap indicator (sym h ∙ range-is b p (r .0) (r .1)) in omega arith
 
 pub view-level : (b : List ℕ) (p : ℕ) → levelOf (viewOf b .page p) ≡ levelAt b p
 unfolding viewOf

@@ -5,13 +5,12 @@ use mathlib.Core.List.{List, [], _∷_, _++_, append-assoc, append-nil}
 use Prim.Native.Nat.{ℕ, suc, _+_, _-_, _≤_, _<_}
 use native.Mathlib.Omega.{arith}
 use lib.ListN.{length, set, length-set}
-use Rattle.lists.specs.Counts.{mult, by-cases, mult-append, mult-self, mult-not}
-use Rattle.lists.specs.Members.{same?}
+use Rattle.lists.specs.Counts.{mult, mult-append, mult-self, mult-not, mult-none}
+use Rattle.lists.specs.Tests.{by-cases, decide}
 use Rattle.pagestore.specs.Store.{View, viewOf, pagesIn, inRange, chain, chainEnd, linkAt, fieldAt, freed, freedAt, restAt}
 use Rattle.pagestore.specs.Store.RangeLaws.{range-low, range-high, range-is, range-zero}
 use Rattle.pagestore.specs.Store.FreeLaws.{chain-out, chain-in, end-out, end-in, end-none}
 use Rattle.sound_faults.specs.Faults.{IsPage, FailsAt}
-use Rattle.sound_faults.specs.Assembled.{mult-none}
 use Rattle.sound_pages.specs.Marks.{Marked, Clear, FreedOk, Walked}
 use Rattle.sound_pages.proofs.MarkLaws.{set-here, set-keep, set-old}
 
@@ -71,10 +70,10 @@ module _ (b : List ℕ) where
         freed = s .freed ∙ ap (λ (c : List ℕ). s .done ++ c) (next-pages k q h i) ∙ sym (append-assoc (s .done) (q ∷ []) (chain (v .count - (k + 1)) b (linkAt b q)));
         rest = s .rest ∙ next-end k q h i;
         size = omega (arith, length-set m q 1, s .size);
-        marked = λ c h. same? c q (λ d. subst (λ (x : ℕ). 0 < mult x ds) (sym d) (omega (arith, split q, self))) (λ d. omega (arith, split c, s .marked c (set-old m q c d h)));
-        other = λ c h. same? c q (λ d. absurd (h (subst (Marked (set m q 1)) (sym d) (set-here m q l)))) (λ d. omega (arith, split c, away c d, s .other c (λ y. h (set-keep m q c l y))));
-        once = λ c. same? c q (λ d. subst (λ (x : ℕ). mult x ds ≤ 1) (sym d) (omega (arith, split q, self))) (λ d. omega (arith, split c, away c d, s .once c));
-        used = λ c h. same? c q (λ d. subst (λ (x : ℕ). IsPage v x × (x < v .fresh)) (sym d) ((p, g), u)) (λ d. s .used c (omega (arith, split c, away c d)));
+        marked = λ c h. decide c q (λ d. subst (λ (x : ℕ). 0 < mult x ds) (sym d) (omega (arith, split q, self))) (λ d. omega (arith, split c, s .marked c (set-old m q c d h)));
+        other = λ c h. decide c q (λ d. absurd (h (subst (Marked (set m q 1)) (sym d) (set-here m q l)))) (λ d. omega (arith, split c, away c d, s .other c (λ y. h (set-keep m q c l y))));
+        once = λ c. decide c q (λ d. subst (λ (x : ℕ). mult x ds ≤ 1) (sym d) (omega (arith, split q, self))) (λ d. omega (arith, split c, away c d, s .once c));
+        used = λ c h. decide c q (λ d. subst (λ (x : ℕ). IsPage v x × (x < v .fresh)) (sym d) ((p, g), u)) (λ d. s .used c (omega (arith, split c, away c d)));
       })
 
   -- the chain ends

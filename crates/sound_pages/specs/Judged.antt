@@ -4,10 +4,10 @@ use mathlib.Core.Bool.{Bool, true, false}
 use mathlib.Core.List.{List, map}
 use Prim.Native.Nat.{ℕ, suc, _<_}
 use lib.ListN.{length}
-use Rattle.lists.specs.AscendingLaws.{hd, lst}
+use Rattle.lists.specs.AscendingLaws.{headNo, lastNo}
 use Rattle.lists.specs.Ascending.{Ascending}
 use Rattle.lists.specs.Members.{At}
-use Rattle.lists.specs.Basics.{All, flat}
+use Rattle.lists.specs.Basics.{All, concatMap}
 use Rattle.pagestore.specs.declared.Record.{Record}
 use Rattle.pagestore.specs.declared.Entry.{Entry}
 use Rattle.pagestore.specs.Store.{View}
@@ -41,10 +41,10 @@ pub data RecordsBad (d : ℕ) (rs : List Record) : Type 0 where
   field : (i : ℕ) (r : Record) → At rs i r → ¬ RecordOk d r → RecordsBad d rs
 
 -- xs ascends from f, and goes on ascending with a further number exactly if that is n or above
-pub record Rising (xs : List ℕ) (f n : ℕ) : Type 0 where
+pub record AscendingSpan (xs : List ℕ) (f n : ℕ) : Type 0 where
   pub ascends : Ascending xs
-  pub first : f ≡ hd xs
-  pub last : 0 < length xs → n ≡ suc (lst xs)
+  pub first : f ≡ headNo xs
+  pub last : 0 < length xs → n ≡ suc (lastNo xs)
   pub empty : length xs ≡ 0 → n ≡ 0
 
 -- ---- A PAGE BY ITSELF
@@ -52,14 +52,14 @@ pub record Rising (xs : List ℕ) (f n : ℕ) : Type 0 where
 -- a test that shows P, with the first and the last of the numbers xs, or Q
 pub record Spans (P Q : Type 0) (xs : List ℕ) (r : Span) : Type 0 where
   pub judged : Judges P Q (r .fine)
-  pub ends : r .fine ≡ true → (r .first ≡ hd xs) × (r .last ≡ lst xs)
+  pub ends : r .fine ≡ true → (r .first ≡ headNo xs) × (r .last ≡ lastNo xs)
 
 -- a leaf's records, an inner page's entries, and the followed page p
 abbrev pub LeafJudged : ℕ → List Record → Span → Type 0
 LeafJudged d rs = Spans (RecordsFine d rs) (RecordsBad d rs) (map (rankOf d) rs)
 
 abbrev pub InnerJudged : List Entry → Span → Type 0
-InnerJudged es = Spans (Ascending (flat ends es)) (¬ Ascending (flat ends es)) (flat ends es)
+InnerJudged es = Spans (Ascending (concatMap ends es)) (¬ Ascending (concatMap ends es)) (concatMap ends es)
 
 abbrev pub PageJudged : View → ℕ → Span → Type 0
 PageJudged v p = Spans (PageFine v p) (FailsAt v p) (ranksIn (v .d) (v .page p))

@@ -4,10 +4,10 @@ use mathlib.Core.List.{List, [], _∷_, _++_}
 use Prim.Native.Nat.{ℕ, zero, suc, _+_, _-_, _*_, _≤_, _<_}
 use lib.Dec.{eqb}
 use lib.ListN.{length, getD}
-use Rattle.lists.specs.Basics.{pick}
+use Rattle.lists.specs.Basics.{if}
 use Rattle.lists.specs.Counts.{mult}
 use Rattle.lists.specs.Members.{At}
-use Rattle.lists.specs.AscendingLaws.{hd, lst}
+use Rattle.lists.specs.AscendingLaws.{headNo, lastNo}
 use Rattle.geometry.specs.Keys.{keyNumber}
 use Rattle.pagestore.specs.declared.Entry.{Entry}
 use Rattle.pagestore.specs.Store.{levelOf, entriesOf, View, viewOf, chain, chainEnd}
@@ -71,15 +71,15 @@ pub record MarksAre (v : View) (m : List ℕ) : Type 0 where
 -- the marked pages below k, the highest first
 unfoldable pub markedTo : List ℕ → ℕ → List ℕ
 markedTo m zero = []
-markedTo m (suc k) = pick (eqb (getD m k 0) 0) (markedTo m k) (k ∷ markedTo m k)
+markedTo m (suc k) = if (eqb (getD m k 0) 0) (markedTo m k) (k ∷ markedTo m k)
 
 -- the followed pages below k are fine, each by itself, and their first and last keys are kept as numbers
 pub record PagesFine (v : View) (firsts lasts : List ℕ) (k : ℕ) : Type 0 where
   pub pages : (q : ℕ) → q < k → Reached v q → PageFine v q
   pub firstRoom : v .count ≤ length firsts
   pub lastRoom : v .count ≤ length lasts
-  pub first : (q : ℕ) → q < k → Reached v q → getD firsts q 0 ≡ hd (ranksIn (v .d) (v .page q))
-  pub last : (q : ℕ) → q < k → Reached v q → getD lasts q 0 ≡ lst (ranksIn (v .d) (v .page q))
+  pub first : (q : ℕ) → q < k → Reached v q → getD firsts q 0 ≡ headNo (ranksIn (v .d) (v .page q))
+  pub last : (q : ℕ) → q < k → Reached v q → getD lasts q 0 ≡ lastNo (ranksIn (v .d) (v .page q))
 
 -- ---- THE FREED PAGES
 

@@ -4,7 +4,7 @@ ghost use mathlib.Core.Bool.{true, false};
 ghost use Prim.Native.Nat.{_-_, _<_, _≤_, _^_};
 ghost use lib.Dec.{eqb};
 ghost use lib.ListN.{length};
-ghost use Rattle.lists.specs.Basics.{pick};
+ghost use Rattle.lists.specs.Basics.{if};
 ghost use Rattle.geometry.specs.Keys.{keyNumber};
 ghost use Rattle.pagestore.specs.Layout.{leafOf};
 ghost use Rattle.pagestore.specs.Store.{recordsIn, entriesIn, fillOf, pageAt, leafAt, innerAt, inRange, viewOf};
@@ -57,7 +57,7 @@ fn faulty() -> Span
 
 // The first key, where `own` comes after keys that are all below `next`.
 fn first_of(next: u64, first: u64, own: u64) -> u64
-    ensures { λ r. ⌜ r ≡ pick (eqb next 0) own first ⌝ }
+    ensures { λ r. ⌜ r ≡ if (eqb next 0) own first ⌝ }
 {
     if next == 0 { own } else { first }
 }

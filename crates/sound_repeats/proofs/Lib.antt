@@ -1,4 +1,4 @@
 pub mod RepeatsLaws
-pub mod LanesLaws
+pub mod BucketLaws
 pub mod SpreadLaws
 pub mod Examples

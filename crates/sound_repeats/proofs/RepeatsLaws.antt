@@ -8,9 +8,9 @@ use native.Mathlib.Omega.{arith}
 use lib.Dec.{eqb}
 use lib.ListN.{length, getD}
 use borrow.Author.Tests.{lt-ltb, ltb-true, eq-eqb, ne-eqb, eqb-true, eqb-false}
-use Rattle.lists.specs.Basics.{pick, All}
-use Rattle.lists.specs.Tests.{cases, three}
-use Rattle.lists.specs.FlatLaws.{all-at}
+use Rattle.lists.specs.Basics.{if, All}
+use Rattle.lists.specs.Tests.{three, by-cases}
+use Rattle.lists.specs.Tabulated.{all-at}
 use Rattle.lists.specs.Places.{elsewhere, twice}
 use Rattle.lists.specs.Distinct.{Distinct, distinct-places, places-distinct}
 use Rattle.sound_repeats.specs.Repeats.{repeated, lowerPage, lowestOf, lowestRepeat, Repeated, Under, Lowest}
@@ -30,19 +30,19 @@ module _ (p q : ℕ) where
 
 pub lower-left : (a b p : ℕ) → Under a p → Under (lowerPage a b) p
 lower-left a b p u h = let q = u h in
-    cases (eqb a 0) (λ e. let z = eqb-true a 0 e in absurd (omega arith))
-    (λ e. cases (eqb b 0) (λ d. simp (e, d) q) (λ d. simp (e, d) (omega (arith, eqb-false b 0 d))))
+    by-cases (eqb a 0) (λ e. let z = eqb-true a 0 e in absurd (omega arith))
+    (λ e. by-cases (eqb b 0) (λ d. simp (e, d) q) (λ d. simp (e, d) (omega (arith, eqb-false b 0 d))))
 
 pub lower-right : (a b p : ℕ) → Under b p → Under (lowerPage a b) p
 lower-right a b p u h = let q = u h in
-    cases (eqb a 0) (λ e. simp e q)
-    (λ e. cases (eqb b 0) (λ d. let z = eqb-true b 0 d in absurd (omega arith)) (λ d. simp (e, d) (omega (arith, eqb-false a 0 e))))
+    by-cases (eqb a 0) (λ e. simp e q)
+    (λ e. by-cases (eqb b 0) (λ d. let z = eqb-true b 0 d in absurd (omega arith)) (λ d. simp (e, d) (omega (arith, eqb-false a 0 e))))
 
 -- what holds of each holds of the lower
 pub of-lower : (P : ℕ → Type 0) (a b : ℕ) → (0 < a → P a) → (0 < b → P b) → 0 < lowerPage a b → P (lowerPage a b)
 of-lower P a b f g =
-    cases (eqb a 0) (λ e. simp e g)
-    (λ e. cases (eqb b 0) (λ d. simp (e, d) f)
+    by-cases (eqb a 0) (λ e. simp e g)
+    (λ e. by-cases (eqb b 0) (λ d. simp (e, d) f)
     (λ d. simp (e, d) (λ h. three a b
     (λ l. let m : min a b ≡ a = omega arith in rw m (f (omega arith)))
     (λ l. let m : min a b ≡ a = omega arith in rw m (f (omega arith)))
@@ -70,17 +70,17 @@ of-least : (ids xs ps : List ℕ) (i : ℕ) → i < length xs → repeated ids (
 unfolding lowestOf
 of-least ids [] ps i h e = absurd (omega arith)
 of-least ids (x ∷ xs) [] i h e = λ l. absurd (omega arith)
-of-least ids (x ∷ xs) (p ∷ ps) zero h e = lower-left (pick (repeated ids x) p 0) (lowestOf ids xs ps) p (rw e (λ l. omega arith))
+of-least ids (x ∷ xs) (p ∷ ps) zero h e = lower-left (if (repeated ids x) p 0) (lowestOf ids xs ps) p (rw e (λ l. omega arith))
 of-least ids (x ∷ xs) (p ∷ ps) (suc i) h e =
-    lower-right (pick (repeated ids x) p 0) (lowestOf ids xs ps) (getD ps i 0) (of-least ids xs ps i (omega arith) e)
+    lower-right (if (repeated ids x) p 0) (lowestOf ids xs ps) (getD ps i 0) (of-least ids xs ps i (omega arith) e)
 
 of-held : (ids xs ps : List ℕ) → 0 < lowestOf ids xs ps → At ids xs ps (lowestOf ids xs ps)
 unfolding lowestOf
 of-held ids [] ps h = absurd (omega arith)
 of-held ids (x ∷ xs) [] h = absurd (omega arith)
 of-held ids (x ∷ xs) (p ∷ ps) h =
-    of-lower (At ids (x ∷ xs) (p ∷ ps)) (pick (repeated ids x) p 0) (lowestOf ids xs ps)
-    (cases (repeated ids x)
+    of-lower (At ids (x ∷ xs) (p ∷ ps)) (if (repeated ids x) p 0) (lowestOf ids xs ps)
+    (by-cases (repeated ids x)
     (λ e. rw e (λ h. record { place = 0; within = omega arith; twice = e; page = refl }))
     (λ e. rw e (λ h. absurd (omega arith))))
     (λ h. let a = of-held ids xs ps h in record { place = suc (a .place); within = let q = a .within in omega arith; twice = a .twice; page = a .page })
@@ -115,7 +115,7 @@ module _ (ids pages : List ℕ) where
   pub none-distinct : length pages ≡ length ids → All (λ p. 0 < p) pages → lowestRepeat ids pages ≡ 0 → Distinct ids
   none-distinct each real z =
       places-distinct 0 ids (λ i k h g n e.
-      let q = lowest-repeat ids pages .least i (record { here = h; other = k; there = g; apart = n; same = e }) (all-at pages i 0 (omega arith) real) in
+      let q = lowest-repeat ids pages .least i (record { here = h; other = k; there = g; apart = n; same = e }) (all-at real i 0 (omega arith)) in
       let p = q .0 in omega arith)
 
   pub distinct-none : Distinct ids → lowestRepeat ids pages ≡ 0

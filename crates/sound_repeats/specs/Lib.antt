@@ -1,2 +1,2 @@
 pub mod Repeats
-pub mod Lanes
+pub mod Buckets

@@ -6,7 +6,7 @@ use mathlib.Core.Logic.{_≢_}
 use mathlib.Core.List.{List, [], _∷_}
 use lib.Dec.{eqb, ltb}
 use lib.ListN.{length, getD}
-use Rattle.lists.specs.Basics.{pick}
+use Rattle.lists.specs.Basics.{if}
 use Rattle.lists.specs.Counts.{mult}
 
 -- x stands at two places or more
@@ -15,13 +15,13 @@ repeated ids x = ltb 1 (mult x ids)
 
 -- the lower of two pages, 0 being no page
 abbrev pub lowerPage : ℕ → ℕ → ℕ
-lowerPage p q = pick (eqb p 0) q (pick (eqb q 0) p (min p q))
+lowerPage p q = if (eqb p 0) q (if (eqb q 0) p (min p q))
 
 -- the lowest of the pages ps whose identifier in xs is repeated among ids; 0 if there is none
 unfoldable pub lowestOf : List ℕ → List ℕ → List ℕ → ℕ
 lowestOf ids [] ps = 0
 lowestOf ids (x ∷ xs) [] = 0
-lowestOf ids (x ∷ xs) (p ∷ ps) = lowerPage (pick (repeated ids x) p 0) (lowestOf ids xs ps)
+lowestOf ids (x ∷ xs) (p ∷ ps) = lowerPage (if (repeated ids x) p 0) (lowestOf ids xs ps)
 
 -- the lowest page that holds a repeated identifier, the identifier at each place being on the page at that place; 0 if there is none
 unfoldable pub lowestRepeat : List ℕ → List ℕ → ℕ

@@ -1,9 +1,9 @@
 // The lowest page that holds a repeated identifier, among up to 65,535 identifiers with the page of each, in linear time whatever they are.
 //
-// Where all differ by their low 12 or 16 bits, they are distinct. Else they go by lanes.
-// Identifiers with the same low 14 bits are in one lane, each lane a chain from its last identifier to its first. Up to 16,384 identifiers are compared with
-// those of their lane as they come, with at most nine each. Where that does not settle it, and for more identifiers, the lanes are walked one after
-// the other, each stamping at the high 18 bits of what it meets where that was: two identifiers of a lane with the same high bits are the same.
+// Where all differ by their low 12 or 16 bits, they are distinct. Else they go by buckets.
+// Identifiers with the same low 14 bits are in one bucket, each bucket a chain from its last identifier to its first. Up to 16,384 identifiers are compared with
+// those of their bucket as they come, with at most nine each. Where that does not settle it, and for more identifiers, the buckets are walked one after
+// the other, each stamping at the high 18 bits of what it meets where that was: two identifiers of a bucket with the same high bits are the same.
 // A link or a stamp is one more than a place, or 0 for none.
 ghost use mathlib.Core.Bool.{true};
 ghost use mathlib.Core.Path.{_≡_};
@@ -11,15 +11,15 @@ ghost use Prim.Native.Nat.{_+_, _≤_, _<_, _/_, _%_};
 ghost use lib.ListN.{length, getD, take};
 ghost use Rattle.lists.specs.Distinct.{Distinct};
 ghost use Rattle.sound_repeats.specs.Repeats.{lowerPage, lowestRepeat};
-ghost use Rattle.sound_repeats.specs.Lanes.{laneOf, latest, metOf, Heads, Chained, Room, Blank, Stage, Probed};
+ghost use Rattle.sound_repeats.specs.Buckets.{bucketOf, latest, metOf, Heads, Chained, Room, Blank, Stage, Probed};
 
-// What comparing within the lanes found: the lowest page, if settled.
+// What comparing within the buckets found: the lowest page, if settled.
 struct Attempt {
     settled: bool,
     page: u16,
 }
 
-fn lane(x: u32) -> usize
+fn bucket(x: u32) -> usize
     ensures { λ r. ⌜ r ≡ x % 16384 ⌝ }
 {
     (x % 16384) as usize
@@ -75,13 +75,13 @@ fn met(ids: &[u32], pages: &[u16], i: usize, k: usize, best: u16) -> u16
     lower_page(best, lower_page(pages[i], pages[o]))
 }
 
-// Adds the identifier at i to its lane's chain; the link to the one before it is returned.
+// Adds the identifier at i to its bucket's chain; the link to the one before it is returned.
 fn chain(ids: &[u32], head: &mut [u16], next: &mut [u16], i: usize) -> usize
     requires { ⌜ Room (now ids) (now head) (now next) × (i < length (now ids)) × Heads i (now ids) (now head) × Chained i (now ids) (now next) ⌝ }
-    ensures { λ r. ⌜ (r ≡ latest (now (ids .entry)) (laneOf (getD (now (ids .entry)) i 0)) i)
+    ensures { λ r. ⌜ (r ≡ latest (now (ids .entry)) (bucketOf (getD (now (ids .entry)) i 0)) i)
         × Heads (i + 1) (now (ids .entry)) (now (head .exit)) × Chained (i + 1) (now (ids .entry)) (now (next .exit)) ⌝ }
 {
-    let g = lane(ids[i]);
+    let g = bucket(ids[i]);
     let before = head[g];
     next[i] = before;
     head[g] = narrow(i + 1);
@@ -92,7 +92,7 @@ fn chain(ids: &[u32], head: &mut [u16], next: &mut [u16], i: usize) -> usize
 // where nine others come first.
 fn probe(ids: &[u32], next: &[u16], i: usize, from: usize) -> usize
     requires { ⌜ (length (now ids) ≤ length (now next)) × (i < length (now ids)) × Chained i (now ids) (now next)
-        × (from ≡ latest (now ids) (laneOf (getD (now ids) i 0)) i) ⌝ }
+        × (from ≡ latest (now ids) (bucketOf (getD (now ids) i 0)) i) ⌝ }
     ensures { λ r. ⌜ Probed (now (ids .entry)) i (getD (now (ids .entry)) i 0) r ⌝ }
 {
     let x = ids[i];
@@ -112,7 +112,7 @@ fn probe(ids: &[u32], next: &[u16], i: usize, from: usize) -> usize
     0
 }
 
-// Compares each identifier with those of its lane that came before.
+// Compares each identifier with those of its bucket that came before.
 fn compare(ids: &[u32], pages: &[u16], head: &mut [u16], next: &mut [u16]) -> Attempt
     requires { ⌜ Room (now ids) (now head) (now next) × (length (now pages) ≡ length (now ids)) × Blank (now head) ⌝ }
     ensures { λ r. ⌜ (r .settled ≡ true → r .page ≡ lowestRepeat (now (ids .entry)) (now (pages .entry))) ⌝ }
@@ -150,7 +150,7 @@ fn chains(ids: &[u32], head: &mut [u16], next: &mut [u16])
     }
 }
 
-// Walks lane g: the lowest page so far.
+// Walks bucket g: the lowest page so far.
 fn walk(
     ids: &[u32],
     pages: &[u16],
@@ -178,7 +178,7 @@ fn walk(
     best
 }
 
-// Walks all lanes.
+// Walks all buckets.
 fn walks(ids: &[u32], pages: &[u16], head: &[u16], next: &[u16], stamps: &mut [u16]) -> u16
     requires { ⌜ Room (now ids) (now head) (now next) × (length (now pages) ≡ length (now ids)) × (length (now stamps) ≡ 262144)
         × Heads (length (now ids)) (now ids) (now head) × Chained (length (now ids)) (now ids) (now next) × Blank (now stamps) ⌝ }

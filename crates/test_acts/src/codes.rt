@@ -4,10 +4,10 @@
 ghost use mathlib.Core.Path.{_≡_};
 ghost use Prim.Native.Nat.{_≤_, _<_};
 ghost use lib.ListN.{length};
-use test_parts::show::line;
-use test_parts::show::text;
 use index::Criteria;
 use index_answer::Answer;
+use test_parts::show::line;
+use test_parts::show::text;
 
 // 1 if a length is not permitted.
 fn refused_length(bytes: usize) -> u64 {

@@ -2,13 +2,13 @@
 ghost use Prim.Native.Nat.{_≤_, _<_};
 ghost use Rattle.index.specs.Asking.{questionOf};
 ghost use Rattle.index.specs.Questions.{Questioned};
+use index::Criteria;
+use index_answer::Answer;
+use index_answer::Tally;
 use search_rows::Row;
 use test_parts::places::coordinate;
 use test_parts::show::line;
 use test_parts::show::text;
-use index::Criteria;
-use index_answer::Answer;
-use index_answer::Tally;
 
 // An answer, with the rows and the tally after it.
 pub struct Kept {

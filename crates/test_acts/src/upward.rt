@@ -3,16 +3,16 @@ ghost use mathlib.Core.Path.{_≡_};
 ghost use Prim.Native.Nat.{_≤_, _<_};
 ghost use lib.ListN.{length};
 use crate::lent;
-use search_rows::row_of;
-use test_parts::listing::list_leaves;
-use test_parts::places::coordinate;
-use test_parts::show::line;
-use test_parts::show::text;
 use index::Criteria;
 use index_answer::Answer;
 use pagestore::free_count;
 use pagestore::fresh_page;
 use pagestore::leaf_at;
+use search_rows::row_of;
+use test_parts::listing::list_leaves;
+use test_parts::places::coordinate;
+use test_parts::show::line;
+use test_parts::show::text;
 
 // Inserts identifier n at n.
 fn insert_one(index: &mut [u8], n: u16) -> u32

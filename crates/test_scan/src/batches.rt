@@ -13,9 +13,9 @@ use crate::numbers::WIDE;
 use crate::numbers::draw;
 use crate::numbers::leap;
 use crate::scan::live_count;
+use std::num::wrapping_add_u64;
 use test_parts::listing::list_leaves;
 use test_parts::show;
-use std::num::wrapping_add_u64;
 
 // A batch: the features, the points and how they lie, and how many questions are asked at each stage.
 struct Batch {

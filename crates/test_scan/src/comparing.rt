@@ -9,10 +9,10 @@ use crate::leaves::set_count;
 use crate::numbers::point_at;
 use crate::scan::measure;
 use crate::scan::take;
-use search_rows::Row;
-use search_rows::row_of;
 use index::Criteria;
 use index_answer::Answer;
+use search_rows::Row;
+use search_rows::row_of;
 
 // What a question asks for: the features, k, the number of points that are live and of leaves.
 pub struct Asked {

@@ -6,10 +6,10 @@ ghost use lib.ListN.{length};
 use crate::scan::FAR;
 use crate::scan::gap;
 use crate::scan::square;
-use test_parts::listing::at_most_16;
 use pagestore::Leaf;
 use pagestore::Record;
 use pagestore::leaf_at;
+use test_parts::listing::at_most_16;
 
 // Their spans, as numbers of pairs
 

@@ -2,7 +2,6 @@
 //
 // The sound index: 8 pages, one feature. Pages 1 and 2 are leaves of the points 1 .. 8 and 9 .. 16, page 3 is the root over them, page 4 is freed, and
 // pages 5 to 7 were never used.
-use pagestore_free::free_page;
 use geometry::Height;
 use geometry::Key;
 use geometry::Pyramid;
@@ -21,6 +20,7 @@ use pagestore::set_leaf;
 use pagestore::set_root_level;
 use pagestore::set_root_page;
 use pagestore::set_total_records;
+use pagestore_free::free_page;
 use sound_check::Checked;
 use sound_check::check;
 ghost use Prim.Native.Nat.{_≤_};

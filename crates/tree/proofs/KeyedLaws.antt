@@ -10,16 +10,17 @@ use lib.Dec.{eqb}
 use lib.ListN.{length, getD, take, drop, length-take, drop-of-length-le}
 use lib.Seq.{drop-cons, getD-take}
 use borrow.Author.Tests.{eq-eqb, ne-eqb}
-use Rattle.lists.specs.Basics.{pick}
-use Rattle.lists.specs.Counts.{by-cases}
+use Rattle.lists.specs.Basics.{if}
 use Rattle.lists.specs.Leading.{leading}
+use Rattle.lists.specs.Tests.{by-cases}
+use Rattle.lists.specs.Equal.{same}
 use Rattle.pagestore.specs.declared.Record.{Record}
 use Rattle.pagestore.specs.declared.Entry.{Entry}
 use Rattle.pagestore.specs.declared.Leaf.{Leaf}
 use Rattle.pagestore.specs.Store.{features, root, level, leafAt, innerAt, recordsIn, entriesIn, fieldAt}
 use Rattle.tree_model.specs.Trees.{rankOf}
 use Rattle.tree.specs.Entries.{choose, childAt}
-use Rattle.tree.specs.Keyed.{leafFor, same, samePoint, heldAmong, holdsAt}
+use Rattle.tree.specs.Keyed.{leafFor, samePoint, heldAmong, holdsAt}
 use Rattle.tree_core.specs.CodeTerms.{otherIdent}
 
 -- ---- the leaf
@@ -42,7 +43,7 @@ Rests d xs ys m = same (take d xs) (take d ys) ≡ same (drop m (take d xs)) (dr
 
 module _ (d n : ℕ) (xs ys : List ℕ) (m : ℕ) (n= : n ≡ min 16 d) (long : length xs ≡ 16) (wide : length ys ≡ 16) (h : Rests d xs ys m) where
   module _ (g : m < n) where
-    here : same (drop m (take d xs)) (drop m (take d ys)) ≡ pick (eqb (getD xs m 0) (getD ys m 0)) (same (drop (suc m) (take d xs)) (drop (suc m) (take d ys))) false
+    here : same (drop m (take d xs)) (drop m (take d ys)) ≡ if (eqb (getD xs m 0) (getD ys m 0)) (same (drop (suc m) (take d xs)) (drop (suc m) (take d ys))) false
     unfolding same
     here =
         rw (drop-cons (take d xs) m 0 (omega (arith, length-take d xs)), drop-cons (take d ys) m 0 (omega (arith, length-take d ys)), getD-take d xs m 0 (omega arith), getD-take d ys m 0 (omega arith))

@@ -4,7 +4,8 @@ use mathlib.Core.List.{List, [], _∷_}
 use Prim.Native.Nat.{ℕ, zero, suc}
 use lib.Dec.{eqb}
 use lib.ListN.{take}
-use Rattle.lists.specs.Basics.{pick}
+use Rattle.lists.specs.Basics.{if}
+use Rattle.lists.specs.Equal.{same}
 use Rattle.pagestore.specs.declared.Record.{Record}
 use Rattle.pagestore.specs.Store.{features, root, level, leafAt, innerAt, recordsIn, entriesIn, fieldAt}
 use Rattle.tree_model.specs.Trees.{rankOf}
@@ -15,13 +16,6 @@ unfoldable pub leafFor : ℕ → List ℕ → ℕ → ℕ → ℕ
 leafFor zero b p k = p
 leafFor (suc l) b p k = let es = entriesIn (innerAt b p) in leafFor l b (childAt es (choose k es)) k
 
--- the test of equal lists
-unfoldable pub same : List ℕ → List ℕ → Bool
-same [] [] = true
-same [] (y ∷ ys) = false
-same (x ∷ xs) [] = false
-same (x ∷ xs) (y ∷ ys) = pick (eqb x y) (same xs ys) false
-
 -- two records have the same point: their first d slots
 unfoldable pub samePoint : ℕ → Record → Record → Bool
 samePoint d x y = same (take d (x .coords)) (take d (y .coords))
@@ -29,7 +23,7 @@ samePoint d x y = same (take d (x .coords)) (take d (y .coords))
 -- the first of some records that has x's identifier has x's point
 unfoldable pub heldAmong : ℕ → Record → List Record → Bool
 heldAmong d x [] = false
-heldAmong d x (r ∷ rs) = pick (eqb (r .id) (x .id)) (samePoint d r x) (heldAmong d x rs)
+heldAmong d x (r ∷ rs) = if (eqb (r .id) (x .id)) (samePoint d r x) (heldAmong d x rs)
 
 -- those of the leaf to which x's key leads
 unfoldable pub holdsAt : List ℕ → Record → Bool

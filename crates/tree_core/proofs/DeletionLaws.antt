@@ -10,9 +10,9 @@ use lib.Dec.{leb, ltb, eqb}
 use lib.ListN.{length, take, drop, set, length-append, length-take, length-drop, length-set}
 use lib.Seq.{slice, take-nil, drop-nil, take-all, take-length, take-set-le, take-set-lt, set-out, take-append-add, drop-append-add, take-append-le, drop-append-le, take-append-seam, drop-append-seam}
 use borrow.Author.Tests.{ltb-true, ltb-false, leb-true, leb-false, lt-ltb, le-ltb, le-leb, lt-leb, eq-eqb, ne-eqb}
-use Rattle.lists.specs.Basics.{pick}
-use Rattle.lists.specs.Counts.{by-cases}
+use Rattle.lists.specs.Basics.{if}
 use Rattle.lists.specs.Leading.{leading}
+use Rattle.lists.specs.Tests.{by-cases}
 use Rattle.pagestore.specs.declared.Record.{Record}
 use Rattle.pagestore.specs.declared.Entry.{Entry}
 use Rattle.pagestore.specs.declared.Leaf.{Leaf}
@@ -21,8 +21,8 @@ use Rattle.pagestore.specs.Store.{Field, features, root, level, total, leafAt, 
 use Rattle.tree_model.specs.Trees.{rankOf}
 use Rattle.tree_core.specs.Entries.{choose, childAt, leafEntry, innerEntry}
 use Rattle.tree_core.specs.Insertion.{writeInner}
-use Rattle.tree_core.specs.Deletion.{Deleted, deleteRecord, evenItems, Evened, putEven, evenPages, leftOf, leave, mend, deleteAt, lowerRoot, takeFromTotal, deleteFrom}
-use Rattle.tree_core.specs.CodeTerms.{otherIdent, grownList, LeftDone, deletedOf, EvenDone, evenCut, evenedOut}
+use Rattle.tree_core.specs.Deletion.{Deleted, deleteRecord, rebalancedItems, Rebalanced, putRebalanced, rebalancedPages, leftOf, leave, fixUnderflow, deleteAt, collapseRoot, takeFromTotal, deleteFrom}
+use Rattle.tree_core.specs.CodeTerms.{otherIdent, grownList, LeftDone, deletedOf, RebalanceDone, leftCount, rebalancedBelow}
 use Rattle.tree_core.specs.declared.Grown.{Grown}
 use Rattle.tree_core.specs.declared.Grown.the-variants.{One, Two}
 use Rattle.tree_core.specs.declared.Left.{Left}
@@ -62,13 +62,13 @@ module _ {A : Type 0} where
   last-few k n xs ys e f g h = rw (last-both k n xs ys e f g) (omega (arith, length-drop k (xs ++ ys), length-append xs ys))
 
   -- they join, or are cut after the first k
-  EvenWays : List A → List A → ℕ → Type 0
-  EvenWays xs ys k =
-      ((k ≡ length xs + length ys) × (evenItems xs ys ≡ (xs ++ ys) ∷ []))
-      ⊎ ((k ≢ length xs + length ys) × (evenItems xs ys ≡ take k (xs ++ ys) ∷ drop k (xs ++ ys) ∷ []))
+  RebalanceWays : List A → List A → ℕ → Type 0
+  RebalanceWays xs ys k =
+      ((k ≡ length xs + length ys) × (rebalancedItems xs ys ≡ (xs ++ ys) ∷ []))
+      ⊎ ((k ≢ length xs + length ys) × (rebalancedItems xs ys ≡ take k (xs ++ ys) ∷ drop k (xs ++ ys) ∷ []))
 
-  even-ways : (xs ys : List A) → EvenWays xs ys (evenCut (length xs) (length ys))
-  unfolding EvenWays evenItems evenCut
+  even-ways : (xs ys : List A) → RebalanceWays xs ys (leftCount (length xs) (length ys))
+  unfolding RebalanceWays rebalancedItems leftCount
   even-ways xs ys =
       by-cases (ltb (length xs) 8)
       (λ e. by-cases (ltb 8 (length ys))
@@ -90,45 +90,45 @@ module _ {A : Type 0} where
       simp (e, f) (inr (λ (z : length xs ≡ length xs + length ys). omega arith, rw (take-append-seam xs ys, drop-append-seam xs ys) refl))))
 
   -- (n and m are the numbers of their items)
-  module _ (xs ys : List A) (n m k : ℕ) (x : n ≡ length xs) (y : m ≡ length ys) (e : k ≡ evenCut n m) where
-    cut-is : k ≡ evenCut (length xs) (length ys)
+  module _ (xs ys : List A) (n m k : ℕ) (x : n ≡ length xs) (y : m ≡ length ys) (e : k ≡ leftCount n m) where
+    cut-is : k ≡ leftCount (length xs) (length ys)
     cut-is = rw (x, y) at e
 
-    pub even-join : {us : List A} → k ≡ n + m → us ≡ take k (xs ++ ys) → us ∷ [] ≡ evenItems xs ys
-    unfolding EvenWays
+    pub even-join : {us : List A} → k ≡ n + m → us ≡ take k (xs ++ ys) → us ∷ [] ≡ rebalancedItems xs ys
+    unfolding RebalanceWays
     even-join {us} f g =
         let w : us ≡ xs ++ ys = g ∙ take-all k (xs ++ ys) (omega (arith, length-append xs ys)) in
         let f' : k ≡ length xs + length ys = omega arith in
         ⊎-elim (λ h. ap (λ (l : List A). l ∷ []) w ∙ sym (h .1)) (λ h. absurd (h .0 (sym cut-is ∙ f'))) (even-ways xs ys)
 
-    pub even-share : {us vs : List A} → k ≢ n + m → us ≡ take k (xs ++ ys) → vs ≡ drop k (xs ++ ys) → us ∷ vs ∷ [] ≡ evenItems xs ys
-    unfolding EvenWays
+    pub even-share : {us vs : List A} → k ≢ n + m → us ≡ take k (xs ++ ys) → vs ≡ drop k (xs ++ ys) → us ∷ vs ∷ [] ≡ rebalancedItems xs ys
+    unfolding RebalanceWays
     even-share {us} {vs} f g h =
         let f' : k ≢ length xs + length ys = λ (z : k ≡ length xs + length ys). f (omega arith) in
         ⊎-elim (λ w. absurd (f' (cut-is ∙ w .0))) (λ w. rw (g, h, cut-is) (sym (w .1))) (even-ways xs ys)
 
   module _ (write : List ℕ → ℕ → List A → List ℕ) (entry : ℕ → List A → Entry) (b : List ℕ) (p q : ℕ) where
-    pub put-joined : {us : List A} {b1 y : List ℕ} {e : Entry} → b1 ≡ write b p us → y ≡ freePage b1 q → e ≡ entry p us → EvenDone (putEven write entry b p q (us ∷ [])) y (One e)
-    unfolding putEven
+    pub put-joined : {us : List A} {b1 y : List ℕ} {e : Entry} → b1 ≡ write b p us → y ≡ freePage b1 q → e ≡ entry p us → RebalanceDone (putRebalanced write entry b p q (us ∷ [])) y (One e)
+    unfolding putRebalanced
     put-joined f g h = record { bytes = rw f at g; entries = ap (λ (x : Entry). x ∷ []) h }
 
     pub put-shared : {us vs : List A} {b1 y : List ℕ} {e f : Entry} → b1 ≡ write b p us → y ≡ write b1 q vs → e ≡ entry p us → f ≡ entry q vs
-        → EvenDone (putEven write entry b p q (us ∷ vs ∷ [])) y (Two e f)
-    unfolding putEven
+        → RebalanceDone (putRebalanced write entry b p q (us ∷ vs ∷ [])) y (Two e f)
+    unfolding putRebalanced
     put-shared {us} {vs} {b1} {y} {e} {f} h k i j = record { bytes = cc; entries = cc }
 
-pub even-leaves : (d : ℕ) (b : List ℕ) (p q : ℕ) {a c : Leaf} {zs : List (List Record)} {y : List ℕ} {g : Grown} → a ≡ leafAt b p → c ≡ leafAt b q
-    → zs ≡ evenItems (recordsIn a) (recordsIn c) → EvenDone (putEven setLeaf (leafEntry d) b p q zs) y g → EvenDone (evenPages d 0 b p q) y g
-unfolding evenPages
-even-leaves d b p q a= c= e h = rw (e, a=, c=) at h
+pub rebalance-leaves : (d : ℕ) (b : List ℕ) (p q : ℕ) {a c : Leaf} {zs : List (List Record)} {y : List ℕ} {g : Grown} → a ≡ leafAt b p → c ≡ leafAt b q
+    → zs ≡ rebalancedItems (recordsIn a) (recordsIn c) → RebalanceDone (putRebalanced setLeaf (leafEntry d) b p q zs) y g → RebalanceDone (rebalancedPages d 0 b p q) y g
+unfolding rebalancedPages
+rebalance-leaves d b p q a= c= e h = rw (e, a=, c=) at h
 
-pub even-inners : (d l v : ℕ) (b : List ℕ) (p q : ℕ) {a c : Inner} {zs : List (List Entry)} {y : List ℕ} {g : Grown} → 0 < l → v ≡ l → a ≡ innerAt b p → c ≡ innerAt b q
-    → zs ≡ evenItems (entriesIn a) (entriesIn c) → EvenDone (putEven (writeInner v) innerEntry b p q zs) y g → EvenDone (evenPages d l b p q) y g
-unfolding evenPages
-even-inners d zero v b p q z f a= c= e h = absurd (omega arith)
-even-inners d (suc l) v b p q z f a= c= e h = rw (f, e, a=, c=) at h
+pub rebalance-inners : (d l v : ℕ) (b : List ℕ) (p q : ℕ) {a c : Inner} {zs : List (List Entry)} {y : List ℕ} {g : Grown} → 0 < l → v ≡ l → a ≡ innerAt b p → c ≡ innerAt b q
+    → zs ≡ rebalancedItems (entriesIn a) (entriesIn c) → RebalanceDone (putRebalanced (writeInner v) innerEntry b p q zs) y g → RebalanceDone (rebalancedPages d l b p q) y g
+unfolding rebalancedPages
+rebalance-inners d zero v b p q z f a= c= e h = absurd (omega arith)
+rebalance-inners d (suc l) v b p q z f a= c= e h = rw (f, e, a=, c=) at h
 
-pub even-level : (d l : ℕ) (b : List ℕ) (p q : ℕ) {y : List ℕ} {g : Grown} → l ≡ 0 → EvenDone (evenPages d 0 b p q) y g → EvenDone (evenPages d l b p q) y g
+pub even-level : (d l : ℕ) (b : List ℕ) (p q : ℕ) {y : List ℕ} {g : Grown} → l ≡ 0 → RebalanceDone (rebalancedPages d 0 b p q) y g → RebalanceDone (rebalancedPages d l b p q) y g
 even-level d l b p q e h = rw e h
 
 -- ---- the page above
@@ -151,23 +151,23 @@ pub leave-is : (l : ℕ) (b : List ℕ) (p : ℕ) (es : List Entry) {y : List �
 leave-is l b p es f g h = record { bytes = f; entry = g; count = h }
 
 pub evened-is : (d l h : ℕ) (b : List ℕ) (p : ℕ) (es : List Entry) (i n : ℕ) {j u w v : ℕ} {fs : List Entry} {b1 y : List ℕ} {g : Grown} {x : Left}
-    → n ≡ length es → j ≡ leftOf i n → u ≡ childAt es j → w ≡ childAt es (j + 1) → EvenDone (evenPages d l b u w) b1 g
-    → v ≡ h → fs ≡ take j es ++ (grownList g ++ drop (j + 2) es) → LeftDone (leave v b1 p fs) y x → LeftDone (evenedOut d l h b p es i) y x
-unfolding evenedOut
+    → n ≡ length es → j ≡ leftOf i n → u ≡ childAt es j → w ≡ childAt es (j + 1) → RebalanceDone (rebalancedPages d l b u w) b1 g
+    → v ≡ h → fs ≡ take j es ++ (grownList g ++ drop (j + 2) es) → LeftDone (leave v b1 p fs) y x → LeftDone (rebalancedBelow d l h b p es i) y x
+unfolding rebalancedBelow
 evened-is d l h b p es i n {j} {u} {w} {v} {fs} {b1} {y} {g} {x} n= j= u= w= o v= fs= q =
     let two : j + 2 ≡ suc (suc j) = omega arith in
     let fs' : fs ≡ take j es ++ (grownList g ++ drop (suc (suc j)) es) = fs= ∙ ap (λ (m : ℕ). take j es ++ (grownList g ++ drop m es)) two in
     rw (fs', v=, o .bytes, o .entries, u=, w=, add-one j, j=, n=) at q
 
 pub mend-whole : (d l : ℕ) (b : List ℕ) (p : ℕ) (es : List Entry) (i : ℕ) (o : Left) {v : ℕ} {fs : List Entry} {y : List ℕ} {x : Left} → 0 < l → v ≡ l → fs ≡ set es i (o .entry) → 8 ≤ o .count
-    → LeftDone (leave v b p fs) y x → LeftDone (mend d (l - 1) p es i (deletedOf b o)) y x
-unfolding mend
+    → LeftDone (leave v b p fs) y x → LeftDone (fixUnderflow d (l - 1) p es i (deletedOf b o)) y x
+unfolding fixUnderflow
 mend-whole d zero b p es i o z v= fs= h q = absurd (omega arith)
 mend-whole d (suc l) b p es i o z v= fs= h q = rw (sub-one, le-leb 8 (o .count) h) (rw (v=, fs=) at q)
 
 pub mend-evened : (d l : ℕ) (b : List ℕ) (p : ℕ) (es : List Entry) (i : ℕ) (o : Left) {v : ℕ} {fs : List Entry} {y : List ℕ} {x : Left} → 0 < l → v ≡ l → fs ≡ set es i (o .entry) → o .count < 8
-    → LeftDone (evenedOut d (l - 1) v b p fs i) y x → LeftDone (mend d (l - 1) p es i (deletedOf b o)) y x
-unfolding mend evenedOut
+    → LeftDone (rebalancedBelow d (l - 1) v b p fs i) y x → LeftDone (fixUnderflow d (l - 1) p es i (deletedOf b o)) y x
+unfolding fixUnderflow rebalancedBelow
 mend-evened d zero b p es i o z v= fs= h q = absurd (omega arith)
 mend-evened d (suc l) b p es i o z v= fs= h q =
     let n : length (set es i (o .entry)) ≡ length es = length-set es i (o .entry) in
@@ -185,32 +185,32 @@ delete-zero d l b p x e h = rw e h
 
 pub delete-inner : (d l : ℕ) (b : List ℕ) (p : ℕ) (x : Record) {k i child : ℕ} {es : List Entry} {b1 y : List ℕ} {o z : Left}
     → l ≢ 0 → k ≡ rankOf d x → es ≡ entriesIn (innerAt b p) → i ≡ choose k (entriesIn (innerAt b p)) → child ≡ childAt (entriesIn (innerAt b p)) i
-    → LeftDone (deleteAt d (l - 1) b child x) b1 o → LeftDone (mend d (l - 1) p es i (deletedOf b1 o)) y z → LeftDone (deleteAt d l b p x) y z
+    → LeftDone (deleteAt d (l - 1) b child x) b1 o → LeftDone (fixUnderflow d (l - 1) p es i (deletedOf b1 o)) y z → LeftDone (deleteAt d l b p x) y z
 unfolding deleteAt
 delete-inner d zero b p x n k= es= i= c= h q = absurd (n refl)
 delete-inner d (suc l) b p x {k} {i} {child} {es} {b1} {y} {o} {z} n k= es= i= c= h q =
     let f : LeftDone (deleteAt d l b child x) b1 o = rw sub-one at h in
-    let q' : LeftDone (mend d l p es i (deletedOf b1 o)) y z = rw sub-one at q in
+    let q' : LeftDone (fixUnderflow d l p es i (deletedOf b1 o)) y z = rw sub-one at q in
     rw (f .bytes, f .entry, f .count, c=, i=, k=, es=) at q'
 
 -- ---- the root
 
 pub root-gives : (l : ℕ) (b : List ℕ) (p : ℕ) {c : ℕ} {es : List Entry} {b1 b2 y : List ℕ} → 0 < l → es ≡ entriesIn (innerAt b p) → c ≡ childAt es 0
-    → b1 ≡ setField root b c → b2 ≡ setField level b1 (l - 1) → y ≡ freePage b2 p → y ≡ lowerRoot l b p 1
-unfolding lowerRoot
+    → b1 ≡ setField root b c → b2 ≡ setField level b1 (l - 1) → y ≡ freePage b2 p → y ≡ collapseRoot l b p 1
+unfolding collapseRoot
 root-gives zero b p z es= c= b1= b2= y= = absurd (omega arith)
 root-gives (suc l) b p {c} {es} {b1} {b2} {y} z es= c= b1= b2= y= = let b2' : b2 ≡ setField level b1 l = rw sub-one at b2= in cc
 
-pub root-leaf : (l : ℕ) (b : List ℕ) (p n : ℕ) → l ≡ 0 → b ≡ lowerRoot l b p n
-unfolding lowerRoot
+pub root-leaf : (l : ℕ) (b : List ℕ) (p n : ℕ) → l ≡ 0 → b ≡ collapseRoot l b p n
+unfolding collapseRoot
 root-leaf l b p n e = rw e
 
-pub root-stays : (l : ℕ) (b : List ℕ) (p n : ℕ) → n ≢ 1 → b ≡ lowerRoot l b p n
-unfolding lowerRoot
+pub root-stays : (l : ℕ) (b : List ℕ) (p n : ℕ) → n ≢ 1 → b ≡ collapseRoot l b p n
+unfolding collapseRoot
 root-stays zero b p n e = refl
 root-stays (suc l) b p n e = rw (ne-eqb n 1 e)
 
-pub root-one : (l : ℕ) (b : List ℕ) (p n : ℕ) {y : List ℕ} → n ≡ 1 → y ≡ lowerRoot l b p 1 → y ≡ lowerRoot l b p n
+pub root-one : (l : ℕ) (b : List ℕ) (p n : ℕ) {y : List ℕ} → n ≡ 1 → y ≡ collapseRoot l b p 1 → y ≡ collapseRoot l b p n
 root-one l b p n e h = rw e h
 
 pub total-less : (b : List ℕ) {n m : ℕ} {y : List ℕ} → n ≡ fieldAt total b → m ≡ n - 1 → y ≡ setField total b m → y ≡ takeFromTotal b
@@ -218,7 +218,7 @@ unfolding takeFromTotal
 total-less b p q r = rw (q, p) at r
 
 pub delete-steps : (b : List ℕ) (x : Record) {d l p : ℕ} {b1 b2 y : List ℕ} {o : Left} → d ≡ fieldAt features b → l ≡ fieldAt level b → p ≡ fieldAt root b
-    → LeftDone (deleteAt d l b p x) b1 o → b2 ≡ lowerRoot l b1 p (o .count) → y ≡ takeFromTotal b2 → y ≡ deleteFrom b x
+    → LeftDone (deleteAt d l b p x) b1 o → b2 ≡ collapseRoot l b1 p (o .count) → y ≡ takeFromTotal b2 → y ≡ deleteFrom b x
 unfolding deleteFrom
 delete-steps b x {d} {l} {p} {b1} {b2} {y} {o} d= l= p= h b2= y= =
     y= ∙ ap takeFromTotal (b2= ∙ rw (h .bytes, h .count, d=, l=, p=))

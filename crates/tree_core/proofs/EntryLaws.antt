@@ -10,10 +10,10 @@ use lib.Dec.{leb}
 use lib.ListN.{length, getD, take, drop, length-take, length-map, List·getD-map, List·getD-eq-default}
 use lib.Seq.{slice, take-nil, take-take, take-all, getD-take, length-take-le}
 use borrow.Author.Tests.{leb-true, leb-false}
-use Rattle.lists.specs.Basics.{pick}
-use Rattle.lists.specs.Counts.{by-cases}
+use Rattle.lists.specs.Basics.{if}
 use Rattle.lists.specs.Ascending.{headOr, lastOr}
 use Rattle.lists.specs.Leading.{leading, leading-le}
+use Rattle.lists.specs.Tests.{by-cases}
 use Rattle.geometry.specs.declared.Key.{Key}
 use Rattle.geometry.specs.declared.Pair.{Pair}
 use Rattle.geometry.specs.Keys.{keyNumber, keyWith}
@@ -127,7 +127,7 @@ lowFirst k e = leb (keyNumber (e .first)) k
 above-leading : (k : ℕ) (es : List Entry) → notAbove k es ≡ leading (lowFirst k) es
 unfolding notAbove leading
 above-leading k [] = refl
-above-leading k (e ∷ es) = ap (λ (n : ℕ). pick (lowFirst k e) (suc n) 0) (above-leading k es)
+above-leading k (e ∷ es) = ap (λ (n : ℕ). if (lowFirst k e) (suc n) 0) (above-leading k es)
 
 pub choose-start : (k : ℕ) (es : List Entry) → choose k es ≡ 0 + leading (lowFirst k) (drop 1 es)
 unfolding choose leading

@@ -4,17 +4,14 @@ use mathlib.Core.List.{List, [], _∷_, _++_, map, append-assoc, append-nil}
 use Prim.Native.Nat.{ℕ, suc, _+_, _-_, _≤_, _<_, max}
 use lib.Dec.{leb}
 use borrow.Author.Tests.{leb-true, leb-false}
-use Rattle.lists.specs.Counts.{by-cases}
 use native.Mathlib.Omega.{arith}
 use native.Mathlib.Numerals.{add-one}
 use lib.ListN.{length, getD, set, take, drop, length-append, length-take, length-map, drop-of-length-le}
 use lib.Seq.{slice, slice-empty, length-slice, take-suc, take-suc-set, drop-append-le, take-take, length-take-le}
+use Rattle.lists.specs.Tests.{by-cases}
 use Rattle.tree_core.specs.Held.{Held}
 
 -- the length of an array that a struct holds
-pub unmapped : {X Y : Type 0} (g : X → Y) (l : List X) (n : ℕ) → length (map g l) ≡ n → length l ≡ n
-unmapped g l n e = sym (length-map l g) ∙ e
-
 module _ {A : Type 0} where
   pub none-held : (slots : List A) → Held 0 slots []
   none-held slots = record { count = refl; items = refl }

@@ -10,9 +10,9 @@ use lib.Dec.{leb}
 use lib.ListN.{length, set, take, drop, length-take, length-set, take-append-drop, drop-of-length-le}
 use lib.Seq.{slice, take-take, take-all, take-suc-set, take-set-lt, drop-set-lt, length-take-le, append-snoc}
 use borrow.Author.Tests.{le-leb, lt-leb, leb-true, leb-false}
-use Rattle.lists.specs.Counts.{by-cases}
 use Rattle.lists.specs.Shift as shift
 use Rattle.lists.specs.Leading.{leading, ins-leading}
+use Rattle.lists.specs.Tests.{by-cases}
 use Rattle.pagestore.specs.declared.Record.{Record}
 use Rattle.pagestore.specs.declared.Entry.{Entry}
 use Rattle.pagestore.specs.Store.{leafAt, innerAt, recordsIn, entriesIn, setLeaf, setInner, pageTaken, takePage}

@@ -10,11 +10,12 @@ use lib.Dec.{eqb}
 use lib.ListN.{length, getD, take, drop, length-take, drop-of-length-le, List·getD-eq-default}
 use lib.Seq.{drop-cons, getD-take}
 use borrow.Author.Tests.{eqb-true, eqb-false, eq-eqb, ne-eqb}
-use Rattle.lists.specs.Basics.{pick, flat}
-use Rattle.lists.specs.Counts.{by-cases}
+use Rattle.lists.specs.Basics.{if, concatMap}
 use Rattle.lists.specs.Ascending.{headOr, head-append, head-any}
-use Rattle.lists.specs.Sorting.{keep}
+use Rattle.lists.specs.Sorting.{filter}
 use Rattle.lists.specs.Leading.{leading, leading-le}
+use Rattle.lists.specs.Tests.{by-cases}
+use Rattle.lists.specs.SortingLaws.{filter-append}
 use Rattle.pagestore.specs.declared.Record.{Record}
 use Rattle.pagestore.specs.declared.Entry.{Entry}
 use Rattle.pagestore.specs.declared.Leaf.{Leaf}
@@ -27,7 +28,7 @@ use Rattle.tree_core.specs.CodeTerms.{otherIdent}
 -- ---- in a leaf
 
 first-is : (k : ℕ) (rs : List Record) (d : Record) → getD rs (leading (otherIdent k) rs) d ≡ headOr d (withIdent k rs)
-unfolding leading keep headOr
+unfolding leading filter headOr
 first-is k [] d = refl
 first-is k (r ∷ rs) d = by-cases (eqb (r .id) k) (λ e. rw e) (λ e. rw e (first-is k rs d))
 
@@ -51,13 +52,8 @@ absent-is k slots n c i l f h e =
 -- ---- below a page
 
 -- a record found among the first records is found among all; one not found there is looked for among the others
-keep-append : (t : Record → Bool) (xs ys : List Record) → keep t (xs ++ ys) ≡ keep t xs ++ keep t ys
-unfolding keep
-keep-append t [] ys = refl
-keep-append t (x ∷ xs) ys = by-cases (t x) (λ e. rw e (ap (λ (l : List Record). x ∷ l) (keep-append t xs ys))) (λ e. rw e (keep-append t xs ys))
-
 kept-head : (k : ℕ) (xs : List Record) → 0 < length (withIdent k xs) → headOr blank (withIdent k xs) .id ≡ k
-unfolding keep headOr
+unfolding filter headOr
 kept-head k [] h = absurd (omega arith)
 kept-head k (x ∷ xs) h =
     by-cases (eqb (x .id) k) (λ e. rw e (eqb-true (x .id) k e))
@@ -76,19 +72,19 @@ module _ (k : ℕ) (xs ys : List Record) (x : Record) (e : x ≡ headOr blank (w
           absurd (omega (arith, h, b))
       by-length (r ∷ l) f =
           e ∙ sym (head-append blank (withIdent k xs) (withIdent k ys) (rw f (omega arith)))
-          ∙ ap (headOr blank) (sym (keep-append (λ r. eqb (r .id) k) xs ys))
+          ∙ ap (headOr blank) (sym (filter-append (λ r. eqb (r .id) k) xs ys))
 
   pub found-later : x .id ≢ k → headOr blank (withIdent k (xs ++ ys)) ≡ headOr blank (withIdent k ys)
   found-later h =
       by-length (withIdent k xs) refl
     where
       by-length : (l : List Record) → withIdent k xs ≡ l → headOr blank (withIdent k (xs ++ ys)) ≡ headOr blank (withIdent k ys)
-      by-length [] f = ap (headOr blank) (keep-append (λ r. eqb (r .id) k) xs ys ∙ ap (λ (l : List Record). l ++ withIdent k ys) f)
+      by-length [] f = ap (headOr blank) (filter-append (λ r. eqb (r .id) k) xs ys ∙ ap (λ (l : List Record). l ++ withIdent k ys) f)
       by-length (r ∷ l) f = absurd (h (ap (λ (r : Record). r .id) e ∙ kept-head k xs (rw f (omega arith))))
 
 -- the entries from place i on, of which the one at i is next
-next-records : (f : Entry → List Record) (es : List Entry) (i : ℕ) (d : Entry) → i < length es → flat f (drop i es) ≡ f (getD es i d) ++ flat f (drop (suc i) es)
-unfolding flat
+next-records : (f : Entry → List Record) (es : List Entry) (i : ℕ) (d : Entry) → i < length es → concatMap f (drop i es) ≡ f (getD es i d) ++ concatMap f (drop (suc i) es)
+unfolding concatMap
 next-records f es i d h = rw (drop-cons es i d h)
 
 abbrev pub below : ℕ → List ℕ → Entry → List Record
@@ -96,7 +92,7 @@ below l b e = recordsUnder l b (e .child)
 
 -- what is looked for is looked for among the records below the entries from place i on
 abbrev pub Seeks : ℕ → List ℕ → ℕ → ℕ → List Entry → ℕ → Type 0
-Seeks l b p k es i = findUnder l b p k ≡ headOr blank (withIdent k (flat (below (l - 1) b) (drop i es)))
+Seeks l b p k es i = findUnder l b p k ≡ headOr blank (withIdent k (concatMap (below (l - 1) b) (drop i es)))
 
 pub seeks-start : (l : ℕ) (b : List ℕ) (p k : ℕ) (m : Inner) → l ≢ 0 → m ≡ innerAt b p → Seeks l b p k (entriesIn m) 0
 unfolding findUnder recordsUnder
@@ -105,10 +101,10 @@ seeks-start (suc l) b p k m z e = rw (sub-one, e)
 
 module _ (l : ℕ) (b : List ℕ) (p k : ℕ) (slots : List Entry) (c i : ℕ) (x : Record) (h : Seeks l b p k (take c slots) i) (z : 0 < k) (g : i < c) (j : i < length slots)
     (e : x ≡ findUnder (l - 1) b (getD slots i noEntry .child) k) where
-  next-is : flat (below (l - 1) b) (drop i (take c slots)) ≡ recordsUnder (l - 1) b (getD slots i noEntry .child) ++ flat (below (l - 1) b) (drop (suc i) (take c slots))
+  next-is : concatMap (below (l - 1) b) (drop i (take c slots)) ≡ recordsUnder (l - 1) b (getD slots i noEntry .child) ++ concatMap (below (l - 1) b) (drop (suc i) (take c slots))
   next-is =
       next-records (below (l - 1) b) (take c slots) i noEntry (omega (arith, length-take c slots))
-      ∙ ap (λ (y : Entry). below (l - 1) b y ++ flat (below (l - 1) b) (drop (suc i) (take c slots))) (getD-take c slots i noEntry g)
+      ∙ ap (λ (y : Entry). below (l - 1) b y ++ concatMap (below (l - 1) b) (drop (suc i) (take c slots))) (getD-take c slots i noEntry g)
 
   x-is : x ≡ headOr blank (withIdent k (recordsUnder (l - 1) b (getD slots i noEntry .child)))
   unfolding findUnder
@@ -116,17 +112,17 @@ module _ (l : ℕ) (b : List ℕ) (p k : ℕ) (slots : List Entry) (c i : ℕ) (
 
   pub seeks-found : x .id ≡ k → x ≡ findUnder l b p k
   seeks-found f =
-      found-here k (recordsUnder (l - 1) b (getD slots i noEntry .child)) (flat (below (l - 1) b) (drop (suc i) (take c slots))) x x-is z f
+      found-here k (recordsUnder (l - 1) b (getD slots i noEntry .child)) (concatMap (below (l - 1) b) (drop (suc i) (take c slots))) x x-is z f
       ∙ ap (λ (rs : List Record). headOr blank (withIdent k rs)) (sym next-is) ∙ sym h
 
   pub seeks-next : x .id ≢ k → Seeks l b p k (take c slots) (i + 1)
   seeks-next f =
       h ∙ ap (λ (rs : List Record). headOr blank (withIdent k rs)) next-is
-      ∙ found-later k (recordsUnder (l - 1) b (getD slots i noEntry .child)) (flat (below (l - 1) b) (drop (suc i) (take c slots))) x x-is z f
-      ∙ ap (λ (m : ℕ). headOr blank (withIdent k (flat (below (l - 1) b) (drop m (take c slots))))) (sym (add-one i))
+      ∙ found-later k (recordsUnder (l - 1) b (getD slots i noEntry .child)) (concatMap (below (l - 1) b) (drop (suc i) (take c slots))) x x-is z f
+      ∙ ap (λ (m : ℕ). headOr blank (withIdent k (concatMap (below (l - 1) b) (drop m (take c slots))))) (sym (add-one i))
 
 pub seeks-end : (l : ℕ) (b : List ℕ) (p k : ℕ) (es : List Entry) (i : ℕ) → Seeks l b p k es i → length es ≤ i → blank ≡ findUnder l b p k
-unfolding flat keep headOr
+unfolding concatMap filter headOr
 seeks-end l b p k es i h g = sym (h ∙ rw (drop-of-length-le es {i = i} g))
 
 pub find-leaf : (l : ℕ) (b : List ℕ) (p k : ℕ) (m : Leaf) {x : Record} → l ≡ 0 → m ≡ leafAt b p → x ≡ headOr blank (withIdent k (recordsIn m)) → x ≡ findUnder l b p k

@@ -7,7 +7,7 @@ use native.Mathlib.Omega.{arith}
 use native.Mathlib.Numerals.{sub-one, add-one}
 use lib.Dec.{leb, eqb}
 use borrow.Author.Tests.{le-leb, lt-leb, eq-eqb, ne-eqb}
-use Rattle.lists.specs.Basics.{pick, tick}
+use Rattle.lists.specs.Basics.{if, indicator}
 use Rattle.pagestore.specs.declared.Record.{Record}
 use Rattle.pagestore.specs.declared.Entry.{Entry}
 use Rattle.pagestore.specs.Store.{Field, features, root, level, total, innerAt, countAt, entriesIn, setInner, fieldAt, setField, pageTaken, takePage}
@@ -18,11 +18,11 @@ use Rattle.tree_core.specs.CodeTerms.{grownList, Done}
 use Rattle.tree_core.specs.declared.Grown.{Grown}
 use Rattle.tree_core.specs.declared.Grown.the-variants.{One, Two}
 
-pub tick-one : (a n : ℕ) → a ≤ n → 1 ≡ tick (leb a n)
-tick-one a n h = rw (le-leb a n h)
+pub indicator-one : (a n : ℕ) → a ≤ n → 1 ≡ indicator (leb a n)
+indicator-one a n h = rw (le-leb a n h)
 
-pub tick-none : (a n : ℕ) → n < a → 0 ≡ tick (leb a n)
-tick-none a n h = rw (lt-leb a n h)
+pub indicator-none : (a n : ℕ) → n < a → 0 ≡ indicator (leb a n)
+indicator-none a n h = rw (lt-leb a n h)
 
 pub grow-one : (l : ℕ) (b : List ℕ) (e : Entry) → b ≡ growRoot l b (e ∷ [])
 unfolding growRoot
@@ -45,18 +45,18 @@ insert-steps b x {d} {l} {p} {b1} {b2} {y} {g} d= l= p= h b2= y= =
 
 -- ---- pages wanted
 
-pub run-on : (n l full : ℕ) → n ≡ l → n + full ≡ pick (eqb n l) (n + full) n
+pub run-on : (n l full : ℕ) → n ≡ l → n + full ≡ if (eqb n l) (n + full) n
 run-on n l full e = rw (eq-eqb n l e)
 
-pub run-ends : (n l full : ℕ) → n ≢ l → n ≡ pick (eqb n l) (n + full) n
+pub run-ends : (n l full : ℕ) → n ≢ l → n ≡ if (eqb n l) (n + full) n
 run-ends n l full e = rw (ne-eqb n l e)
 
-pub run-leaf : (l : ℕ) (b : List ℕ) (p k : ℕ) {full : ℕ} → l ≡ 0 → full ≡ tick (leb 16 (countAt b p)) → full ≡ fullRun l b p k
+pub run-leaf : (l : ℕ) (b : List ℕ) (p k : ℕ) {full : ℕ} → l ≡ 0 → full ≡ indicator (leb 16 (countAt b p)) → full ≡ fullRun l b p k
 unfolding fullRun
 run-leaf l b p k z e = rw z e
 
-pub run-inner : (l : ℕ) (b : List ℕ) (p k : ℕ) {es : List Entry} {i child n full r : ℕ} → l ≢ 0 → full ≡ tick (leb 16 (countAt b p)) → es ≡ entriesIn (innerAt b p)
-    → i ≡ choose k es → child ≡ childAt es i → n ≡ fullRun (l - 1) b child k → r ≡ pick (eqb n l) (n + full) n → r ≡ fullRun l b p k
+pub run-inner : (l : ℕ) (b : List ℕ) (p k : ℕ) {es : List Entry} {i child n full r : ℕ} → l ≢ 0 → full ≡ indicator (leb 16 (countAt b p)) → es ≡ entriesIn (innerAt b p)
+    → i ≡ choose k es → child ≡ childAt es i → n ≡ fullRun (l - 1) b child k → r ≡ if (eqb n l) (n + full) n → r ≡ fullRun l b p k
 unfolding fullRun
 run-inner zero b p k z f= es= i= c= n= r= = absurd (z refl)
 run-inner (suc l) b p k {es} {i} {child} {n} {full} {r} z f= es= i= c= n= r= =
@@ -64,12 +64,12 @@ run-inner (suc l) b p k {es} {i} {child} {n} {full} {r} z f= es= i= c= n= r= =
     r= ∙ rw (m, f=, c=, i=, es=)
 
 pub wanted-is : (b : List ℕ) (x : Record) {d l p k n r : ℕ} → d ≡ fieldAt features b → l ≡ fieldAt level b → p ≡ fieldAt root b → k ≡ rankOf d x → n ≡ fullRun l b p k
-    → r ≡ n + tick (eqb n (l + 1)) → r ≡ pagesWanted b x
+    → r ≡ n + indicator (eqb n (l + 1)) → r ≡ pagesWanted b x
 unfolding pagesWanted
 wanted-is b x d= l= p= k= n= r= = r= ∙ rw (n=, k=, d=, l=, p=)
 
-pub one-more : (n l : ℕ) → n ≡ l + 1 → n + 1 ≡ n + tick (eqb n (l + 1))
+pub one-more : (n l : ℕ) → n ≡ l + 1 → n + 1 ≡ n + indicator (eqb n (l + 1))
 one-more n l e = rw (eq-eqb n (l + 1) e)
 
-pub no-more : (n l : ℕ) → n ≢ l + 1 → n ≡ n + tick (eqb n (l + 1))
+pub no-more : (n l : ℕ) → n ≢ l + 1 → n ≡ n + indicator (eqb n (l + 1))
 no-more n l e = rw (ne-eqb n (l + 1) e) (omega arith)

@@ -3,7 +3,7 @@ use mathlib.Core.List.{List, [], _∷_, _++_, map}
 use Prim.Native.Nat.{ℕ, suc}
 use lib.Dec.{leb}
 use lib.ListN.{getD, take, drop}
-use Rattle.lists.specs.Basics.{pick}
+use Rattle.lists.specs.Basics.{if}
 use Rattle.lists.specs.Ascending.{headOr, lastOr}
 use Rattle.geometry.specs.declared.Key.{Key}
 use Rattle.geometry.specs.Keys.{keyNumber}
@@ -14,7 +14,7 @@ use Rattle.tree_model.specs.Trees.{firstKey, lastKey}
 -- how many entries, from the front on, have a first key that is not above k
 unfoldable pub notAbove : ℕ → List Entry → ℕ
 notAbove k [] = 0
-notAbove k (e ∷ es) = pick (leb (keyNumber (e .first)) k) (suc (notAbove k es)) 0
+notAbove k (e ∷ es) = if (leb (keyNumber (e .first)) k) (suc (notAbove k es)) 0
 
 -- the place of the last child whose first key is not above k, else of the first child
 unfoldable pub choose : ℕ → List Entry → ℕ

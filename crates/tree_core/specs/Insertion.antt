@@ -4,8 +4,8 @@ use mathlib.Core.List.{List, [], _∷_}
 use Prim.Native.Nat.{ℕ, zero, suc, _+_, _%_, _^_}
 use lib.Dec.{leb, ltb, eqb}
 use lib.ListN.{length, take, drop}
-use Rattle.lists.specs.Basics.{pick, tick}
-use Rattle.lists.specs.Sorting.{ins}
+use Rattle.lists.specs.Basics.{if, indicator}
+use Rattle.lists.specs.Sorting.{insertBy}
 use Rattle.pagestore.specs.declared.Record.{Record}
 use Rattle.pagestore.specs.declared.Entry.{Entry}
 use Rattle.pagestore.specs.Store.{features, root, level, total, leafAt, innerAt, countAt, recordsIn, entriesIn, setLeaf, setInner, fieldAt, setField, pageTaken, takePage}
@@ -23,12 +23,12 @@ keyBefore d x y = ltb (rankOf d x) (rankOf d y)
 
 -- the record r put into records in key order
 abbrev pub insertRecord : ℕ → Record → List Record → List Record
-insertRecord d r rs = ins (keyBefore d) r rs
+insertRecord d r rs = insertBy (keyBefore d) r rs
 
 -- The items xs at page p. A page that would hold 17 keeps the first 9; the last 8 go to a new page on the right.
 unfoldable pub put : {A : Type 0} → (List ℕ → ℕ → List A → List ℕ) → (ℕ → List A → Entry) → List ℕ → ℕ → List A → Inserted
 put write entry b p xs =
-    pick (leb (length xs) 16)
+    if (leb (length xs) 16)
     (record { bytes = write b p xs; entries = entry p xs ∷ [] })
     (record {
       bytes = write (write (takePage b) p (take 9 xs)) (pageTaken b) (drop 9 xs);
@@ -71,14 +71,14 @@ insertInto b r =
 
 -- the full pages in an unbroken run upward from the leaf that an insertion of rank k comes to, up to page p of level l
 unfoldable pub fullRun : ℕ → List ℕ → ℕ → ℕ → ℕ
-fullRun zero b p k = tick (leb 16 (countAt b p))
+fullRun zero b p k = indicator (leb 16 (countAt b p))
 fullRun (suc l) b p k =
     let es = entriesIn (innerAt b p) in
     let n = fullRun l b (childAt es (choose k es)) k in
-    pick (eqb n (suc l)) (n + tick (leb 16 (countAt b p))) n
+    if (eqb n (suc l)) (n + indicator (leb 16 (countAt b p))) n
 
 -- pages wanted by an insertion: those, plus one if the run takes in the root
 unfoldable pub pagesWanted : List ℕ → Record → ℕ
 pagesWanted b r =
     let n = fullRun (fieldAt level b) b (fieldAt root b) (rankOf (fieldAt features b) r) in
-    n + tick (eqb n (fieldAt level b + 1))
+    n + indicator (eqb n (fieldAt level b + 1))

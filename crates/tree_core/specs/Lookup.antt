@@ -3,9 +3,9 @@ use mathlib.Core.List.{List, [], _∷_}
 use Prim.Native.Nat.{ℕ, zero, suc}
 use lib.Dec.{eqb}
 use lib.ListN.{replicate}
-use Rattle.lists.specs.Basics.{flat}
+use Rattle.lists.specs.Basics.{concatMap}
 use Rattle.lists.specs.Ascending.{headOr}
-use Rattle.lists.specs.Sorting.{keep, sum}
+use Rattle.lists.specs.Sorting.{filter, sum}
 use Rattle.pagestore.specs.declared.Record.{Record}
 use Rattle.pagestore.specs.declared.Entry.{Entry}
 use Rattle.pagestore.specs.Store.{root, level, leafAt, innerAt, recordsIn, entriesIn, fieldAt}
@@ -13,11 +13,11 @@ use Rattle.pagestore.specs.Store.{root, level, leafAt, innerAt, recordsIn, entr
 -- the records below page p of level l, in order
 unfoldable pub recordsUnder : ℕ → List ℕ → ℕ → List Record
 recordsUnder zero b p = recordsIn (leafAt b p)
-recordsUnder (suc l) b p = flat (λ e. recordsUnder l b (e .child)) (entriesIn (innerAt b p))
+recordsUnder (suc l) b p = concatMap (λ e. recordsUnder l b (e .child)) (entriesIn (innerAt b p))
 
 -- the records of identifier i
 abbrev pub withIdent : ℕ → List Record → List Record
-withIdent i rs = keep (λ r. eqb (r .id) i) rs
+withIdent i rs = filter (λ r. eqb (r .id) i) rs
 
 -- in the place of a record, where there is none: identifier 0
 abbrev pub blank : Record
@@ -36,7 +36,7 @@ findIn b i = findUnder (fieldAt level b) b (fieldAt root b) i
 -- the leaves below an entry whose child has level l, in key order: page, first key and last key of each
 unfoldable pub leafEntries : ℕ → List ℕ → Entry → List Entry
 leafEntries zero b e = e ∷ []
-leafEntries (suc l) b e = flat (leafEntries l b) (entriesIn (innerAt b (e .child)))
+leafEntries (suc l) b e = concatMap (leafEntries l b) (entriesIn (innerAt b (e .child)))
 
 -- how many there are below page p of level l
 unfoldable pub leafCount : ℕ → List ℕ → ℕ → ℕ

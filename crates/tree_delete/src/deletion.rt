@@ -7,10 +7,9 @@ ghost use lib.Seq.{slice};
 ghost use Rattle.pagestore.specs.Store.{recordsIn, entriesIn};
 ghost use Rattle.tree_model.specs.Trees.{rankOf};
 ghost use Rattle.tree_core.specs.Held.{Held};
-ghost use Rattle.tree_core.specs.Deletion.{leftOf, leave, mend, deleteAt, lowerRoot, takeFromTotal, deleteFrom};
-ghost use Rattle.tree_core.specs.CodeTerms.{grownList, LeftDone, deletedOf, evenedOut};
-use crate::evening::even_pages;
-use pagestore_free::free_page;
+ghost use Rattle.tree_core.specs.Deletion.{leftOf, leave, fixUnderflow, deleteAt, collapseRoot, takeFromTotal, deleteFrom};
+ghost use Rattle.tree_core.specs.CodeTerms.{grownList, LeftDone, deletedOf, rebalancedBelow};
+use crate::rebalancing::rebalance_pages;
 use pagestore::Entry;
 use pagestore::Inner;
 use pagestore::Leaf;
@@ -26,6 +25,7 @@ use pagestore::set_root_level;
 use pagestore::set_root_page;
 use pagestore::set_total_records;
 use pagestore::total_records;
+use pagestore_free::free_page;
 use tree_core::Grown;
 use tree_core::Left;
 use tree_core::add_entries;
@@ -119,21 +119,21 @@ fn replace_pair(inner: Inner, j: usize, grown: Grown) -> Inner
 }
 
 // The child at place i, left with fewer than 8 items, takes its partner.
-fn even_out(index: &mut [u8], page: u32, inner: Inner, i: usize, below: u8, d: u8) -> Left
+fn rebalance(index: &mut [u8], page: u32, inner: Inner, i: usize, below: u8, d: u8) -> Left
     requires { ⌜ i ≤ 15 ⌝ }
-    ensures { λ r. ⌜ LeftDone (evenedOut d below (inner .level) (now (index .entry)) page (entriesIn inner) i) (now (index .exit)) r ⌝ }
+    ensures { λ r. ⌜ LeftDone (rebalancedBelow d below (inner .level) (now (index .entry)) page (entriesIn inner) i) (now (index .exit)) r ⌝ }
 {
     let n = filled(inner.count);
     let j = left_of(i, n);
     let p = child_at(inner, j);
     let q = child_at(inner, j + 1);
-    let pair = even_pages(index, p, q, below, d);
+    let pair = rebalance_pages(index, p, q, below, d);
     let next = replace_pair(inner, j, pair);
     leave_page(index, page, next)
 }
 
 // The page after a deletion below its child at place i.
-fn mend_page(
+fn fix_underflow(
     index: &mut [u8],
     page: u32,
     level: u8,
@@ -143,14 +143,14 @@ fn mend_page(
     d: u8,
 ) -> Left
     requires { ⌜ (i ≤ 15) × (0 < level) ⌝ }
-    ensures { λ r. ⌜ LeftDone (mend d (level - 1) page (entriesIn inner) i (deletedOf (now (index .entry)) left)) (now (index .exit)) r ⌝ }
+    ensures { λ r. ⌜ LeftDone (fixUnderflow d (level - 1) page (entriesIn inner) i (deletedOf (now (index .entry)) left)) (now (index .exit)) r ⌝ }
 {
     let entry = left.entry;
     let next = with_entry(inner, level, i, entry);
     if 8 <= left.count {
         return leave_page(index, page, next);
     }
-    even_out(index, page, next, i, level - 1, d)
+    rebalance(index, page, next, i, level - 1, d)
 }
 
 // Deletes a record below a page; the level falls at each call.
@@ -165,13 +165,13 @@ fn delete_at(index: &mut [u8], page: u32, level: u8, x: Record, rank: u64, d: u8
     let i = choose_at(index, page, rank);
     let child = child_of(index, page, i);
     let left = delete_at(index, child, level - 1, x, rank, d);
-    mend_page(index, page, level, inner, i, left, d)
+    fix_underflow(index, page, level, inner, i, left, d)
 }
 
 // An inner root with one child gives way to it.
-fn give_way(index: &mut [u8], level: u8, page: u32)
+fn replace_root(index: &mut [u8], level: u8, page: u32)
     requires { ⌜ 0 < level ⌝ }
-    ensures { λ _. ⌜ now (index .exit) ≡ lowerRoot level (now (index .entry)) page 1 ⌝ }
+    ensures { λ _. ⌜ now (index .exit) ≡ collapseRoot level (now (index .entry)) page 1 ⌝ }
 {
     let child = child_of(index, page, 0);
     set_root_page(index, child);
@@ -179,14 +179,14 @@ fn give_way(index: &mut [u8], level: u8, page: u32)
     free_page(index, page);
 }
 
-fn lower_root(index: &mut [u8], level: u8, page: u32, n: usize)
-    ensures { λ _. ⌜ now (index .exit) ≡ lowerRoot level (now (index .entry)) page n ⌝ }
+fn collapse_root(index: &mut [u8], level: u8, page: u32, n: usize)
+    ensures { λ _. ⌜ now (index .exit) ≡ collapseRoot level (now (index .entry)) page n ⌝ }
 {
     if level == 0 {
         return;
     }
     if n == 1 {
-        give_way(index, level, page);
+        replace_root(index, level, page);
     }
 }
 
@@ -212,6 +212,6 @@ pub fn delete(index: &mut [u8], x: Record)
     let root = root_page(index);
     let rank = record_rank(x, d);
     let left = delete_at(index, root, level, x, rank, d);
-    lower_root(index, level, root, left.count);
+    collapse_root(index, level, root, left.count);
     take_from_total(index);
 }

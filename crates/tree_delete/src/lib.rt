@@ -1,5 +1,5 @@
 // Deletion from the tree. Each function is total, whatever the index holds.
 mod deletion;
-mod evening;
+mod rebalancing;
 
 pub use deletion::delete;

@@ -3,13 +3,12 @@ ghost use mathlib.Core.Path.{_≡_};
 ghost use mathlib.Core.List.{[], _∷_};
 ghost use Prim.Native.Nat.{_+_, _%_, _^_, _≤_};
 ghost use lib.Dec.{leb, eqb};
-ghost use Rattle.lists.specs.Basics.{pick, tick};
+ghost use Rattle.lists.specs.Basics.{if, indicator};
 ghost use Rattle.pagestore.specs.Store.{countAt};
 ghost use Rattle.tree_core.specs.Insertion.{growRoot, addToTotal, insertInto, fullRun, pagesWanted};
 ghost use Rattle.tree_core.specs.CodeTerms.{grownList};
 ghost use Rattle.tree_core.specs.Held.{Held};
 use crate::insertion::insert_at;
-use pagestore_free::take_page;
 use pagestore::Entry;
 use pagestore::Inner;
 use pagestore::Record;
@@ -22,6 +21,7 @@ use pagestore::set_root_level;
 use pagestore::set_root_page;
 use pagestore::set_total_records;
 use pagestore::total_records;
+use pagestore_free::take_page;
 use tree_core::Grown;
 use tree_core::child_of;
 use tree_core::choose_at;
@@ -93,7 +93,7 @@ pub fn insert(index: &mut [u8], x: Record)
 
 // 1 if a page is full, else 0.
 fn full_page(index: &[u8], page: u32) -> u32
-    ensures { λ r. ⌜ (r ≡ tick (leb 16 (countAt (now (index .entry)) page))) × (r ≤ 1) ⌝ }
+    ensures { λ r. ⌜ (r ≡ indicator (leb 16 (countAt (now (index .entry)) page))) × (r ≤ 1) ⌝ }
 {
     if 16 <= count_at(index, page) { 1 } else { 0 }
 }
@@ -101,7 +101,7 @@ fn full_page(index: &[u8], page: u32) -> u32
 // A run of n full pages that reaches up to the level below goes on with a page if that is full.
 fn run_on(n: u32, level: u8, full: u32) -> u32
     requires { ⌜ (n ≤ level) × (full ≤ 1) ⌝ }
-    ensures { λ r. ⌜ (r ≡ pick (eqb n level) (n + full) n) × (r ≤ level + 1) ⌝ }
+    ensures { λ r. ⌜ (r ≡ if (eqb n level) (n + full) n) × (r ≤ level + 1) ⌝ }
 {
     if n == level as u32 { n + full } else { n }
 }

@@ -7,13 +7,14 @@ use native.Mathlib.Omega.{arith}
 use lib.Dec.{leb}
 use lib.ListN.{length, getD, drop, length-map}
 use borrow.Author.Tests.{leb-true, leb-false}
-use Rattle.lists.specs.Basics.{pick, All, none, also, flat, all-left, all-map}
+use Rattle.lists.specs.Basics.{if, All, none, also, concatMap, all-left, all-map}
 use Rattle.lists.specs.Ascending.{Ascending, none, one, more, headOr}
 use Rattle.lists.specs.Choices.{bool-cases}
 use Rattle.lists.specs.Counts.{mult, mult-not}
-use Rattle.lists.specs.Members.{At, here, next, same?, all-spot, flat-find}
+use Rattle.lists.specs.Members.{At, here, next, all-spot, concatMap-find}
 use Rattle.lists.specs.Parts.{head-of}
-use Rattle.lists.specs.Rising.{Rising, step, rising-of, rising-left, rising-right, rising-cross}
+use Rattle.lists.specs.AscendingBy.{AscendingBy, step, rising-of, rising-left, rising-right, rising-cross}
+use Rattle.lists.specs.Tests.{decide}
 use Rattle.geometry.specs.Keys.{keyNumber}
 use Rattle.pagestore.specs.declared.Entry.{Entry}
 use Rattle.pagestore.specs.Store.{innerAt, entriesIn, levelAt, viewOf}
@@ -39,12 +40,12 @@ pub record LastNotAbove (k : ℕ) (es : List Entry) (n : ℕ) : Type 0 where
 
 -- ---- ON ENTRIES WHOSE FIRST KEYS ASCEND
 
-last-of : (k : ℕ) (u : Entry) (es : List Entry) → Rising firstRank es → LastNotAbove k (u ∷ es) (notAbove k es)
+last-of : (k : ℕ) (u : Entry) (es : List Entry) → AscendingBy firstRank es → LastNotAbove k (u ∷ es) (notAbove k es)
 unfolding notAbove
 last-of k u [] r = record { within = omega arith; reached = inl refl; behind = none }
 last-of k u (e ∷ es) (step g r) =
     let h = last-of k e es r in
-    bool-cases (λ c. LastNotAbove k (u ∷ e ∷ es) (pick c (suc (notAbove k es)) 0)) (leb (firstRank e) k)
+    bool-cases (λ c. LastNotAbove k (u ∷ e ∷ es) (if c (suc (notAbove k es)) 0)) (leb (firstRank e) k)
     (λ t. let l : firstRank e ≤ k = leb-true _ _ t in
     record { within = omega (arith, h .within); reached = inr (⊎-elim (λ z. rw z (omega arith)) (λ w. w) (h .reached)); behind = h .behind })
     (λ t. let l : k < firstRank e = leb-false _ _ t in
@@ -58,34 +59,34 @@ choose-last k (u ∷ es) h a = last-of k u es (rising-right firstRank (u ∷ [])
 -- ---- ON THE TREE OF A SOUND INDEX
 
 -- where the records ascend, so do the first keys of the children
-firsts-ascend : (d l : ℕ) (ts : List (Item (suc l))) → All (Ok (suc l)) ts → Rising (rankOf d) (flat (records (suc l)) ts) → Ascending (map firstRank (map (entryOf d l) ts))
-unfolding flat
+firsts-ascend : (d l : ℕ) (ts : List (Item (suc l))) → All (Ok (suc l)) ts → AscendingBy (rankOf d) (concatMap (records (suc l)) ts) → Ascending (map firstRank (map (entryOf d l) ts))
+unfolding concatMap
 firsts-ascend d l [] o r = none
 firsts-ascend d l (t ∷ []) o r = one
 firsts-ascend d l (t ∷ u ∷ ts) (also p (also q o)) r =
-    let below = rising-cross (rankOf d) (records (suc l) t) (flat (records (suc l)) (u ∷ ts)) r (headOr noRecord (records (suc l) u))
+    let below = rising-cross (rankOf d) (records (suc l) t) (concatMap (records (suc l)) (u ∷ ts)) r (headOr noRecord (records (suc l) u))
     (λ P a. head-of noRecord (records-some (suc l) u q) (all-left (records (suc l) u) _ a)) in
     let first : firstRank (entryOf d l t) < firstRank (entryOf d l u) = rw (first-rank d l t, first-rank d l u) (head-of noRecord (records-some (suc l) t p) below) in
     more first (firsts-ascend d l (u ∷ ts) (also q o) (rising-right (rankOf d) (records (suc l) t) _ r))
 
-rising-at : (d l : ℕ) {ts : List (Item l)} {i : ℕ} {t : Item l} → At ts i t → Rising (rankOf d) (flat (records l) ts) → Rising (rankOf d) (records l t)
-unfolding flat
+rising-at : (d l : ℕ) {ts : List (Item l)} {i : ℕ} {t : Item l} → At ts i t → AscendingBy (rankOf d) (concatMap (records l) ts) → AscendingBy (rankOf d) (records l t)
+unfolding concatMap
 rising-at d l (here {x = t} {xs = ts}) r = rising-left (rankOf d) (records l t) _ r
 rising-at d l (next {x = t} {xs = ts} a) r = rising-at d l a (rising-right (rankOf d) (records l t) _ r)
 
 -- at each inner page of a tree that is held
-page-last : (d l : ℕ) (b : List ℕ) (k p : ℕ) (t : Item (suc l)) → Root l t → Held d (suc l) b t → Rising (rankOf d) (records (suc l) t)
+page-last : (d l : ℕ) (b : List ℕ) (k p : ℕ) (t : Item (suc l)) → Root l t → Held d (suc l) b t → AscendingBy (rankOf d) (records (suc l) t)
     → 0 < mult p (pages (suc l) t) → 0 < levelAt b p → LastNotAbove k (entriesIn (innerAt b p)) (choose k (entriesIn (innerAt b p)))
 unfolding Held Some pages records mult
 page-last d zero b k p t o h r m v =
-    same? p (t .0)
+    decide p (t .0)
     (λ e. let z : levelAt b p ≡ 0 = ap (levelAt b) e ∙ root-level d zero b t h in absurd (omega (arith, z)))
-    (λ n. absurd (omega (arith, m, mult-not p (t .0) (flat (pages 0) (t .1)) n, ap (mult p) (no-pages (t .1)))))
+    (λ n. absurd (omega (arith, m, mult-not p (t .0) (concatMap (pages 0) (t .1)) n, ap (mult p) (no-pages (t .1)))))
 page-last d (suc l) b k p t o h r m v =
-    same? p (t .0)
+    decide p (t .0)
     (λ e. rw (e, inner-items d l b t h)
     (choose-last k (map (entryOf d l) (t .1)) (omega (arith, o .some, length-map (t .1) (entryOf d l))) (firsts-ascend d l (t .1) (o .subs) r)))
-    (λ n. let w = flat-find (pages (suc l)) p (t .1) (omega (arith, m, mult-not p (t .0) (flat (pages (suc l)) (t .1)) n)) in
+    (λ n. let w = concatMap-find (pages (suc l)) p (t .1) (omega (arith, m, mult-not p (t .0) (concatMap (pages (suc l)) (t .1)) n)) in
     page-last d l b k p (w .1) (ok-root l (w .1) (all-spot (o .subs) (w .2))) (all-spot (h .1) (w .2)) (rising-at d (suc l) (w .2) r) (w .3) v)
 
 -- The entries are those among which `insertAt` chooses, at each inner page of the tree.

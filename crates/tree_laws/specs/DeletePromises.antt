@@ -6,12 +6,12 @@ use native.Mathlib.Omega.{arith}
 use lib.ListN.{length}
 use Rattle.lists.specs.Basics.{All, all-map}
 use Rattle.lists.specs.Counts.{mult}
-use Rattle.lists.specs.Rising.{Falling}
+use Rattle.lists.specs.AscendingBy.{Descending}
 use Rattle.pagestore.specs.declared.Record.{Record}
 use Rattle.pagestore.specs.Store.{features, root, level, total, fieldAt, levelAt, freeAt, viewOf}
 use Rattle.tree_model.specs.Trees.{rankOf, identOf, treeOf, live}
 use Rattle.tree_model.specs.Sound.{SoundIndex}
-use Rattle.tree.specs.Deletion.{deleteRecord, deleteAt, lowerRoot, takeFromTotal, deleteFrom}
+use Rattle.tree.specs.Deletion.{deleteRecord, deleteAt, collapseRoot, takeFromTotal, deleteFrom}
 use Rattle.tree.specs.Lookup.{findIn}
 use Rattle.tree_laws.specs.Shapes.{Shape}
 use Rattle.tree_laws.specs.DeleteTree.{Known}
@@ -46,7 +46,7 @@ module _ (b : List ℕ) (i : ℕ) (s : SoundIndex b) (h : 0 < mult i (map identO
   known = all-map (λ x (f : x .id ≡ i → x ≡ findIn b i) g. ap (rankOf d) (f (g ∙ find-ident b i s h))) (find-only b i s)
 
   abbrev lowered : List ℕ
-  lowered = lowerRoot (fieldAt level b) (deleteAt (fieldAt features b) (fieldAt level b) b (fieldAt root b) (findIn b i) .bytes) (fieldAt root b) (deleteAt (fieldAt features b) (fieldAt level b) b (fieldAt root b) (findIn b i) .count)
+  lowered = collapseRoot (fieldAt level b) (deleteAt (fieldAt features b) (fieldAt level b) b (fieldAt root b) (findIn b i) .bytes) (fieldAt root b) (deleteAt (fieldAt features b) (fieldAt level b) b (fieldAt root b) (findIn b i) .count)
 
   found : Changed d b lowered (deletedTree (viewOf b .d) (findIn b i) (shapeAt b)) (deleteRecord (findIn b i .id) (live (viewOf b))) (pagesGiven b i ++ freeAt b)
   unfolding live pagesGiven
@@ -82,7 +82,7 @@ module _ (b : List ℕ) (i : ℕ) (s : SoundIndex b) (h : 0 < mult i (map identO
   delete-pages = total-changed (fieldAt total lowered - 1) changed .1
 
   -- lower levels first: from the last freed back, their levels fall
-  pub delete-order : Falling (map (levelAt b) (pagesGiven b i))
+  pub delete-order : Descending (map (levelAt b) (pagesGiven b i))
   unfolding pagesGiven
   delete-order = given-root-below d (viewOf b .level) b r (treeOf (viewOf b)) (w .ok) (w .held) .falling
 

@@ -7,18 +7,18 @@ use native.Mathlib.Omega.{arith}
 use lib.Dec.{eqb}
 use lib.ListN.{length, getD}
 use borrow.Author.Tests.{eqb-true, eqb-false}
-use Rattle.lists.specs.Basics.{pick, tick, All, flat, all-head}
-use Rattle.lists.specs.Choices.{bool-cases, tick-le, tick-true}
+use Rattle.lists.specs.Basics.{if, indicator, All, concatMap, all-head}
+use Rattle.lists.specs.Choices.{bool-cases, indicator-le, indicator-true}
 use Rattle.lists.specs.Counts.{mult, mult-append, mult-self, absent}
-use Rattle.lists.specs.Rising.{Rising}
-use Rattle.lists.specs.Runs.{all-at}
+use Rattle.lists.specs.AscendingBy.{AscendingBy}
+use Rattle.lists.specs.Tabulated.{all-at}
 use Rattle.pagestore.specs.declared.Record.{Record}
 use Rattle.pagestore.specs.declared.Entry.{Entry}
 use Rattle.pagestore.specs.Store.{pageAt, features, root, level, freed, fieldAt, inRange, innerAt, entriesIn, freeAt, freePage}
 use Rattle.pagestore.specs.Store.FreeLaws.{page-free, free-free}
 use Rattle.tree_model.specs.Trees.{Item, records, pages, rankOf}
 use Rattle.tree.specs.Entries.{childAt}
-use Rattle.tree.specs.Deletion.{Deleted, deleteRecord, deleteAt, lowerRoot}
+use Rattle.tree.specs.Deletion.{Deleted, deleteRecord, deleteAt, collapseRoot}
 use Rattle.tree_laws.specs.Shapes.{Ok, Some, Root, ok-root, Shape, noTree, child-at}
 use Rattle.tree_laws.specs.Idents.{del-all, del-length, del-rising}
 use Rattle.tree_laws.specs.Frames.{Held, held-frame, Well, Kept, kept-range, kept-free, freed-le}
@@ -31,12 +31,12 @@ use Rattle.tree_laws.specs.Header.{setRoot, root-length, root-field, roo
 -- the pages given up, the last one first: the root, if it gives way, and those of the levels below it from above
 unfoldable pub givenRoot : ℕ → (l : ℕ) → Record → Item (suc l) → List ℕ
 givenRoot d zero r t = []
-givenRoot d (suc l) r t = pick (eqb (length (deleteTree d (suc l) r [] t .tree .1)) 1) (t .0 ∷ []) [] ++ given d (suc l) r t
+givenRoot d (suc l) r t = if (eqb (length (deleteTree d (suc l) r [] t .tree .1)) 1) (t .0 ∷ []) [] ++ given d (suc l) r t
 
 -- the tree of a root x of level l, which gives way to a child that is alone
 unfoldable pub lowered : (l : ℕ) → Item (suc l) → Shape
 lowered zero x = (0, x)
-lowered (suc l) x = pick (eqb (length (x .1)) 1) (l, getD (x .1) 0 (noTree l)) (suc l, x)
+lowered (suc l) x = if (eqb (length (x .1)) 1) (l, getD (x .1) 0 (noTree l)) (suc l, x)
 
 -- the tree after a deletion
 unfoldable pub deletedTree : ℕ → Record → Shape → Shape
@@ -44,23 +44,23 @@ deletedTree d r s = lowered (s .0) (deleteTree d (s .0) r [] (s .1) .tree)
 
 -- the root p of b over the one tree c
 module _ (d l : ℕ) (b : List ℕ) (p : ℕ) (c : Item (suc l)) (v : suc l < 256) (well : Well b) (ok : Ok (suc l) c) (held : Held d (suc (suc l)) b (p, c ∷ []))
-    (own : (q : ℕ) → mult q (pages (suc (suc l)) (p, c ∷ [])) + mult q (freeAt b) ≡ tick (inRange b q)) where
+    (own : (q : ℕ) → mult q (pages (suc (suc l)) (p, c ∷ [])) + mult q (freeAt b) ≡ indicator (inRange b q)) where
   sum : (q : ℕ) → mult q (pages (suc (suc l)) (p, c ∷ [])) ≡ mult q (p ∷ []) + mult q (pages (suc l) c)
-  unfolding pages flat
+  unfolding pages concatMap
   sum q = mult-append q (p ∷ []) (pages (suc l) c ++ []) ∙ ap (λ (z : List ℕ). mult q (p ∷ []) + mult q z) (append-nil (pages (suc l) c))
 
   c-here : 0 < mult (c .0) (pages (suc l) c)
   unfolding pages
-  c-here = omega (arith, mult-self (c .0) (flat (pages l) (c .1)))
+  c-here = omega (arith, mult-self (c .0) (concatMap (pages l) (c .1)))
 
   c-in : inRange b (c .0) ≡ true
-  c-in = tick-true (inRange b (c .0)) (omega (arith, own (c .0), sum (c .0), c-here))
+  c-in = indicator-true (inRange b (c .0)) (omega (arith, own (c .0), sum (c .0), c-here))
 
   p-in : inRange b p ≡ true
-  p-in = tick-true (inRange b p) (omega (arith, own p, sum p, mult-self p []))
+  p-in = indicator-true (inRange b p) (omega (arith, own p, sum p, mult-self p []))
 
   p-free : mult p (freeAt b) ≡ 0
-  p-free = omega (arith, own p, sum p, mult-self p [], tick-le (inRange b p))
+  p-free = omega (arith, own p, sum p, mult-self p [], indicator-le (inRange b p))
 
   abbrev b2 : List ℕ
   b2 = setRoot b (c .0) l
@@ -84,12 +84,12 @@ module _ (d l : ℕ) (b : List ℕ) (p : ℕ) (c : Item (suc l)) (v : suc l < 25
   low-free = free-free b2 p (root-well b (c .0) l well .rest) p-in2 (omega (arith, freed-le b2 p, p-free2)) ∙ ap (λ (z : List ℕ). p ∷ z) free2
 
   low-page : (q : ℕ) → 0 < mult q (pages (suc l) c) → pageAt b3 q ≡ pageAt b q
-  low-page q h = page-free b2 p q (absent q p [] (omega (arith, own q, sum q, tick-le (inRange b q)))) .page ∙ root-page b (c .0) l q
+  low-page q h = page-free b2 p q (absent q p [] (omega (arith, own q, sum q, indicator-le (inRange b q)))) .page ∙ root-page b (c .0) l q
 
   low-range : (q : ℕ) → inRange b3 q ≡ inRange b q
   low-range q = kept-range k q ∙ root-range b (c .0) l q
 
-  low-whole : fieldAt features b ≡ d → Rising (rankOf d) (records (suc l) c) → Whole d b3 l c
+  low-whole : fieldAt features b ≡ d → AscendingBy (rankOf d) (records (suc l) c) → Whole d b3 l c
   unfolding Held
   low-whole ft s =
       record {
@@ -103,7 +103,7 @@ module _ (d l : ℕ) (b : List ℕ) (p : ℕ) (c : Item (suc l)) (v : suc l < 25
         order = s;
       }
 
-  pub low-changed : fieldAt features b ≡ d → Rising (rankOf d) (records (suc l) c) → Changed d b b3 (l, c) (records (suc l) c) (p ∷ freeAt b)
+  pub low-changed : fieldAt features b ≡ d → AscendingBy (rankOf d) (records (suc l) c) → Changed d b b3 (l, c) (records (suc l) c) (p ∷ freeAt b)
   low-changed ft s =
       record {
         whole = low-whole ft s;
@@ -139,14 +139,14 @@ module _ (d : ℕ) (b : List ℕ) (r : Record) (l : ℕ) (t : Item (suc l)) (v :
   free-o : freeAt (o .bytes) ≡ given d l r t ++ freeAt b
   free-o = sim .free ∙ delete-free d l r (freeAt b) t
 
-  own-o : (q : ℕ) → mult q (pages (suc l) x) + mult q (freeAt (o .bytes)) ≡ tick (inRange (o .bytes) q)
+  own-o : (q : ℕ) → mult q (pages (suc l) x) + mult q (freeAt (o .bytes)) ≡ indicator (inRange (o .bytes) q)
   own-o q =
-      ap (λ (z : List ℕ). mult q (pages (suc l) x) + mult q z) (sim .free) ∙ delete-kept d l r q (freeAt b) t (w .ok) ∙ w .own q ∙ ap tick (sym (kept-range (sim .kept) q))
+      ap (λ (z : List ℕ). mult q (pages (suc l) x) + mult q z) (sim .free) ∙ delete-kept d l r q (freeAt b) t (w .ok) ∙ w .own q ∙ ap indicator (sym (kept-range (sim .kept) q))
 
   records-o : records (suc l) x ≡ deleteRecord (r .id) (records (suc l) t)
   records-o = delete-records d l r (freeAt b) t (w .ok) (w .order) kn
 
-  rise-o : Rising (rankOf d) (records (suc l) x)
+  rise-o : AscendingBy (rankOf d) (records (suc l) x)
   rise-o = rw records-o (del-rising d (r .id) (w .order))
 
   features-o : fieldAt features (o .bytes) ≡ d
@@ -178,7 +178,7 @@ gives-way : (d : ℕ) (b : List ℕ) (r : Record) (l : ℕ) (t : Item (suc (suc 
     → length (deleteTree d (suc l) r (freeAt b) t .tree .1) ≡ 1
     → Changed d b (freePage (setRoot (deleteAt d (suc l) b (t .0) r .bytes) (childAt (entriesIn (innerAt (deleteAt d (suc l) b (t .0) r .bytes) (t .0))) 0) l) (t .0))
     (l, getD (deleteTree d (suc l) r (freeAt b) t .tree .1) 0 (noTree l)) (deleteRecord (r .id) (records (suc (suc l)) t)) (t .0 ∷ (given d (suc l) r t ++ freeAt b))
-unfolding records flat
+unfolding records concatMap
 gives-way d b r l t v w kn e =
     let x = deleteTree d (suc l) r (freeAt b) t .tree in
     let b1 = deleteAt d (suc l) b (t .0) r .bytes in
@@ -188,11 +188,11 @@ gives-way d b r l t v w kn e =
     let okc : Ok (suc l) c = all-at (near .subs) 0 (noTree l) (omega arith) in
     let sm = sim d b r (suc l) t v w kn in
     let held : Held d (suc (suc l)) b1 (t .0, c ∷ []) = subst (λ (y : Item (suc (suc l))). Held d (suc (suc l)) b1 y) x-is (sm .held) in
-    let own : (q : ℕ) → mult q (pages (suc (suc l)) (t .0, c ∷ [])) + mult q (freeAt b1) ≡ tick (inRange b1 q) =
-    λ q. subst (λ (y : Item (suc (suc l))). mult q (pages (suc (suc l)) y) + mult q (freeAt b1) ≡ tick (inRange b1 q)) x-is (own-o d b r (suc l) t v w kn q) in
+    let own : (q : ℕ) → mult q (pages (suc (suc l)) (t .0, c ∷ [])) + mult q (freeAt b1) ≡ indicator (inRange b1 q) =
+    λ q. subst (λ (y : Item (suc (suc l))). mult q (pages (suc (suc l)) y) + mult q (freeAt b1) ≡ indicator (inRange b1 q)) x-is (own-o d b r (suc l) t v w kn q) in
     let rs : records (suc l) c ≡ deleteRecord (r .id) (records (suc (suc l)) t) =
     sym (append-nil (records (suc l) c)) ∙ ap (records (suc (suc l))) (sym x-is) ∙ records-o d b r (suc l) t v w kn in
-    let rise : Rising (rankOf d) (records (suc l) c) = subst (Rising (rankOf d)) (sym rs) (del-rising d (r .id) (w .order)) in
+    let rise : AscendingBy (rankOf d) (records (suc l) c) = subst (AscendingBy (rankOf d)) (sym rs) (del-rising d (r .id) (w .order)) in
     let wl = sm .kept .well in
     changed-over (sm .kept)
     (ap (λ (z : ℕ). freePage (setRoot b1 z l) (t .0)) (sym (low-child d l b1 (t .0) c v wl okc held own)))
@@ -201,9 +201,9 @@ gives-way d b r l t v w kn e =
     (low-changed d l b1 (t .0) c v wl okc held own (features-o d b r (suc l) t v w kn) rise)
 
 inner-root : (d : ℕ) (b : List ℕ) (r : Record) (l : ℕ) (t : Item (suc (suc l))) → suc l < 256 → Whole d b (suc l) t → All (Known d r) (records (suc (suc l)) t)
-    → Changed d b (lowerRoot (suc l) (deleteAt d (suc l) b (t .0) r .bytes) (t .0) (deleteAt d (suc l) b (t .0) r .count)) (lowered (suc l) (deleteTree d (suc l) r [] t .tree))
+    → Changed d b (collapseRoot (suc l) (deleteAt d (suc l) b (t .0) r .bytes) (t .0) (deleteAt d (suc l) b (t .0) r .count)) (lowered (suc l) (deleteTree d (suc l) r [] t .tree))
     (deleteRecord (r .id) (records (suc (suc l)) t)) (givenRoot d (suc l) r t ++ freeAt b)
-unfolding lowerRoot lowered givenRoot Some
+unfolding collapseRoot lowered givenRoot Some
 inner-root d b r l t v w kn =
     let b1 = deleteAt d (suc l) b (t .0) r .bytes in
     let x = deleteTree d (suc l) r (freeAt b) t .tree in
@@ -214,7 +214,7 @@ inner-root d b r l t v w kn =
     let ce : deleteAt d (suc l) b (t .0) r .count ≡ n = sim d b r (suc l) t v w kn .count ∙ ne in
     let near = delete-after d l r (freeAt b) t (w .ok) in
     let G : Bool → Item (suc (suc l)) → Type 0 =
-    λ c y. Changed d b (pick c low b1) (pick {A = Shape} c (l, getD (y .1) 0 (noTree l)) (suc l, y)) (deleteRecord (r .id) (records (suc (suc l)) t)) ((pick c (t .0 ∷ []) [] ++ given d (suc l) r t) ++ freeAt b) in
+    λ c y. Changed d b (if c low b1) (if {A = Shape} c (l, getD (y .1) 0 (noTree l)) (suc l, y)) (deleteRecord (r .id) (records (suc (suc l)) t)) ((if c (t .0 ∷ []) [] ++ given d (suc l) r t) ++ freeAt b) in
     rw ce
     (subst (G (eqb n 1)) xe
     (bool-cases (λ c. G c x) (eqb n 1)
@@ -224,7 +224,7 @@ inner-root d b r l t v w kn =
 
 -- THE DELETION
 pub delete-root : (d : ℕ) (b : List ℕ) (r : Record) (l : ℕ) (t : Item (suc l)) → l < 256 → Whole d b l t → All (Known d r) (records (suc l) t)
-    → Changed d b (lowerRoot l (deleteAt d l b (t .0) r .bytes) (t .0) (deleteAt d l b (t .0) r .count)) (deletedTree d r (l, t)) (deleteRecord (r .id) (records (suc l) t)) (givenRoot d l r t ++ freeAt b)
-unfolding lowerRoot deletedTree lowered givenRoot given deleteTree Some
+    → Changed d b (collapseRoot l (deleteAt d l b (t .0) r .bytes) (t .0) (deleteAt d l b (t .0) r .count)) (deletedTree d r (l, t)) (deleteRecord (r .id) (records (suc l) t)) (givenRoot d l r t ++ freeAt b)
+unfolding collapseRoot deletedTree lowered givenRoot given deleteTree Some
 delete-root d b r zero t v w kn = stay d b r zero t v w kn (leaf-root d r (freeAt b) t (w .ok))
 delete-root d b r (suc l) t v w kn = inner-root d b r l t v w kn

@@ -9,12 +9,12 @@ use lib.Dec.{leb, ltb}
 use lib.ListN.{length, take, drop, getD, set, length-map, length-set}
 use lib.Seq.{split-at, drop-cons, set-split}
 use borrow.Author.Tests.{leb-true, le-ltb}
-use Rattle.lists.specs.Basics.{pick, tick, All, none, also, flat, flat-append, all-head, all-append, all-left, all-right}
-use Rattle.lists.specs.Choices.{pick-cases, tick-le, tick-true}
+use Rattle.lists.specs.Basics.{if, indicator, All, none, also, concatMap, concatMap-append, all-head, all-append, all-left, all-right}
+use Rattle.lists.specs.Choices.{if-cases, indicator-le, indicator-true}
 use Rattle.lists.specs.Counts.{mult, mult-append, mult-more, mult-self, absent}
-use Rattle.lists.specs.FlatLaws.{map-append}
-use Rattle.lists.specs.Parts.{all-drop, all-set, flat-set, flat-pair, map-take, map-drop, map-set}
-use Rattle.lists.specs.Runs.{all-take, all-at}
+use Rattle.lists.specs.ConcatMapLaws.{map-append}
+use Rattle.lists.specs.Parts.{all-drop, all-set, concatMap-set, concatMap-pair, map-take, map-drop, map-set}
+use Rattle.lists.specs.Tabulated.{all-take, all-at}
 use Rattle.pagestore.specs.declared.Record.{Record}
 use Rattle.pagestore.specs.declared.Entry.{Entry}
 use Rattle.pagestore.specs.Store.{pageAt, setPage, setLeaf, inRange, freeAt, freePage}
@@ -24,7 +24,7 @@ use Rattle.pagestore.specs.Store.FreeLaws.{free-page, page-free, free-free}
 use Rattle.tree_model.specs.Trees.{Item, pages, rankOf, entryOf, node}
 use Rattle.tree.specs.Entries.{choose, childAt, innerEntry}
 use Rattle.tree.specs.Insertion.{writeInner}
-use Rattle.tree.specs.Deletion.{Deleted, deleteRecord, evenItems, Evened, putEven, evenPages, leftOf, leave, mend, deleteAt}
+use Rattle.tree.specs.Deletion.{Deleted, deleteRecord, rebalancedItems, Rebalanced, putRebalanced, rebalancedPages, leftOf, leave, fixUnderflow, deleteAt}
 use Rattle.tree_laws.specs.Shapes.{Ok, Some, Root, ok-root, noTree, no-pages, child-at, chosen, chosen-lt}
 use Rattle.tree_laws.specs.Idents.{del-all, del-length}
 use Rattle.tree_laws.specs.EntryLaws.{leaf-entry, inner-entry}
@@ -35,7 +35,7 @@ use Rattle.tree_laws.specs.DeleteTree.{Even, two, one, Less, glue, evene
 -- TWO PAGES EVENED OUT
 
 -- r is what the trees of c say, and of b no page but p and q has changed
-record PairSim (d l : ℕ) (b : List ℕ) (p q : ℕ) (r : Evened) (c : Less (Item l)) : Type 0 where
+record PairSim (d l : ℕ) (b : List ℕ) (p q : ℕ) (r : Rebalanced) (c : Less (Item l)) : Type 0 where
   held : All (Held d (suc l) (r .bytes)) (c .trees)
   entries : r .entries ≡ map (entryOf d l) (c .trees)
   free : freeAt (r .bytes) ≡ c .free
@@ -43,50 +43,50 @@ record PairSim (d l : ℕ) (b : List ℕ) (p q : ℕ) (r : Evened) (c : Less (It
   kept : Kept b (r .bytes)
 
 module _ (d l : ℕ) (b : List ℕ) (p q : ℕ) (xs ys : List (Item l)) (v : l < 256) (well : Well b)
-    (own : (z : ℕ) → mult z (p ∷ flat (pages l) xs) + mult z (q ∷ flat (pages l) ys) + mult z (freeAt b) ≤ tick (inRange b z))
+    (own : (z : ℕ) → mult z (p ∷ concatMap (pages l) xs) + mult z (q ∷ concatMap (pages l) ys) + mult z (freeAt b) ≤ indicator (inRange b z))
     (held : All (Held d l b) (xs ++ ys)) (ok : All (Ok l) (xs ++ ys)) where
-  bound : (z : ℕ) → mult z (p ∷ flat (pages l) xs) + mult z (q ∷ flat (pages l) ys) + mult z (freeAt b) ≤ 1
-  bound z = omega (arith, own z, tick-le (inRange b z))
+  bound : (z : ℕ) → mult z (p ∷ concatMap (pages l) xs) + mult z (q ∷ concatMap (pages l) ys) + mult z (freeAt b) ≤ 1
+  bound z = omega (arith, own z, indicator-le (inRange b z))
 
-  sum : (z : ℕ) → mult z (flat (pages l) (xs ++ ys)) ≡ mult z (flat (pages l) xs) + mult z (flat (pages l) ys)
-  sum z = ap (mult z) (flat-append (pages l) xs ys) ∙ mult-append z (flat (pages l) xs) (flat (pages l) ys)
+  sum : (z : ℕ) → mult z (concatMap (pages l) (xs ++ ys)) ≡ mult z (concatMap (pages l) xs) + mult z (concatMap (pages l) ys)
+  sum z = ap (mult z) (concatMap-append (pages l) xs ys) ∙ mult-append z (concatMap (pages l) xs) (concatMap (pages l) ys)
 
   p-in : inRange b p ≡ true
-  p-in = tick-true (inRange b p) (omega (arith, own p, mult-self p (flat (pages l) xs)))
+  p-in = indicator-true (inRange b p) (omega (arith, own p, mult-self p (concatMap (pages l) xs)))
 
   q-in : inRange b q ≡ true
-  q-in = tick-true (inRange b q) (omega (arith, own q, mult-self q (flat (pages l) ys)))
+  q-in = indicator-true (inRange b q) (omega (arith, own q, mult-self q (concatMap (pages l) ys)))
 
   p-not-q : p ≢ q
-  p-not-q = absent p q (flat (pages l) ys) (omega (arith, bound p, mult-self p (flat (pages l) xs)))
+  p-not-q = absent p q (concatMap (pages l) ys) (omega (arith, bound p, mult-self p (concatMap (pages l) xs)))
 
   -- a page below one of the two
-  item : (z : ℕ) → 0 < mult z (flat (pages l) (xs ++ ys)) → (z ≢ p) × (z ≢ q) × (z < 2 ^ 32)
+  item : (z : ℕ) → 0 < mult z (concatMap (pages l) (xs ++ ys)) → (z ≢ p) × (z ≢ q) × (z < 2 ^ 32)
   item z h =
-      let s = range-fits b z (tick-true (inRange b z) (omega (arith, own z, sum z, mult-more z p (flat (pages l) xs), mult-more z q (flat (pages l) ys)))) in (
-        absent z p [] (omega (arith, bound z, sum z, mult-append z (p ∷ []) (flat (pages l) xs), mult-append z (q ∷ []) (flat (pages l) ys))),
-        absent z q [] (omega (arith, bound z, sum z, mult-append z (p ∷ []) (flat (pages l) xs), mult-append z (q ∷ []) (flat (pages l) ys))),
+      let s = range-fits b z (indicator-true (inRange b z) (omega (arith, own z, sum z, mult-more z p (concatMap (pages l) xs), mult-more z q (concatMap (pages l) ys)))) in (
+        absent z p [] (omega (arith, bound z, sum z, mult-append z (p ∷ []) (concatMap (pages l) xs), mult-append z (q ∷ []) (concatMap (pages l) ys))),
+        absent z q [] (omega (arith, bound z, sum z, mult-append z (p ∷ []) (concatMap (pages l) xs), mult-append z (q ∷ []) (concatMap (pages l) ys))),
         omega arith,
       )
 
   free-p : mult p (freeAt b) ≡ 0
-  free-p = omega (arith, bound p, mult-self p (flat (pages l) xs))
+  free-p = omega (arith, bound p, mult-self p (concatMap (pages l) xs))
 
   free-q : mult q (freeAt b) ≡ 0
-  free-q = omega (arith, bound q, mult-self q (flat (pages l) ys))
+  free-q = omega (arith, bound q, mult-self q (concatMap (pages l) ys))
 
-  glue-sim : {zs : List (List (Item l))} → Even xs ys zs → PairSim d l b p q (putEven (writeNode d l) (entryAs d l) b p q zs) (glue p q (freeAt b) zs)
-  unfolding putEven glue Held
+  glue-sim : {zs : List (List (Item l))} → Even xs ys zs → PairSim d l b p q (putRebalanced (writeNode d l) (entryAs d l) b p q zs) (glue p q (freeAt b) zs)
+  unfolding putRebalanced glue Held
   glue-sim (two {us = us} {vs = vs} e a1 a2 a3 a4) =
       let x1 = node d l us in
       let x2 = node d l vs in
       let b1 = setPage b p x1 in
-      let fl : (z : ℕ) → mult z (flat (pages l) us) + mult z (flat (pages l) vs) ≡ mult z (flat (pages l) (xs ++ ys)) =
-      λ z. sym (mult-append z (flat (pages l) us) (flat (pages l) vs)) ∙ ap (mult z) (sym (flat-append (pages l) us vs) ∙ ap (flat (pages l)) e) in
+      let fl : (z : ℕ) → mult z (concatMap (pages l) us) + mult z (concatMap (pages l) vs) ≡ mult z (concatMap (pages l) (xs ++ ys)) =
+      λ z. sym (mult-append z (concatMap (pages l) us) (concatMap (pages l) vs)) ∙ ap (mult z) (sym (concatMap-append (pages l) us vs) ∙ ap (concatMap (pages l)) e) in
       let ok' : All (Ok l) (us ++ vs) = rw e ok in
       let held' : All (Held d l b) (us ++ vs) = rw e held in
       let fr : (z : ℕ) → z ≢ p → z ≢ q → pageAt (setPage b1 q x2) z ≡ pageAt b z = λ z f g. page-other b1 q x2 z g .page ∙ page-other b p x1 z f .page in
-      let it : (z : ℕ) → 0 < mult z (flat (pages l) (xs ++ ys)) → pageAt (setPage b1 q x2) z ≡ pageAt b z = λ z h. let i = item z h in fr z (i .0) (i .1) in
+      let it : (z : ℕ) → 0 < mult z (concatMap (pages l) (xs ++ ys)) → pageAt (setPage b1 q x2) z ≡ pageAt b z = λ z h. let i = item z h in fr z (i .0) (i .1) in
       let k1 = kept-page b p x1 well free-p in
       let q1 : inRange b1 q ≡ true = kept-range k1 q ∙ q-in in
       let f1 : freeAt b1 ≡ freeAt b = free-page b p x1 (omega (arith, freed-le b p, free-p)) in
@@ -105,7 +105,7 @@ module _ (d l : ℕ) (b : List ℕ) (p q : ℕ) (xs ys : List (Item l)) (v : l <
       let b1 = setPage b p x1 in
       let ok' : All (Ok l) us = rw e ok in
       let held' : All (Held d l b) us = rw e held in
-      let fl : (z : ℕ) → mult z (flat (pages l) us) ≡ mult z (flat (pages l) (xs ++ ys)) = λ z. ap (λ (w : List (Item l)). mult z (flat (pages l) w)) e in
+      let fl : (z : ℕ) → mult z (concatMap (pages l) us) ≡ mult z (concatMap (pages l) (xs ++ ys)) = λ z. ap (λ (w : List (Item l)). mult z (concatMap (pages l) w)) e in
       let fr : (z : ℕ) → z ≢ p → z ≢ q → pageAt (freePage b1 q) z ≡ pageAt b z = λ z f g. page-free b1 q z g .page ∙ page-other b p x1 z f .page in
       let k1 = kept-page b p x1 well free-p in
       let f1 : freeAt b1 ≡ freeAt b = free-page b p x1 (omega (arith, freed-le b p, free-p)) in
@@ -125,27 +125,27 @@ module _ (d l : ℕ) (b : List ℕ) (p q : ℕ) (xs ys : List (Item l)) (v : l <
 
 -- WHAT THE CODE WRITES IS THE TREE'S
 
-evenBy : {A : Type 0} → Bool → Bool → Bool → Bool → ℕ → List A → List A → List (List A)
-evenBy c1 c2 c3 c4 n xs ys =
-    pick c1 (pick c2 ((xs ++ take 1 ys) ∷ drop 1 ys ∷ []) ((xs ++ ys) ∷ []))
-    (pick c3 (pick c4 (take n xs ∷ (drop n xs ++ ys) ∷ []) ((xs ++ ys) ∷ [])) (xs ∷ ys ∷ []))
+rebalancedBy : {A : Type 0} → Bool → Bool → Bool → Bool → ℕ → List A → List A → List (List A)
+rebalancedBy c1 c2 c3 c4 n xs ys =
+    if c1 (if c2 ((xs ++ take 1 ys) ∷ drop 1 ys ∷ []) ((xs ++ ys) ∷ []))
+    (if c3 (if c4 (take n xs ∷ (drop n xs ++ ys) ∷ []) ((xs ++ ys) ∷ [])) (xs ∷ ys ∷ []))
 
-evenBy-map : {A B : Type 0} (f : A → B) (c1 c2 c3 c4 : Bool) (n : ℕ) (xs ys : List A) → evenBy c1 c2 c3 c4 n (map f xs) (map f ys) ≡ map (map f) (evenBy c1 c2 c3 c4 n xs ys)
-unfolding evenBy
+evenBy-map : {A B : Type 0} (f : A → B) (c1 c2 c3 c4 : Bool) (n : ℕ) (xs ys : List A) → rebalancedBy c1 c2 c3 c4 n (map f xs) (map f ys) ≡ map (map f) (rebalancedBy c1 c2 c3 c4 n xs ys)
+unfolding rebalancedBy
 evenBy-map f true true c3 c4 n xs ys = rw (map-take f 1 ys, map-drop f 1 ys, ← map-append f xs (take 1 ys))
 evenBy-map f true false c3 c4 n xs ys = rw (← map-append f xs ys)
 evenBy-map f false c2 true true n xs ys = rw (map-take f n xs, map-drop f n xs, ← map-append f (drop n xs) ys)
 evenBy-map f false c2 true false n xs ys = rw (← map-append f xs ys)
 evenBy-map f false c2 false c4 n xs ys = refl
 
-even-map : {A B : Type 0} (f : A → B) (xs ys : List A) → evenItems (map f xs) (map f ys) ≡ map (map f) (evenItems xs ys)
-unfolding evenItems evenBy
+even-map : {A B : Type 0} (f : A → B) (xs ys : List A) → rebalancedItems (map f xs) (map f ys) ≡ map (map f) (rebalancedItems xs ys)
+unfolding rebalancedItems rebalancedBy
 even-map f xs ys =
     rw (length-map xs f, length-map ys f) (evenBy-map f (ltb (length xs) 8) (ltb 8 (length ys)) (ltb (length ys) 8) (ltb 8 (length xs)) (length xs - 1) xs ys)
 
 glue-map : (d l : ℕ) (b : List ℕ) (p q : ℕ) {zs : List (List (Item (suc l)))} → All (All (Ok (suc l))) zs
-    → putEven (writeInner (suc l)) innerEntry b p q (map (map (entryOf d l)) zs) ≡ putEven (writeNode d (suc l)) (entryAs d (suc l)) b p q zs
-unfolding putEven setPage node
+    → putRebalanced (writeInner (suc l)) innerEntry b p q (map (map (entryOf d l)) zs) ≡ putRebalanced (writeNode d (suc l)) (entryAs d (suc l)) b p q zs
+unfolding putRebalanced setPage node
 glue-map d l b p q none = refl
 glue-map d l b p q (also {x = us} h none) = rw (inner-entry d l p us h)
 glue-map d l b p q (also {x = us} h (also {x = vs} g t)) = rw (inner-entry d l p us h, inner-entry d l q vs g)
@@ -154,15 +154,15 @@ even-oks : {A : Type 0} {P : A → Type 0} {xs ys : List A} {zs : List (List A)}
 even-oks {A} {P} (two {us = us} {vs = vs} e a b c d) o = let o' : All P (us ++ vs) = rw e o in also (all-left us vs o') (also (all-right us vs o') none)
 even-oks {A} {P} (one {us = us} e a b) o = let o' : All P us = rw e o in also o' none
 
-even-pages : (d l : ℕ) (b : List ℕ) (x y : Item (suc l)) → Held d (suc l) b x → Held d (suc l) b y → All (All (Ok l)) (evenItems (x .1) (y .1))
-    → evenPages d l b (x .0) (y .0) ≡ putEven (writeNode d l) (entryAs d l) b (x .0) (y .0) (evenItems (x .1) (y .1))
-unfolding evenPages node setPage
-even-pages d zero b x y h g o =
+rebalance-pages : (d l : ℕ) (b : List ℕ) (x y : Item (suc l)) → Held d (suc l) b x → Held d (suc l) b y → All (All (Ok l)) (rebalancedItems (x .1) (y .1))
+    → rebalancedPages d l b (x .0) (y .0) ≡ putRebalanced (writeNode d l) (entryAs d l) b (x .0) (y .0) (rebalancedItems (x .1) (y .1))
+unfolding rebalancedPages node setPage
+rebalance-pages d zero b x y h g o =
     rw (leaf-items d b x h, leaf-items d b y g)
-    (ap (λ (en : ℕ → List Record → Entry). putEven setLeaf en b (x .0) (y .0) (evenItems (x .1) (y .1))) (fun-ext (λ z. fun-ext (λ us. leaf-entry d z us))))
-even-pages d (suc l) b x y h g o =
+    (ap (λ (en : ℕ → List Record → Entry). putRebalanced setLeaf en b (x .0) (y .0) (rebalancedItems (x .1) (y .1))) (fun-ext (λ z. fun-ext (λ us. leaf-entry d z us))))
+rebalance-pages d (suc l) b x y h g o =
     rw (inner-items d l b x h, inner-items d l b y g)
-    (ap (putEven (writeInner (suc l)) innerEntry b (x .0) (y .0)) (even-map (entryOf d l) (x .1) (y .1)) ∙ glue-map d l b (x .0) (y .0) o)
+    (ap (putRebalanced (writeInner (suc l)) innerEntry b (x .0) (y .0)) (even-map (entryOf d l) (x .1) (y .1)) ∙ glue-map d l b (x .0) (y .0) o)
 
 -- DELETION BELOW A PAGE
 
@@ -176,7 +176,7 @@ pub record DeleteSim (d l : ℕ) (b ps : List ℕ) (o : Deleted) (t : Item (suc 
   pub kept : Kept b (o .bytes)
 
 -- the last write, of the parent
-leave-sim : (d l : ℕ) (b : List ℕ) (p : ℕ) (ts : List (Item (suc l))) → suc l < 256 → Well b → ((q : ℕ) → mult q (p ∷ flat (pages (suc l)) ts) + mult q (freeAt b) ≤ tick (inRange b q))
+leave-sim : (d l : ℕ) (b : List ℕ) (p : ℕ) (ts : List (Item (suc l))) → suc l < 256 → Well b → ((q : ℕ) → mult q (p ∷ concatMap (pages (suc l)) ts) + mult q (freeAt b) ≤ indicator (inRange b q))
     → All (Held d (suc l) b) ts → All (Ok (suc l)) ts → length ts ≤ 16 → DeleteSim d (suc l) b (p ∷ []) (leave (suc l) b p (map (entryOf d l) ts)) (p, ts) (freeAt b)
 unfolding node setPage
 leave-sim d l b p ts v well own held ok len =
@@ -185,14 +185,14 @@ leave-sim d l b p ts v well own held ok len =
 
 -- the page p over the children ts; o is what a deletion has left of the child at i, which is now x
 module _ (d l : ℕ) (b : List ℕ) (p : ℕ) (ts : List (Item (suc l))) (i : ℕ) (lt : i < length ts) (g2 : 2 ≤ length ts) (g4 : length ts ≤ 16) (v : suc l < 256) (o : Deleted) (x : Item (suc l)) (fs : List ℕ)
-    (own : (q : ℕ) → mult q (p ∷ flat (pages (suc l)) ts) + mult q (freeAt b) ≤ tick (inRange b q)) (held : All (Held d (suc l) b) ts) (ok : All (Ok (suc l)) ts) (nx : Near l x)
+    (own : (q : ℕ) → mult q (p ∷ concatMap (pages (suc l)) ts) + mult q (freeAt b) ≤ indicator (inRange b q)) (held : All (Held d (suc l) b) ts) (ok : All (Ok (suc l)) ts) (nx : Near l x)
     (ih : DeleteSim d l b (pages (suc l) (getD ts i (noTree l))) o x fs)
     (same : (q : ℕ) → mult q (pages (suc l) x) + mult q fs ≡ mult q (pages (suc l) (getD ts i (noTree l))) + mult q (freeAt b)) where
   L : ℕ → ℕ
-  L q = mult q (flat (pages (suc l)) (take i ts))
+  L q = mult q (concatMap (pages (suc l)) (take i ts))
 
   R : ℕ → ℕ
-  R q = mult q (flat (pages (suc l)) (drop (suc i) ts))
+  R q = mult q (concatMap (pages (suc l)) (drop (suc i) ts))
 
   C : ℕ → ℕ
   C q = mult q (pages (suc l) (getD ts i (noTree l)))
@@ -200,33 +200,33 @@ module _ (d l : ℕ) (b : List ℕ) (p : ℕ) (ts : List (Item (suc l))) (i : �
   X : ℕ → ℕ
   X q = mult q (pages (suc l) x)
 
-  old : (q : ℕ) → mult q (p ∷ flat (pages (suc l)) ts) ≡ mult q (p ∷ []) + (L q + (C q + R q))
+  old : (q : ℕ) → mult q (p ∷ concatMap (pages (suc l)) ts) ≡ mult q (p ∷ []) + (L q + (C q + R q))
   unfolding L R C
   old q = sum-at l q p ts i lt
 
-  new : (q : ℕ) → mult q (p ∷ flat (pages (suc l)) (set ts i x)) ≡ mult q (p ∷ []) + (L q + (X q + R q))
+  new : (q : ℕ) → mult q (p ∷ concatMap (pages (suc l)) (set ts i x)) ≡ mult q (p ∷ []) + (L q + (X q + R q))
   unfolding L R X
   new q =
       mult-append q (p ∷ []) _
-      ∙ ap (λ (n : ℕ). mult q (p ∷ []) + n) (ap (mult q) (flat-set (pages (suc l)) ts i x lt) ∙ mult-append q (flat (pages (suc l)) (take i ts)) _ ∙ ap (λ (n : ℕ). mult q (flat (pages (suc l)) (take i ts)) + n) (mult-append q (pages (suc l) x) _))
+      ∙ ap (λ (n : ℕ). mult q (p ∷ []) + n) (ap (mult q) (concatMap-set (pages (suc l)) ts i x lt) ∙ mult-append q (concatMap (pages (suc l)) (take i ts)) _ ∙ ap (λ (n : ℕ). mult q (concatMap (pages (suc l)) (take i ts)) + n) (mult-append q (pages (suc l) x) _))
 
   same' : (q : ℕ) → X q + mult q (freeAt (o .bytes)) ≡ C q + mult q (freeAt b)
   unfolding X C
   same' q = ap (λ (z : List ℕ). mult q (pages (suc l) x) + mult q z) (ih .free) ∙ same q
 
-  own1 : (q : ℕ) → mult q (p ∷ flat (pages (suc l)) (set ts i x)) + mult q (freeAt (o .bytes)) ≤ tick (inRange (o .bytes) q)
+  own1 : (q : ℕ) → mult q (p ∷ concatMap (pages (suc l)) (set ts i x)) + mult q (freeAt (o .bytes)) ≤ indicator (inRange (o .bytes) q)
   own1 q = rw (kept-range (ih .kept) q) (omega (arith, own q, old q, new q, same' q))
 
   side : (ps : List ℕ) → ((q : ℕ) → mult q ps ≤ L q + R q) → (q : ℕ) → 0 < mult q ps → pageAt (o .bytes) q ≡ pageAt b q
   unfolding C
-  side ps le q h = ih .frame q (omega (arith, own q, old q, le q, tick-le (inRange b q))) (omega (arith, own q, old q, le q, tick-le (inRange b q)))
+  side ps le q h = ih .frame q (omega (arith, own q, old q, le q, indicator-le (inRange b q))) (omega (arith, own q, old q, le q, indicator-le (inRange b q)))
 
   held1 : All (Held d (suc l) (o .bytes)) (set ts i x)
   unfolding L R
   held1 =
       rw (set-split ts i x lt)
-      (all-append (held-list d (suc l) b (o .bytes) (side (flat (pages (suc l)) (take i ts)) (λ q. omega arith)) (all-take i held))
-      (also (ih .held) (held-list d (suc l) b (o .bytes) (side (flat (pages (suc l)) (drop (suc i) ts)) (λ q. omega arith)) (all-drop (suc i) held))))
+      (all-append (held-list d (suc l) b (o .bytes) (side (concatMap (pages (suc l)) (take i ts)) (λ q. omega arith)) (all-take i held))
+      (also (ih .held) (held-list d (suc l) b (o .bytes) (side (concatMap (pages (suc l)) (drop (suc i) ts)) (λ q. omega arith)) (all-drop (suc i) held))))
 
   abbrev us : List (Item (suc l))
   us = set ts i x
@@ -248,12 +248,12 @@ module _ (d l : ℕ) (b : List ℕ) (p : ℕ) (ts : List (Item (suc l))) (i : �
       split-at us (leftOf i (length ts)) (noTree l) (omega (arith, pl))
       ∙ ap (λ (z : List (Item (suc l))). take (leftOf i (length ts)) us ++ (a ∷ z)) (drop-cons us (suc (leftOf i (length ts))) (noTree l) pl)
 
-  pair-sum2 : (q : ℕ) → mult q (p ∷ flat (pages (suc l)) us)
-      ≡ mult q (p ∷ []) + (mult q (flat (pages (suc l)) (take (leftOf i (length ts)) us)) + (mult q (pages (suc l) a) + (mult q (pages (suc l) c) + mult q (flat (pages (suc l)) (drop (suc (suc (leftOf i (length ts)))) us)))))
+  pair-sum2 : (q : ℕ) → mult q (p ∷ concatMap (pages (suc l)) us)
+      ≡ mult q (p ∷ []) + (mult q (concatMap (pages (suc l)) (take (leftOf i (length ts)) us)) + (mult q (pages (suc l) a) + (mult q (pages (suc l) c) + mult q (concatMap (pages (suc l)) (drop (suc (suc (leftOf i (length ts)))) us)))))
   pair-sum2 q =
       mult-append q (p ∷ []) _
-      ∙ ap (λ (n : ℕ). mult q (p ∷ []) + n) (ap (mult q) (flat-pair (pages (suc l)) us (leftOf i (length ts)) (noTree l) pl) ∙ mult-append q (flat (pages (suc l)) (take (leftOf i (length ts)) us)) _
-      ∙ ap (λ (n : ℕ). mult q (flat (pages (suc l)) (take (leftOf i (length ts)) us)) + n) (mult-append q (pages (suc l) a) _ ∙ ap (λ (n : ℕ). mult q (pages (suc l) a) + n) (mult-append q (pages (suc l) c) _)))
+      ∙ ap (λ (n : ℕ). mult q (p ∷ []) + n) (ap (mult q) (concatMap-pair (pages (suc l)) us (leftOf i (length ts)) (noTree l) pl) ∙ mult-append q (concatMap (pages (suc l)) (take (leftOf i (length ts)) us)) _
+      ∙ ap (λ (n : ℕ). mult q (concatMap (pages (suc l)) (take (leftOf i (length ts)) us)) + n) (mult-append q (pages (suc l) a) _ ∙ ap (λ (n : ℕ). mult q (pages (suc l) a) + n) (mult-append q (pages (suc l) c) _)))
 
   held-a : Held d (suc l) (o .bytes) a
   held-a = all-at held1 (leftOf i (length ts)) (noTree l) (omega (arith, pl))
@@ -267,43 +267,43 @@ module _ (d l : ℕ) (b : List ℕ) (p : ℕ) (ts : List (Item (suc l))) (i : �
   nc : Near l c
   nc = all-at (pair-near l ts i x lt g2 ok nx) (suc (leftOf i (length ts))) (noTree l) pl
 
-  ev : Even (a .1) (c .1) (evenItems (a .1) (c .1))
+  ev : Even (a .1) (c .1) (rebalancedItems (a .1) (c .1))
   ev = pair-even l ts i x lt g2 ok nx
 
-  ps : PairSim d l (o .bytes) (a .0) (c .0) (putEven (writeNode d l) (entryAs d l) (o .bytes) (a .0) (c .0) (evenItems (a .1) (c .1))) (glue (a .0) (c .0) (freeAt (o .bytes)) (evenItems (a .1) (c .1)))
+  ps : PairSim d l (o .bytes) (a .0) (c .0) (putRebalanced (writeNode d l) (entryAs d l) (o .bytes) (a .0) (c .0) (rebalancedItems (a .1) (c .1))) (glue (a .0) (c .0) (freeAt (o .bytes)) (rebalancedItems (a .1) (c .1)))
   unfolding Held pages
   ps =
       glue-sim d l (o .bytes) (a .0) (c .0) (a .1) (c .1) (omega arith) (ih .kept .well) (λ q. omega (arith, own1 q, pair-sum2 q)) (all-append (held-a .1) (held-c .1)) (all-append (na .subs) (nc .subs)) ev
 
-  v-is : evenPages d l (o .bytes) (a .0) (c .0) ≡ putEven (writeNode d l) (entryAs d l) (o .bytes) (a .0) (c .0) (evenItems (a .1) (c .1))
-  v-is = even-pages d l (o .bytes) a c held-a held-c (even-oks ev (all-append (na .subs) (nc .subs)))
+  v-is : rebalancedPages d l (o .bytes) (a .0) (c .0) ≡ putRebalanced (writeNode d l) (entryAs d l) (o .bytes) (a .0) (c .0) (rebalancedItems (a .1) (c .1))
+  v-is = rebalance-pages d l (o .bytes) a c held-a held-c (even-oks ev (all-append (na .subs) (nc .subs)))
 
   abbrev b2 : List ℕ
-  b2 = evenPages d l (o .bytes) (a .0) (c .0) .bytes
+  b2 = rebalancedPages d l (o .bytes) (a .0) (c .0) .bytes
 
-  ps' : PairSim d l (o .bytes) (a .0) (c .0) (evenPages d l (o .bytes) (a .0) (c .0)) (evened l fs (leftOf i (length ts)) us)
+  ps' : PairSim d l (o .bytes) (a .0) (c .0) (rebalancedPages d l (o .bytes) (a .0) (c .0)) (evened l fs (leftOf i (length ts)) us)
   ps' = rw v-is (rw (ih .free) at ps)
 
   -- the pages of the other children aren't those of the pair
-  keep : (zs : List ℕ) → ((q : ℕ) → mult q zs + mult q (pages (suc l) a) + mult q (pages (suc l) c) ≤ mult q (p ∷ flat (pages (suc l)) us)) → (q : ℕ) → 0 < mult q zs → pageAt b2 q ≡ pageAt (o .bytes) q
+  keep : (zs : List ℕ) → ((q : ℕ) → mult q zs + mult q (pages (suc l) a) + mult q (pages (suc l) c) ≤ mult q (p ∷ concatMap (pages (suc l)) us)) → (q : ℕ) → 0 < mult q zs → pageAt b2 q ≡ pageAt (o .bytes) q
   unfolding pages
   keep zs le q h =
       ps' .frame q
-      (absent q (a .0) (flat (pages l) (a .1)) (omega (arith, own1 q, le q, tick-le (inRange (o .bytes) q))))
-      (absent q (c .0) (flat (pages l) (c .1)) (omega (arith, own1 q, le q, tick-le (inRange (o .bytes) q))))
+      (absent q (a .0) (concatMap (pages l) (a .1)) (omega (arith, own1 q, le q, indicator-le (inRange (o .bytes) q))))
+      (absent q (c .0) (concatMap (pages l) (c .1)) (omega (arith, own1 q, le q, indicator-le (inRange (o .bytes) q))))
 
   held2 : All (Held d (suc l) b2) rest
   held2 =
-      all-append (held-list d (suc l) (o .bytes) b2 (keep (flat (pages (suc l)) (take (leftOf i (length ts)) us)) (λ q. omega (arith, pair-sum2 q))) (all-take (leftOf i (length ts)) held1))
+      all-append (held-list d (suc l) (o .bytes) b2 (keep (concatMap (pages (suc l)) (take (leftOf i (length ts)) us)) (λ q. omega (arith, pair-sum2 q))) (all-take (leftOf i (length ts)) held1))
       (all-append (ps' .held)
-      (held-list d (suc l) (o .bytes) b2 (keep (flat (pages (suc l)) (drop (suc (suc (leftOf i (length ts)))) us)) (λ q. omega (arith, pair-sum2 q))) (all-drop (suc (suc (leftOf i (length ts)))) held1)))
+      (held-list d (suc l) (o .bytes) b2 (keep (concatMap (pages (suc l)) (drop (suc (suc (leftOf i (length ts)))) us)) (λ q. omega (arith, pair-sum2 q))) (all-drop (suc (suc (leftOf i (length ts)))) held1)))
 
-  own2 : (q : ℕ) → mult q (p ∷ flat (pages (suc l)) rest) + mult q (freeAt b2) ≤ tick (inRange b2 q)
+  own2 : (q : ℕ) → mult q (p ∷ concatMap (pages (suc l)) rest) + mult q (freeAt b2) ≤ indicator (inRange b2 q)
   own2 q =
       let m = pair-pages l ts i x lt g2 ok nx fs q in
       let f : mult q (freeAt b2) ≡ mult q (evened l fs (leftOf i (length ts)) us .free) = ap (mult q) (ps' .free) in
       let f1 : mult q (freeAt (o .bytes)) ≡ mult q fs = ap (mult q) (ih .free) in
-      rw (kept-range (ps' .kept) q) (omega (arith, own1 q, mult-append q (p ∷ []) (flat (pages (suc l)) rest), mult-append q (p ∷ []) (flat (pages (suc l)) us)))
+      rw (kept-range (ps' .kept) q) (omega (arith, own1 q, mult-append q (p ∷ []) (concatMap (pages (suc l)) rest), mult-append q (p ∷ []) (concatMap (pages (suc l)) us)))
 
   short-sim : DeleteSim d (suc l) b2 (p ∷ []) (leave (suc l) b2 p (map (entryOf d l) rest)) (p, rest) (freeAt b2)
   short-sim = leave-sim d l b2 p rest v (ps' .kept .well) own2 held2 (pair-ok l ts i x lt g2 ok nx fs) (omega (arith, pair-length l ts i x lt g2 ok nx fs))
@@ -313,8 +313,8 @@ module _ (d l : ℕ) (b : List ℕ) (p : ℕ) (ts : List (Item (suc l))) (i : �
   plain-sim h = leave-sim d l (o .bytes) p us v (ih .kept .well) own1 held1 (all-set i x (h, nx .high, nx .subs) ok) (omega (arith, length-set ts i x))
 
   -- with 8 or more left there is nothing to even out
-  noop : 8 ≤ length (x .1) → evenItems (a .1) (c .1) ≡ a .1 ∷ c .1 ∷ []
-  unfolding evenItems Ok
+  noop : 8 ≤ length (x .1) → rebalancedItems (a .1) (c .1) ≡ a .1 ∷ c .1 ∷ []
+  unfolding rebalancedItems Ok
   noop h =
       let oks : All (Ok (suc l)) us = all-set i x (h, nx .high, nx .subs) ok in
       let oa = all-at oks (leftOf i (length ts)) (noTree l) (omega (arith, pl)) in
@@ -325,8 +325,8 @@ module _ (d l : ℕ) (b : List ℕ) (p : ℕ) (ts : List (Item (suc l))) (i : �
   unfolding glue
   plain-rest h = rw (noop h) (split2, refl)
 
-  mend-is : mend d l p (map (entryOf d l) ts) i o ≡ pick (leb 8 (o .count)) (leave (suc l) (o .bytes) p (map (entryOf d l) us)) (leave (suc l) b2 p (map (entryOf d l) rest))
-  unfolding mend
+  mend-is : fixUnderflow d l p (map (entryOf d l) ts) i o ≡ if (leb 8 (o .count)) (leave (suc l) (o .bytes) p (map (entryOf d l) us)) (leave (suc l) b2 p (map (entryOf d l) rest))
+  unfolding fixUnderflow
   mend-is =
       let e : set (map (entryOf d l) ts) i (o .entry) ≡ map (entryOf d l) us = ap (set (map (entryOf d l) ts) i) (ih .entry) ∙ map-set (entryOf d l) ts i x in
       let n : length (map (entryOf d l) ts) ≡ length ts = length-map ts (entryOf d l) in
@@ -334,10 +334,10 @@ module _ (d l : ℕ) (b : List ℕ) (p : ℕ) (ts : List (Item (suc l))) (i : �
       let cb : childAt (map (entryOf d l) us) (suc (leftOf i (length ts))) ≡ c .0 = child-at d l (suc (leftOf i (length ts))) us in
       rw (e, n, ca, cb, ps' .entries, map-take (entryOf d l) (leftOf i (length ts)) us, map-drop (entryOf d l) (suc (suc (leftOf i (length ts)))) us, map-append (entryOf d l) (take (leftOf i (length ts)) us) (evened l fs (leftOf i (length ts)) us .trees ++ drop (suc (suc (leftOf i (length ts)))) us), map-append (entryOf d l) (evened l fs (leftOf i (length ts)) us .trees) (drop (suc (suc (leftOf i (length ts)))) us))
 
-  -- from the bytes before, over the child's deletion (and the evening out) and the parent's write
+  -- from the bytes before, over the child's deletion (and the rebalancing out) and the parent's write
   over : {b1 : List ℕ} {o' : Deleted} {t : Item (suc (suc l))} {gs : List ℕ}
-      → ((q : ℕ) → mult q (p ∷ flat (pages (suc l)) ts) ≡ 0 → mult q (freeAt b) ≡ 0 → (pageAt b1 q ≡ pageAt b q) × (mult q (freeAt b1) ≡ 0)) → Kept b b1
-      → DeleteSim d (suc l) b1 (p ∷ []) o' t gs → DeleteSim d (suc l) b (p ∷ flat (pages (suc l)) ts) o' t gs
+      → ((q : ℕ) → mult q (p ∷ concatMap (pages (suc l)) ts) ≡ 0 → mult q (freeAt b) ≡ 0 → (pageAt b1 q ≡ pageAt b q) × (mult q (freeAt b1) ≡ 0)) → Kept b b1
+      → DeleteSim d (suc l) b1 (p ∷ []) o' t gs → DeleteSim d (suc l) b (p ∷ concatMap (pages (suc l)) ts) o' t gs
   over f k s =
       record {
         held = s .held;
@@ -348,24 +348,24 @@ module _ (d l : ℕ) (b : List ℕ) (p : ℕ) (ts : List (Item (suc l))) (i : �
         kept = kept-trans k (s .kept);
       }
 
-  frame1 : (q : ℕ) → mult q (p ∷ flat (pages (suc l)) ts) ≡ 0 → mult q (freeAt b) ≡ 0 → (pageAt (o .bytes) q ≡ pageAt b q) × (mult q (freeAt (o .bytes)) ≡ 0)
+  frame1 : (q : ℕ) → mult q (p ∷ concatMap (pages (suc l)) ts) ≡ 0 → mult q (freeAt b) ≡ 0 → (pageAt (o .bytes) q ≡ pageAt b q) × (mult q (freeAt (o .bytes)) ≡ 0)
   unfolding C
   frame1 q h k = (ih .frame q (omega (arith, old q)) k, omega (arith, old q, same' q))
 
-  frame2 : (q : ℕ) → mult q (p ∷ flat (pages (suc l)) ts) ≡ 0 → mult q (freeAt b) ≡ 0 → (pageAt b2 q ≡ pageAt b q) × (mult q (freeAt b2) ≡ 0)
+  frame2 : (q : ℕ) → mult q (p ∷ concatMap (pages (suc l)) ts) ≡ 0 → mult q (freeAt b) ≡ 0 → (pageAt b2 q ≡ pageAt b q) × (mult q (freeAt b2) ≡ 0)
   unfolding pages
   frame2 q h k =
-      let n : mult q (p ∷ flat (pages (suc l)) us) + mult q (freeAt (o .bytes)) ≡ 0 = omega (arith, old q, new q, same' q) in
+      let n : mult q (p ∷ concatMap (pages (suc l)) us) + mult q (freeAt (o .bytes)) ≡ 0 = omega (arith, old q, new q, same' q) in
       let m = pair-pages l ts i x lt g2 ok nx fs q in
       let f1 : mult q (freeAt (o .bytes)) ≡ mult q fs = ap (mult q) (ih .free) in (
-        ps' .frame q (absent q (a .0) (flat (pages l) (a .1)) (omega (arith, pair-sum2 q))) (absent q (c .0) (flat (pages l) (c .1)) (omega (arith, pair-sum2 q))) ∙ frame1 q h k .0,
-        ap (mult q) (ps' .free) ∙ omega (arith, mult-append q (p ∷ []) (flat (pages (suc l)) us)),
+        ps' .frame q (absent q (a .0) (concatMap (pages l) (a .1)) (omega (arith, pair-sum2 q))) (absent q (c .0) (concatMap (pages l) (c .1)) (omega (arith, pair-sum2 q))) ∙ frame1 q h k .0,
+        ap (mult q) (ps' .free) ∙ omega (arith, mult-append q (p ∷ []) (concatMap (pages (suc l)) us)),
       )
 
-  mend-sim : DeleteSim d (suc l) b (p ∷ flat (pages (suc l)) ts) (mend d l p (map (entryOf d l) ts) i o) (p, rest) (evened l fs (leftOf i (length ts)) us .free)
+  mend-sim : DeleteSim d (suc l) b (p ∷ concatMap (pages (suc l)) ts) (fixUnderflow d l p (map (entryOf d l) ts) i o) (p, rest) (evened l fs (leftOf i (length ts)) us .free)
   mend-sim =
       rw mend-is
-      (pick-cases (λ g. DeleteSim d (suc l) b (p ∷ flat (pages (suc l)) ts) g (p, rest) (evened l fs (leftOf i (length ts)) us .free)) (leb 8 (o .count)) _ _
+      (if-cases (λ g. DeleteSim d (suc l) b (p ∷ concatMap (pages (suc l)) ts) g (p, rest) (evened l fs (leftOf i (length ts)) us .free)) (leb 8 (o .count)) _ _
       (λ e. let h : 8 ≤ length (x .1) = omega (arith, leb-true 8 (o .count) e, ih .count) in
       let pr = plain-rest h in
       let s : DeleteSim d (suc l) (o .bytes) (p ∷ []) (leave (suc l) (o .bytes) p (map (entryOf d l) us)) (p, us) (evened l fs (leftOf i (length ts)) us .free) = rw (ih .free ∙ pr .1) at (plain-sim h) in
@@ -375,20 +375,20 @@ module _ (d l : ℕ) (b : List ℕ) (p : ℕ) (ts : List (Item (suc l))) (i : �
       (λ e. over frame2 (kept-trans (ih .kept) (ps' .kept)) (rw (ps' .free) at short-sim)))
 
 inner-step : (d l : ℕ) (r : Record) (b : List ℕ) (t : Item (suc (suc l))) → Held d (suc (suc l)) b t
-    → deleteAt d (suc l) b (t .0) r ≡ mend d l (t .0) (map (entryOf d l) (t .1)) (chosen d l (rankOf d r) (t .1)) (deleteAt d l b (getD (t .1) (chosen d l (rankOf d r) (t .1)) (noTree l) .0) r)
+    → deleteAt d (suc l) b (t .0) r ≡ fixUnderflow d l (t .0) (map (entryOf d l) (t .1)) (chosen d l (rankOf d r) (t .1)) (deleteAt d l b (getD (t .1) (chosen d l (rankOf d r) (t .1)) (noTree l) .0) r)
 unfolding deleteAt chosen
 inner-step d l r b t h =
-    ap (λ (es : List Entry). let i = choose (rankOf d r) es in mend d l (t .0) es i (deleteAt d l b (childAt es i) r)) (inner-items d l b t h)
-    ∙ ap (λ (z : ℕ). mend d l (t .0) (map (entryOf d l) (t .1)) (chosen d l (rankOf d r) (t .1)) (deleteAt d l b z r)) (child-at d l (chosen d l (rankOf d r) (t .1)) (t .1))
+    ap (λ (es : List Entry). let i = choose (rankOf d r) es in fixUnderflow d l (t .0) es i (deleteAt d l b (childAt es i) r)) (inner-items d l b t h)
+    ∙ ap (λ (z : ℕ). fixUnderflow d l (t .0) (map (entryOf d l) (t .1)) (chosen d l (rankOf d r) (t .1)) (deleteAt d l b z r)) (child-at d l (chosen d l (rankOf d r) (t .1)) (t .1))
 
-pub delete-sim : (d l : ℕ) (b : List ℕ) (r : Record) (t : Item (suc l)) → l < 256 → Root l t → Held d (suc l) b t → Well b → ((q : ℕ) → mult q (pages (suc l) t) + mult q (freeAt b) ≤ tick (inRange b q))
+pub delete-sim : (d l : ℕ) (b : List ℕ) (r : Record) (t : Item (suc l)) → l < 256 → Root l t → Held d (suc l) b t → Well b → ((q : ℕ) → mult q (pages (suc l) t) + mult q (freeAt b) ≤ indicator (inRange b q))
     → DeleteSim d l b (pages (suc l) t) (deleteAt d l b (t .0) r) (deleteTree d l r (freeAt b) t .tree) (deleteTree d l r (freeAt b) t .free)
 unfolding deleteAt deleteTree Ok Some Held pages node setPage
 delete-sim d zero b r t v o held well own =
     let p = t .0 in
     let xs = deleteRecord (r .id) (t .1) in
-    let f : flat (pages 0) xs ≡ flat (pages 0) (t .1) = no-pages xs ∙ sym (no-pages (t .1)) in
-    let own' : (q : ℕ) → mult q (p ∷ flat (pages 0) xs) + mult q (freeAt b) ≤ tick (inRange b q) = λ q. rw f (own q) in
+    let f : concatMap (pages 0) xs ≡ concatMap (pages 0) (t .1) = no-pages xs ∙ sym (no-pages (t .1)) in
+    let own' : (q : ℕ) → mult q (p ∷ concatMap (pages 0) xs) + mult q (freeAt b) ≤ indicator (inRange b q) = λ q. rw f (own q) in
     let n = del-length (r .id) (t .1) in
     let s = one-sim d zero b p xs v well own' (held-zero d b xs) (del-all (r .id) (o .subs)) (omega (arith, o .most)) in
     rw (leaf-items d b t held)
@@ -397,7 +397,7 @@ delete-sim d zero b r t v o held well own =
       entry = leaf-entry d p xs;
       count = refl;
       free = s .free;
-      frame = λ q h. s .frame q (omega (arith, mult-append q (p ∷ []) (flat (pages 0) (t .1))));
+      frame = λ q h. s .frame q (omega (arith, mult-append q (p ∷ []) (concatMap (pages 0) (t .1))));
       kept = s .kept;
     })
 delete-sim d (suc l) b r t v o held well own =

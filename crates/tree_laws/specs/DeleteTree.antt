@@ -8,17 +8,17 @@ use lib.Dec.{ltb}
 use lib.ListN.{length, take, drop, getD, set, length-set, take-append-drop, length-append, length-take, length-drop}
 use lib.Seq.{take-set-le, drop-set-lt, getD-set-same, getD-set-other}
 use borrow.Author.Tests.{ltb-true, ltb-false}
-use Rattle.lists.specs.Basics.{pick, All, none, also, flat, flat-append, all-append, all-left, all-right, all-map}
-use Rattle.lists.specs.Choices.{pick-cases}
+use Rattle.lists.specs.Basics.{if, All, none, also, concatMap, concatMap-append, all-append, all-left, all-right, all-map}
+use Rattle.lists.specs.Choices.{if-cases}
 use Rattle.lists.specs.Counts.{mult, mult-append}
-use Rattle.lists.specs.FlatLaws.{all-both}
-use Rattle.lists.specs.Parts.{all-drop, all-set, flat-split, flat-three, flat-set, flat-pair}
-use Rattle.lists.specs.Rising.{Rising, rising-left, rising-right}
-use Rattle.lists.specs.Runs.{all-take, all-at}
+use Rattle.lists.specs.ConcatMapLaws.{all-both}
+use Rattle.lists.specs.Parts.{all-drop, all-set, concatMap-split, concatMap-three, concatMap-set, concatMap-pair}
+use Rattle.lists.specs.AscendingBy.{AscendingBy, rising-left, rising-right}
+use Rattle.lists.specs.Tabulated.{all-take, all-at}
 use Rattle.pagestore.specs.declared.Record.{Record}
 use Rattle.tree_model.specs.Trees.{Item, records, pages, rankOf}
-use Rattle.tree.specs.Deletion.{deleteRecord, evenItems, leftOf}
-use Rattle.tree_laws.specs.Shapes.{Ok, Some, Root, ok-root, noTree, flat-records, no-pages, chosen, chosen-lt, before-chosen, behind-chosen}
+use Rattle.tree.specs.Deletion.{deleteRecord, rebalancedItems, leftOf}
+use Rattle.tree_laws.specs.Shapes.{Ok, Some, Root, ok-root, noTree, concatMap-records, no-pages, chosen, chosen-lt, before-chosen, behind-chosen}
 use Rattle.tree_laws.specs.Idents.{del-left, del-right, del-all, del-length}
 
 -- EVENING OUT
@@ -28,20 +28,20 @@ pub data Even {A : Type 0} (xs ys : List A) : List (List A) → Type 0 where
   two : {us vs : List A} → us ++ vs ≡ xs ++ ys → 8 ≤ length us → length us ≤ 16 → 8 ≤ length vs → length vs ≤ 16 → Even xs ys (us ∷ vs ∷ [])
   one : {us : List A} → us ≡ xs ++ ys → 8 ≤ length us → length us ≤ 16 → Even xs ys (us ∷ [])
 
-even-is : {A : Type 0} (xs ys : List A) → 7 ≤ length xs → length xs ≤ 16 → 7 ≤ length ys → length ys ≤ 16 → 15 ≤ length xs + length ys → Even xs ys (evenItems xs ys)
-unfolding evenItems
+even-is : {A : Type 0} (xs ys : List A) → 7 ≤ length xs → length xs ≤ 16 → 7 ≤ length ys → length ys ≤ 16 → 15 ≤ length xs + length ys → Even xs ys (rebalancedItems xs ys)
+unfolding rebalancedItems
 even-is {A} xs ys a b c d e =
-    pick-cases (Even xs ys) (ltb (length xs) 8) _ _
+    if-cases (Even xs ys) (ltb (length xs) 8) _ _
     (λ h. let h' : length xs < 8 = ltb-true _ _ h in
-    pick-cases (Even xs ys) (ltb 8 (length ys)) _ _
+    if-cases (Even xs ys) (ltb 8 (length ys)) _ _
     (λ g. let g' : 8 < length ys = ltb-true _ _ g in
     two (append-assoc xs (take 1 ys) (drop 1 ys) ∙ ap (λ (z : List A). xs ++ z) (take-append-drop 1 ys))
     (omega (arith, length-append xs (take 1 ys), length-take 1 ys)) (omega (arith, length-append xs (take 1 ys), length-take 1 ys)) (omega (arith, length-drop 1 ys)) (omega (arith, length-drop 1 ys)))
     (λ g. let g' : length ys ≤ 8 = ltb-false _ _ g in one refl (omega (arith, length-append xs ys)) (omega (arith, length-append xs ys))))
     (λ h. let h' : 8 ≤ length xs = ltb-false _ _ h in
-    pick-cases (Even xs ys) (ltb (length ys) 8) _ _
+    if-cases (Even xs ys) (ltb (length ys) 8) _ _
     (λ g. let g' : length ys < 8 = ltb-true _ _ g in
-    pick-cases (Even xs ys) (ltb 8 (length xs)) _ _
+    if-cases (Even xs ys) (ltb 8 (length xs)) _ _
     (λ f. let f' : 8 < length xs = ltb-true _ _ f in
     let n = length xs - 1 in
     two (sym (append-assoc (take n xs) (drop n xs) ys) ∙ ap (λ (z : List A). z ++ ys) (take-append-drop n xs))
@@ -61,15 +61,15 @@ glue p q fs (us ∷ []) = record { trees = (p, us) ∷ []; free = q ∷ fs }
 glue p q fs (us ∷ vs ∷ ws) = record { trees = (p, us) ∷ (q, vs) ∷ []; free = fs }
 
 abbrev pub evened : (l : ℕ) → List ℕ → ℕ → List (Item (suc l)) → Less (Item l)
-evened l fs j ts = let a = getD ts j (noTree l) in let b = getD ts (suc j) (noTree l) in glue (a .0) (b .0) fs (evenItems (a .1) (b .1))
+evened l fs j ts = let a = getD ts j (noTree l) in let b = getD ts (suc j) (noTree l) in glue (a .0) (b .0) fs (rebalancedItems (a .1) (b .1))
 
 -- what an evened pair holds is what the pair held
-glue-flat : {A B : Type 0} (f : A → List B) (p q : ℕ) (fs : List ℕ) (xs ys : List A) {zs : List (List A)} → Even xs ys zs
-    → flat (λ t. flat f (t .1)) (glue p q fs zs .trees) ≡ flat f xs ++ flat f ys
-unfolding glue flat
-glue-flat {A} {B} f p q fs xs ys (two {us = us} {vs = vs} e a b c d) =
-    ap (λ (z : List B). flat f us ++ z) (append-nil (flat f vs)) ∙ sym (flat-append f us vs) ∙ ap (flat f) e ∙ flat-append f xs ys
-glue-flat f p q fs xs ys (one {us = us} e a b) = append-nil (flat f us) ∙ ap (flat f) e ∙ flat-append f xs ys
+glue-concatMap : {A B : Type 0} (f : A → List B) (p q : ℕ) (fs : List ℕ) (xs ys : List A) {zs : List (List A)} → Even xs ys zs
+    → concatMap (λ t. concatMap f (t .1)) (glue p q fs zs .trees) ≡ concatMap f xs ++ concatMap f ys
+unfolding glue concatMap
+glue-concatMap {A} {B} f p q fs xs ys (two {us = us} {vs = vs} e a b c d) =
+    ap (λ (z : List B). concatMap f us ++ z) (append-nil (concatMap f vs)) ∙ sym (concatMap-append f us vs) ∙ ap (concatMap f) e ∙ concatMap-append f xs ys
+glue-concatMap f p q fs xs ys (one {us = us} e a b) = append-nil (concatMap f us) ∙ ap (concatMap f) e ∙ concatMap-append f xs ys
 
 glue-ok : (l p q : ℕ) (fs : List ℕ) (xs ys : List (Item l)) {zs : List (List (Item l))} → Even xs ys zs → All (Ok l) (xs ++ ys) → All (Ok (suc l)) (glue p q fs zs .trees)
 unfolding glue Ok
@@ -78,21 +78,21 @@ glue-ok l p q fs xs ys (two {us = us} {vs = vs} e a b c d) o =
 glue-ok l p q fs xs ys (one {us = us} e a b) o = let o' : All (Ok l) us = rw e o in also (a, b, o') none
 
 glue-pages : (l z p q : ℕ) (fs : List ℕ) (xs ys : List (Item l)) {zs : List (List (Item l))} → Even xs ys zs
-    → mult z (flat (pages (suc l)) (glue p q fs zs .trees)) + mult z (glue p q fs zs .free) ≡ mult z (p ∷ flat (pages l) xs) + mult z (q ∷ flat (pages l) ys) + mult z fs
-unfolding glue pages mult flat
+    → mult z (concatMap (pages (suc l)) (glue p q fs zs .trees)) + mult z (glue p q fs zs .free) ≡ mult z (p ∷ concatMap (pages l) xs) + mult z (q ∷ concatMap (pages l) ys) + mult z fs
+unfolding glue pages mult concatMap
 glue-pages l z p q fs xs ys (two {us = us} {vs = vs} e a b c d) =
-    let U = flat (pages l) us in
-    let W = flat (pages l) vs in
+    let U = concatMap (pages l) us in
+    let W = concatMap (pages l) vs in
     let e1 : mult z (U ++ q ∷ (W ++ [])) ≡ mult z U + mult z (q ∷ (W ++ [])) = mult-append z U (q ∷ (W ++ [])) in
     let e2 : mult z (W ++ []) ≡ mult z W = ap (mult z) (append-nil W) in
-    let e3 : mult z U + mult z W ≡ mult z (flat (pages l) xs) + mult z (flat (pages l) ys) =
-    sym (mult-append z U W) ∙ ap (mult z) (sym (flat-append (pages l) us vs) ∙ ap (flat (pages l)) e ∙ flat-append (pages l) xs ys) ∙ mult-append z (flat (pages l) xs) (flat (pages l) ys) in
+    let e3 : mult z U + mult z W ≡ mult z (concatMap (pages l) xs) + mult z (concatMap (pages l) ys) =
+    sym (mult-append z U W) ∙ ap (mult z) (sym (concatMap-append (pages l) us vs) ∙ ap (concatMap (pages l)) e ∙ concatMap-append (pages l) xs ys) ∙ mult-append z (concatMap (pages l) xs) (concatMap (pages l) ys) in
     omega arith
 glue-pages l z p q fs xs ys (one {us = us} e a b) =
-    let U = flat (pages l) us in
+    let U = concatMap (pages l) us in
     let e2 : mult z (U ++ []) ≡ mult z U = ap (mult z) (append-nil U) in
-    let e3 : mult z U ≡ mult z (flat (pages l) xs) + mult z (flat (pages l) ys) =
-    ap (mult z) (ap (flat (pages l)) e ∙ flat-append (pages l) xs ys) ∙ mult-append z (flat (pages l) xs) (flat (pages l) ys) in
+    let e3 : mult z U ≡ mult z (concatMap (pages l) xs) + mult z (concatMap (pages l) ys) =
+    ap (mult z) (ap (concatMap (pages l)) e ∙ concatMap-append (pages l) xs ys) ∙ mult-append z (concatMap (pages l) xs) (concatMap (pages l) ys) in
     omega arith
 
 glue-few : {A : Type 0} (p q : ℕ) (fs : List ℕ) {xs ys : List A} {zs : List (List A)} → Even xs ys zs → (1 ≤ length (glue p q fs zs .trees)) × (length (glue p q fs zs .trees) ≤ 2)
@@ -104,11 +104,11 @@ glue-few p q fs (one e a b) = omega arith
 
 left-fits : (i n : ℕ) → i < n → 2 ≤ n → suc (leftOf i n) < n
 unfolding leftOf
-left-fits i n h g = pick-cases (λ j. suc j < n) (ltb (suc i) n) i (i - 1) (λ e. ltb-true _ _ e) (λ e. let q : n ≤ suc i = ltb-false _ _ e in omega arith)
+left-fits i n h g = if-cases (λ j. suc j < n) (ltb (suc i) n) i (i - 1) (λ e. ltb-true _ _ e) (λ e. let q : n ≤ suc i = ltb-false _ _ e in omega arith)
 
 left-le : (i n : ℕ) → i < n → 2 ≤ n → (leftOf i n ≤ i) × (i < suc (suc (leftOf i n)))
 unfolding leftOf
-left-le i n h g = pick-cases (λ j. (j ≤ i) × (i < suc (suc j))) (ltb (suc i) n) i (i - 1) (λ e. omega arith) (λ e. let q : n ≤ suc i = ltb-false _ _ e in omega arith)
+left-le i n h g = if-cases (λ j. (j ≤ i) × (i < suc (suc j))) (ltb (suc i) n) i (i - 1) (λ e. omega arith) (λ e. let q : n ≤ suc i = ltb-false _ _ e in omega arith)
 
 -- a page with at most one item too few
 pub record Near (l : ℕ) (t : Item (suc l)) : Type 0 where
@@ -129,7 +129,7 @@ module _ (l : ℕ) (ts : List (Item (suc l))) (i : ℕ) (x : Item (suc l)) (h : 
   pair-sum : (j : ℕ) → j ≡ leftOf i (length ts) → 15 ≤ length (getD (set ts i x) j (noTree l) .1) + length (getD (set ts i x) (suc j) (noTree l) .1)
   unfolding leftOf
   pair-sum j e =
-      pick-cases (λ m. j ≡ m → 15 ≤ length (getD (set ts i x) j (noTree l) .1) + length (getD (set ts i x) (suc j) (noTree l) .1)) (ltb (suc i) (length ts)) i (i - 1)
+      if-cases (λ m. j ≡ m → 15 ≤ length (getD (set ts i x) j (noTree l) .1) + length (getD (set ts i x) (suc j) (noTree l) .1)) (ltb (suc i) (length ts)) i (i - 1)
       (λ c q. let c' : suc i < length ts = ltb-true _ _ c in
       let a : getD (set ts i x) j (noTree l) ≡ x = rw q (getD-set-same ts i x (noTree l) h) in
       let b : getD (set ts i x) (suc j) (noTree l) ≡ getD ts (suc j) (noTree l) = getD-set-other ts i (suc j) x (noTree l) (λ (w : suc j ≡ i). omega arith) in
@@ -147,7 +147,7 @@ module _ (l : ℕ) (ts : List (Item (suc l))) (i : ℕ) (x : Item (suc l)) (h : 
   pub pair-lt : suc (leftOf i (length ts)) < length (set ts i x)
   pair-lt = rw (length-set ts i x) (left-fits i (length ts) h g)
 
-  pub pair-even : let a = getD (set ts i x) (leftOf i (length ts)) (noTree l) in let b = getD (set ts i x) (suc (leftOf i (length ts))) (noTree l) in Even (a .1) (b .1) (evenItems (a .1) (b .1))
+  pub pair-even : let a = getD (set ts i x) (leftOf i (length ts)) (noTree l) in let b = getD (set ts i x) (suc (leftOf i (length ts))) (noTree l) in Even (a .1) (b .1) (rebalancedItems (a .1) (b .1))
   pair-even =
       let na = all-at pair-near (leftOf i (length ts)) (noTree l) (omega (arith, pair-lt)) in
       let nb = all-at pair-near (suc (leftOf i (length ts))) (noTree l) pair-lt in
@@ -156,17 +156,17 @@ module _ (l : ℕ) (ts : List (Item (suc l))) (i : ℕ) (x : Item (suc l)) (h : 
   abbrev after : (fs : List ℕ) → List (Item (suc l))
   after fs = take (leftOf i (length ts)) (set ts i x) ++ (evened l fs (leftOf i (length ts)) (set ts i x) .trees ++ drop (suc (suc (leftOf i (length ts)))) (set ts i x))
 
-  -- evening changes nothing of what the children hold
-  pair-records : (fs : List ℕ) → flat (records (suc l)) (after fs) ≡ flat (records (suc l)) (set ts i x)
+  -- rebalancing changes nothing of what the children hold
+  pair-records : (fs : List ℕ) → concatMap (records (suc l)) (after fs) ≡ concatMap (records (suc l)) (set ts i x)
   unfolding records
   pair-records fs =
       let j = leftOf i (length ts) in
       let a = getD (set ts i x) j (noTree l) in
       let b = getD (set ts i x) (suc j) (noTree l) in
-      flat-three (records (suc l)) (take j (set ts i x)) (evened l fs j (set ts i x) .trees) (drop (suc (suc j)) (set ts i x))
-      ∙ ap (λ (z : List Record). flat (records (suc l)) (take j (set ts i x)) ++ (z ++ flat (records (suc l)) (drop (suc (suc j)) (set ts i x)))) (glue-flat (records l) (a .0) (b .0) fs (a .1) (b .1) pair-even)
-      ∙ ap (λ (z : List Record). flat (records (suc l)) (take j (set ts i x)) ++ z) (append-assoc (records (suc l) a) (records (suc l) b) _)
-      ∙ sym (flat-pair (records (suc l)) (set ts i x) j (noTree l) pair-lt)
+      concatMap-three (records (suc l)) (take j (set ts i x)) (evened l fs j (set ts i x) .trees) (drop (suc (suc j)) (set ts i x))
+      ∙ ap (λ (z : List Record). concatMap (records (suc l)) (take j (set ts i x)) ++ (z ++ concatMap (records (suc l)) (drop (suc (suc j)) (set ts i x)))) (glue-concatMap (records l) (a .0) (b .0) fs (a .1) (b .1) pair-even)
+      ∙ ap (λ (z : List Record). concatMap (records (suc l)) (take j (set ts i x)) ++ z) (append-assoc (records (suc l) a) (records (suc l) b) _)
+      ∙ sym (concatMap-pair (records (suc l)) (set ts i x) j (noTree l) pair-lt)
 
   pub pair-ok : (fs : List ℕ) → All (Ok (suc l)) (after fs)
   pair-ok fs =
@@ -178,20 +178,20 @@ module _ (l : ℕ) (ts : List (Item (suc l))) (i : ℕ) (x : Item (suc l)) (h : 
       all-append p (all-append (glue-ok l _ _ fs _ _ pair-even (all-append (na .subs) (nb .subs))) q)
 
   pub pair-pages : (fs : List ℕ) (z : ℕ)
-      → mult z (flat (pages (suc l)) (after fs)) + mult z (evened l fs (leftOf i (length ts)) (set ts i x) .free) ≡ mult z (flat (pages (suc l)) (set ts i x)) + mult z fs
+      → mult z (concatMap (pages (suc l)) (after fs)) + mult z (evened l fs (leftOf i (length ts)) (set ts i x) .free) ≡ mult z (concatMap (pages (suc l)) (set ts i x)) + mult z fs
   unfolding pages
   pair-pages fs z =
       let j = leftOf i (length ts) in
       let a = getD (set ts i x) j (noTree l) in
       let b = getD (set ts i x) (suc j) (noTree l) in
-      let L = flat (pages (suc l)) (take j (set ts i x)) in
-      let R = flat (pages (suc l)) (drop (suc (suc j)) (set ts i x)) in
-      let E = flat (pages (suc l)) (evened l fs j (set ts i x) .trees) in
+      let L = concatMap (pages (suc l)) (take j (set ts i x)) in
+      let R = concatMap (pages (suc l)) (drop (suc (suc j)) (set ts i x)) in
+      let E = concatMap (pages (suc l)) (evened l fs j (set ts i x) .trees) in
       let g = glue-pages l z (a .0) (b .0) fs (a .1) (b .1) pair-even in
-      let n : mult z (flat (pages (suc l)) (after fs)) ≡ mult z L + (mult z E + mult z R) =
-      simp (flat-three (pages (suc l)) (take j (set ts i x)) (evened l fs j (set ts i x) .trees) (drop (suc (suc j)) (set ts i x)), mult-append z L, mult-append z E) in
-      let o : mult z (flat (pages (suc l)) (set ts i x)) ≡ mult z L + (mult z (pages (suc l) a) + (mult z (pages (suc l) b) + mult z R)) =
-      ap (mult z) (flat-pair (pages (suc l)) (set ts i x) j (noTree l) pair-lt) ∙ mult-append z L (pages (suc l) a ++ (pages (suc l) b ++ R))
+      let n : mult z (concatMap (pages (suc l)) (after fs)) ≡ mult z L + (mult z E + mult z R) =
+      simp (concatMap-three (pages (suc l)) (take j (set ts i x)) (evened l fs j (set ts i x) .trees) (drop (suc (suc j)) (set ts i x)), mult-append z L, mult-append z E) in
+      let o : mult z (concatMap (pages (suc l)) (set ts i x)) ≡ mult z L + (mult z (pages (suc l) a) + (mult z (pages (suc l) b) + mult z R)) =
+      ap (mult z) (concatMap-pair (pages (suc l)) (set ts i x) j (noTree l) pair-lt) ∙ mult-append z L (pages (suc l) a ++ (pages (suc l) b ++ R))
       ∙ ap (λ (m : ℕ). mult z L + m) (mult-append z (pages (suc l) a) (pages (suc l) b ++ R) ∙ ap (λ (m : ℕ). mult z (pages (suc l) a) + m) (mult-append z (pages (suc l) b) R)) in
       omega arith
 
@@ -267,12 +267,12 @@ delete-kept d (suc l) r z fs t o =
     let u = deleteTree d l r fs c in
     let ih = delete-kept d l r z fs c (ok-root l c okc) in
     let m = pair-pages l (t .1) i (u .tree) lt (o .some) (o .subs) (delete-near d l r fs c okc) (u .free) z in
-    let L = flat (pages (suc l)) (take i (t .1)) in
-    let R = flat (pages (suc l)) (drop (suc i) (t .1)) in
-    let e : mult z (flat (pages (suc l)) (t .1)) ≡ mult z L + (mult z (pages (suc l) c) + mult z R) =
-    ap (mult z) (flat-split (pages (suc l)) (t .1) i (noTree l) lt) ∙ mult-append z L (pages (suc l) c ++ R) ∙ ap (λ (n : ℕ). mult z L + n) (mult-append z (pages (suc l) c) R) in
-    let f : mult z (flat (pages (suc l)) (set (t .1) i (u .tree))) ≡ mult z L + (mult z (pages (suc l) (u .tree)) + mult z R) =
-    ap (mult z) (flat-set (pages (suc l)) (t .1) i (u .tree) lt) ∙ mult-append z L (pages (suc l) (u .tree) ++ R) ∙ ap (λ (n : ℕ). mult z L + n) (mult-append z (pages (suc l) (u .tree)) R) in
+    let L = concatMap (pages (suc l)) (take i (t .1)) in
+    let R = concatMap (pages (suc l)) (drop (suc i) (t .1)) in
+    let e : mult z (concatMap (pages (suc l)) (t .1)) ≡ mult z L + (mult z (pages (suc l) c) + mult z R) =
+    ap (mult z) (concatMap-split (pages (suc l)) (t .1) i (noTree l) lt) ∙ mult-append z L (pages (suc l) c ++ R) ∙ ap (λ (n : ℕ). mult z L + n) (mult-append z (pages (suc l) c) R) in
+    let f : mult z (concatMap (pages (suc l)) (set (t .1) i (u .tree))) ≡ mult z L + (mult z (pages (suc l) (u .tree)) + mult z R) =
+    ap (mult z) (concatMap-set (pages (suc l)) (t .1) i (u .tree) lt) ∙ mult-append z L (pages (suc l) (u .tree) ++ R) ∙ ap (λ (n : ℕ). mult z L + n) (mult-append z (pages (suc l) (u .tree)) R) in
     omega arith
 
 -- RECORDS
@@ -287,10 +287,10 @@ not-below d r h g = all-map (λ x (p : Known d r x × (rankOf d x < rankOf d r))
 pub not-above : (d : ℕ) (r : Record) {xs : List Record} → All (Known d r) xs → All (λ x. rankOf d r < rankOf d x) xs → All (λ x. x .id ≢ r .id) xs
 not-above d r h g = all-map (λ x (p : Known d r x × (rankOf d r < rankOf d x)) (e : x .id ≡ r .id). omega (arith, p .0 e, p .1)) (all-both h g)
 
-pub delete-records : (d l : ℕ) (r : Record) (fs : List ℕ) (t : Item (suc l)) → Root l t → Rising (rankOf d) (records (suc l) t) → All (Known d r) (records (suc l) t)
+pub delete-records : (d l : ℕ) (r : Record) (fs : List ℕ) (t : Item (suc l)) → Root l t → AscendingBy (rankOf d) (records (suc l) t) → All (Known d r) (records (suc l) t)
     → records (suc l) (deleteTree d l r fs t .tree) ≡ deleteRecord (r .id) (records (suc l) t)
 unfolding deleteTree records Some
-delete-records d zero r fs t o s kn = flat-records (deleteRecord (r .id) (t .1)) ∙ ap (deleteRecord (r .id)) (sym (flat-records (t .1)))
+delete-records d zero r fs t o s kn = concatMap-records (deleteRecord (r .id) (t .1)) ∙ ap (deleteRecord (r .id)) (sym (concatMap-records (t .1)))
 delete-records d (suc l) r fs t o s kn =
     let k = rankOf d r in
     let i = chosen d l k (t .1) in
@@ -299,10 +299,10 @@ delete-records d (suc l) r fs t o s kn =
     let c = getD (t .1) i (noTree l) in
     let okc = all-at (o .subs) i (noTree l) lt in
     let u = deleteTree d l r fs c in
-    let ls : List Record = flat (records (suc l)) (take i (t .1)) in
-    let rs : List Record = flat (records (suc l)) (drop (suc i) (t .1)) in
-    let split : flat (records (suc l)) (t .1) ≡ ls ++ (records (suc l) c ++ rs) = flat-split (records (suc l)) (t .1) i (noTree l) lt in
-    let s' : Rising (rankOf d) (ls ++ (records (suc l) c ++ rs)) = rw split at s in
+    let ls : List Record = concatMap (records (suc l)) (take i (t .1)) in
+    let rs : List Record = concatMap (records (suc l)) (drop (suc i) (t .1)) in
+    let split : concatMap (records (suc l)) (t .1) ≡ ls ++ (records (suc l) c ++ rs) = concatMap-split (records (suc l)) (t .1) i (noTree l) lt in
+    let s' : AscendingBy (rankOf d) (ls ++ (records (suc l) c ++ rs)) = rw split at s in
     let kn' : All (Known d r) (ls ++ (records (suc l) c ++ rs)) = rw split at kn in
     let knc = all-right ls (records (suc l) c ++ rs) kn' in
     let ih : records (suc l) (u .tree) ≡ deleteRecord (r .id) (records (suc l) c) =
@@ -311,7 +311,7 @@ delete-records d (suc l) r fs t o s kn =
     del-left (r .id) (records (suc l) c ++ rs) (not-below d r (all-left ls _ kn') (before-chosen d l k (t .1) some (o .subs) s)) in
     let b : deleteRecord (r .id) (records (suc l) c ++ rs) ≡ deleteRecord (r .id) (records (suc l) c) ++ rs =
     del-right (r .id) (records (suc l) c) (not-above d r (all-right (records (suc l) c) rs knc) (behind-chosen d l k (t .1) some (o .subs) s)) in
-    let e : flat (records (suc l)) (set (t .1) i (u .tree)) ≡ ls ++ (records (suc l) (u .tree) ++ rs) = flat-set (records (suc l)) (t .1) i (u .tree) lt in
+    let e : concatMap (records (suc l)) (set (t .1) i (u .tree)) ≡ ls ++ (records (suc l) (u .tree) ++ rs) = concatMap-set (records (suc l)) (t .1) i (u .tree) lt in
     pair-records l (t .1) i (u .tree) lt (o .some) (o .subs) (delete-near d l r fs c okc) (u .free) ∙ cc
 
 -- THE PAGES GIVEN UP: at each level at most one, the right page of the pair; the highest level comes first, being freed last
@@ -330,7 +330,7 @@ given d (suc l) r t =
     let j = leftOf i (length (t .1)) in
     let x = getD ts j (noTree l) in
     let y = getD ts (suc j) (noTree l) in
-    gives (x .0) (y .0) (evenItems (x .1) (y .1)) ++ given d l r c
+    gives (x .0) (y .0) (rebalancedItems (x .1) (y .1)) ++ given d l r c
 
 glue-given : {A : Type 0} (p q : ℕ) (fs : List ℕ) (zs : List (List A)) → glue p q fs zs .free ≡ gives p q zs ++ fs
 unfolding glue gives
@@ -368,6 +368,6 @@ delete-free d (suc l) r fs t =
     let x = getD ts j (noTree l) in
     let y = getD ts (suc j) (noTree l) in
     ap (λ (z : Item (suc l)). evened l (deleteTree d l r fs c .free) j (set (t .1) i z) .free) (delete-tree d l r fs [] c)
-    ∙ glue-given (x .0) (y .0) (deleteTree d l r fs c .free) (evenItems (x .1) (y .1))
-    ∙ ap (λ (z : List ℕ). gives (x .0) (y .0) (evenItems (x .1) (y .1)) ++ z) (delete-free d l r fs c)
-    ∙ sym (append-assoc (gives (x .0) (y .0) (evenItems (x .1) (y .1))) (given d l r c) fs)
+    ∙ glue-given (x .0) (y .0) (deleteTree d l r fs c .free) (rebalancedItems (x .1) (y .1))
+    ∙ ap (λ (z : List ℕ). gives (x .0) (y .0) (rebalancedItems (x .1) (y .1)) ++ z) (delete-free d l r fs c)
+    ∙ sym (append-assoc (gives (x .0) (y .0) (rebalancedItems (x .1) (y .1))) (given d l r c) fs)

@@ -4,8 +4,8 @@ use mathlib.Core.List.{List, _++_}
 use Prim.Native.Nat.{ℕ, zero, suc, _+_, _≤_, _<_}
 use native.Mathlib.Omega.{arith}
 use lib.ListN.{length, length-append}
-use Rattle.lists.specs.Basics.{tick, All, none, also, flat}
-use Rattle.lists.specs.Choices.{tick-le, tick-true}
+use Rattle.lists.specs.Basics.{indicator, All, none, also, concatMap}
+use Rattle.lists.specs.Choices.{indicator-le, indicator-true}
 use Rattle.lists.specs.Counts.{mult, pigeons, all-of-mult}
 use Rattle.pagestore.specs.Store.{inRange, freeAt}
 use Rattle.pagestore.specs.Store.RangeLaws.{range-fits}
@@ -28,11 +28,11 @@ deep zero (suc l) h = absurd (omega (arith, pow2-some l))
 deep (suc n) zero h = omega arith
 deep (suc n) (suc l) h = let ih : l < n = deep n l (omega arith) in omega arith
 
-two-many : {A : Type 0} (f : A → List ℕ) (n : ℕ) {ts : List A} → 2 ≤ length ts → All (λ t. n ≤ length (f t)) ts → n + n ≤ length (flat f ts)
-unfolding flat
+two-many : {A : Type 0} (f : A → List ℕ) (n : ℕ) {ts : List A} → 2 ≤ length ts → All (λ t. n ≤ length (f t)) ts → n + n ≤ length (concatMap f ts)
+unfolding concatMap
 two-many f n h none = absurd (omega arith)
 two-many f n h (also p none) = absurd (omega arith)
-two-many f n h (also {x = x} p (also {x = y} {xs = xs} q a)) = omega (arith, length-append (f x) (f y ++ flat f xs), length-append (f y) (flat f xs))
+two-many f n h (also {x = x} p (also {x = y} {xs = xs} q a)) = omega (arith, length-append (f x) (f y ++ concatMap f xs), length-append (f y) (concatMap f xs))
 
 kids-many : (l : ℕ) → ((t : Item (suc l)) → Ok (suc l) t → pow2 l ≤ length (pages (suc l) t)) → {ts : List (Item (suc l))} → All (Ok (suc l)) ts → All (λ t. pow2 l ≤ length (pages (suc l) t)) ts
 kids-many l f none = none
@@ -48,9 +48,9 @@ unfolding pow2 pages Some
 root-many zero t o = omega arith
 root-many (suc l) t o = let m = two-many (pages (suc l)) (pow2 l) (o .some) (kids-many l (pages-many l) (o .subs)) in omega arith
 
-pub level-small : (b : List ℕ) (l : ℕ) (t : Item (suc l)) → Root l t → ((q : ℕ) → mult q (pages (suc l) t) + mult q (freeAt b) ≡ tick (inRange b q)) → l < 15
+pub level-small : (b : List ℕ) (l : ℕ) (t : Item (suc l)) → Root l t → ((q : ℕ) → mult q (pages (suc l) t) + mult q (freeAt b) ≡ indicator (inRange b q)) → l < 15
 unfolding pow2
 level-small b l t o own =
     let few =
-    pigeons 16384 (all-of-mult (pages (suc l) t) (λ q g. range-fits b q (tick-true (inRange b q) (omega (arith, own q))))) (λ q. omega (arith, own q, tick-le (inRange b q))) in
+    pigeons 16384 (all-of-mult (pages (suc l) t) (λ q g. range-fits b q (indicator-true (inRange b q) (omega (arith, own q))))) (λ q. omega (arith, own q, indicator-le (inRange b q))) in
     deep 15 l (omega (arith, root-many l t o))

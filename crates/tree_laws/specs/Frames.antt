@@ -5,10 +5,10 @@ use mathlib.Core.List.{List, [], _∷_, _++_, map}
 use Prim.Native.Nat.{ℕ, zero, suc, _+_, _-_, _^_, _≤_, _<_}
 use native.Mathlib.Omega.{arith}
 use lib.ListN.{length, length-map}
-use Rattle.lists.specs.Basics.{All, none, also, flat, all-append}
+use Rattle.lists.specs.Basics.{All, none, also, concatMap, all-append}
 use Rattle.lists.specs.Counts.{mult, mult-append, mult-more, mult-self}
 use Rattle.lists.specs.Parts.{head-of, last-of}
-use Rattle.lists.specs.Tests.{cases}
+use Rattle.lists.specs.Tests.{by-cases}
 use Rattle.pagestore.specs.declared.Record.{Record}
 use Rattle.pagestore.specs.Fits.{RecordFits, EntryFits}
 use Rattle.pagestore.specs.Store.{Page, pageAt, setPage, Field, freed, fresh, Apart, fieldAt, linkAt, inRange, pagesIn, restAt, freedAt, freshAt, freeAt, takePage, freePage}
@@ -27,22 +27,22 @@ Held d (suc l) b t = (pageAt b (t .0) ≡ node d l (t .1)) × All (Held d l b) (
 -- THE FRAME LEMMA: an item is held where its pages are as they were
 
 pub held-all : (d l : ℕ) (b c : List ℕ) → ((x : Item l) → ((q : ℕ) → 0 < mult q (pages l x) → pageAt c q ≡ pageAt b q) → Held d l b x → Held d l c x)
-    → {ts : List (Item l)} → ((q : ℕ) → 0 < mult q (flat (pages l) ts) → pageAt c q ≡ pageAt b q) → All (Held d l b) ts → All (Held d l c) ts
-unfolding flat
+    → {ts : List (Item l)} → ((q : ℕ) → 0 < mult q (concatMap (pages l) ts) → pageAt c q ≡ pageAt b q) → All (Held d l b) ts → All (Held d l c) ts
+unfolding concatMap
 held-all d l b c f a none = none
 held-all d l b c f a (also {x = x} {xs = xs} h t) =
-    also (f x (λ q g. a q (omega (arith, mult-append q (pages l x) (flat (pages l) xs)))) h)
-    (held-all d l b c f (λ q g. a q (omega (arith, mult-append q (pages l x) (flat (pages l) xs)))) t)
+    also (f x (λ q g. a q (omega (arith, mult-append q (pages l x) (concatMap (pages l) xs)))) h)
+    (held-all d l b c f (λ q g. a q (omega (arith, mult-append q (pages l x) (concatMap (pages l) xs)))) t)
 
 pub held-frame : (d l : ℕ) (b c : List ℕ) (x : Item l) → ((q : ℕ) → 0 < mult q (pages l x) → pageAt c q ≡ pageAt b q) → Held d l b x → Held d l c x
 unfolding Held pages
 held-frame d zero b c x a r = tt
 held-frame d (suc l) b c t a r = (
-  a (t .0) (omega (arith, mult-self (t .0) (flat (pages l) (t .1)))) ∙ r .0,
-  held-all d l b c (held-frame d l b c) (λ q g. a q (omega (arith, mult-more q (t .0) (flat (pages l) (t .1))))) (r .1),
+  a (t .0) (omega (arith, mult-self (t .0) (concatMap (pages l) (t .1)))) ∙ r .0,
+  held-all d l b c (held-frame d l b c) (λ q g. a q (omega (arith, mult-more q (t .0) (concatMap (pages l) (t .1))))) (r .1),
 )
 
-pub held-list : (d l : ℕ) (b c : List ℕ) {ts : List (Item l)} → ((q : ℕ) → 0 < mult q (flat (pages l) ts) → pageAt c q ≡ pageAt b q) → All (Held d l b) ts → All (Held d l c) ts
+pub held-list : (d l : ℕ) (b c : List ℕ) {ts : List (Item l)} → ((q : ℕ) → 0 < mult q (concatMap (pages l) ts) → pageAt c q ≡ pageAt b q) → All (Held d l b) ts → All (Held d l c) ts
 held-list d l b c a h = held-all d l b c (held-frame d l b c) a h
 
 pub held-zero : (d : ℕ) (b : List ℕ) (xs : List Record) → All (Held d 0 b) xs
@@ -87,9 +87,9 @@ kept-page b p x w m =
 fresh-take : (b : List ℕ) → Well b → (1 ≤ fieldAt fresh (takePage b)) × (fieldAt fresh (takePage b) ≤ pagesIn b)
 unfolding takePage
 fresh-take b w =
-    cases (inRange b (fieldAt freed b))
+    by-cases (inRange b (fieldAt freed b))
     (λ e. rw (e, field-other freed fresh b (linkAt b (fieldAt freed b)) refl) (w .low, w .high))
-    (λ e. cases (inRange b (fieldAt fresh b))
+    (λ e. by-cases (inRange b (fieldAt fresh b))
     (λ g. rw (e, g, field-same fresh b (fieldAt fresh b + 1) (omega (arith, range-whole b (fieldAt fresh b) g)) (omega (arith, range-fits b (fieldAt fresh b) g)))
     (omega arith, omega (arith, range-high b (fieldAt fresh b) g)))
     (λ g. rw (e, g) (w .low, w .high)))
@@ -117,11 +117,11 @@ kept-free b p w h m =
 -- WHAT CAN BE WRITTEN
 
 pub records-fit : (l : ℕ) (x : Item l) → Ok l x → All RecordFits (records l x)
-unfolding records Ok flat
+unfolding records Ok concatMap
 records-fit zero r o = also o none
 records-fit (suc l) t o = go (records-fit l) (o .2)
   where
-    go : ((x : Item l) → Ok l x → All RecordFits (records l x)) → {ts : List (Item l)} → All (Ok l) ts → All RecordFits (flat (records l) ts)
+    go : ((x : Item l) → Ok l x → All RecordFits (records l x)) → {ts : List (Item l)} → All (Ok l) ts → All RecordFits (concatMap (records l) ts)
     go f none = none
     go f (also h t) = all-append (f _ h) (go f t)
 
@@ -132,14 +132,14 @@ entry-fits d l t h o =
     let f = records-fit (suc l) t o in
     record { child = h; first = key-fits d _ (head-of noRecord n f); last = key-fits d _ (last-of noRecord n f) }
 
-entries-fit : (d l : ℕ) {ts : List (Item (suc l))} → ((q : ℕ) → 0 < mult q (flat (pages (suc l)) ts) → q < 2 ^ 32) → All (Ok (suc l)) ts → All EntryFits (map (entryOf d l) ts)
-unfolding pages flat
+entries-fit : (d l : ℕ) {ts : List (Item (suc l))} → ((q : ℕ) → 0 < mult q (concatMap (pages (suc l)) ts) → q < 2 ^ 32) → All (Ok (suc l)) ts → All EntryFits (map (entryOf d l) ts)
+unfolding pages concatMap
 entries-fit d l a none = none
 entries-fit d l a (also {x = t} {xs = ts} h o) =
-    also (entry-fits d l t (a (t .0) (omega (arith, mult-self (t .0) (flat (pages l) (t .1) ++ flat (pages (suc l)) ts)))) h)
-    (entries-fit d l (λ q g. a q (omega (arith, mult-append q (pages (suc l) t) (flat (pages (suc l)) ts)))) o)
+    also (entry-fits d l t (a (t .0) (omega (arith, mult-self (t .0) (concatMap (pages l) (t .1) ++ concatMap (pages (suc l)) ts)))) h)
+    (entries-fit d l (λ q g. a q (omega (arith, mult-append q (pages (suc l) t) (concatMap (pages (suc l)) ts)))) o)
 
-pub node-fits : (d l : ℕ) (ts : List (Item l)) → l < 256 → length ts ≤ 16 → ((q : ℕ) → 0 < mult q (flat (pages l) ts) → q < 2 ^ 32) → All (Ok l) ts → PageFits (node d l ts)
+pub node-fits : (d l : ℕ) (ts : List (Item l)) → l < 256 → length ts ≤ 16 → ((q : ℕ) → 0 < mult q (concatMap (pages l) ts) → q < 2 ^ 32) → All (Ok l) ts → PageFits (node d l ts)
 unfolding node Ok
 node-fits d zero ts v h a o = leafFits h o
 node-fits d (suc l) ts v h a o =

@@ -5,7 +5,7 @@ use mathlib.Core.List.{List, map}
 use Prim.Native.Nat.{ℕ, suc, _+_, _-_, _≤_, _<_}
 use native.Mathlib.Omega.{arith}
 use lib.ListN.{length}
-use Rattle.lists.specs.Basics.{tick, All}
+use Rattle.lists.specs.Basics.{indicator, All}
 use Rattle.lists.specs.Counts.{mult}
 use Rattle.pagestore.specs.declared.Record.{Record}
 use Rattle.pagestore.specs.Store.{pageAt, Field, size, features, root, level, total, freed, fresh, Apart, fieldAt, setField, inRange, freeAt, viewOf}
@@ -80,7 +80,7 @@ whole-total d b l t v w =
       ok = w .ok;
       well = well-field total b v refl refl (w .well);
       own = λ q. ap (λ (z : List ℕ). mult q (pages (suc l) t) + mult q z) (free-field total b v refl refl) ∙ w .own q
-          ∙ ap tick (sym (range-same b (setField total b v) q (length-set-field total b v)));
+          ∙ ap indicator (sym (range-same b (setField total b v) q (length-set-field total b v)));
       order = w .order;
     }
 

@@ -9,10 +9,11 @@ use lib.Dec.{ltb, eqb}
 use lib.ListN.{length, drop, getD, length-drop}
 use lib.Seq.{getD-drop}
 use borrow.Author.Tests.{lt-ltb, ltb-true, ltb-false, eqb-true}
-use Rattle.lists.specs.Basics.{pick, tick, All, none, also, flat}
-use Rattle.lists.specs.Choices.{tick-le, tick-true}
-use Rattle.lists.specs.Counts.{mult, mult-self, absent, by-cases}
-use Rattle.lists.specs.Rising.{Rising}
+use Rattle.lists.specs.Basics.{if, indicator, All, none, also, concatMap}
+use Rattle.lists.specs.Choices.{indicator-le, indicator-true}
+use Rattle.lists.specs.Counts.{mult, mult-self, absent}
+use Rattle.lists.specs.AscendingBy.{AscendingBy}
+use Rattle.lists.specs.Tests.{by-cases}
 use Rattle.pagestore.specs.declared.Record.{Record}
 use Rattle.pagestore.specs.Fits.{RecordFits}
 use Rattle.pagestore.specs.Store.{pageAt, levelOf, setPage, features, fieldAt, inRange, freeAt, takePage}
@@ -30,8 +31,8 @@ use Rattle.tree_laws.specs.Header.{setRoot, root-page}
 use Rattle.tree_laws.specs.LevelLaws.{pagesOf, pages-of-le, kids-level, held-level, insert-level}
 
 module _ (d : ℕ) (b : List ℕ) (r : Record) (l : ℕ) (t : Item (suc l)) (v : l < 255) (hr : RecordFits r) (w : Whole d b l t)
-    (room : runOf d l (rankOf d r) t + tick (eqb (runOf d l (rankOf d r) t) (suc l)) ≤ length (freeAt b))
-    (rise : Rising (rankOf d) (insertRecord d r (records (suc l) t))) where
+    (room : runOf d l (rankOf d r) t + indicator (eqb (runOf d l (rankOf d r) t) (suc l)) ≤ length (freeAt b))
+    (rise : AscendingBy (rankOf d) (insertRecord d r (records (suc l) t))) where
   abbrev run : ℕ
   run = runOf d l (rankOf d r) t
 
@@ -39,10 +40,10 @@ module _ (d : ℕ) (b : List ℕ) (r : Record) (l : ℕ) (t : Item (suc l)) (v :
   c = insertAt d l b (t .0) r .bytes
 
   -- the page at place k of the free pages is now in the tree, at level k
-  there : (k : ℕ) → k < run → 0 < mult (getD (freeAt b) k 0) (flat (pagesOf k (suc l)) (insertTree d l r (freeAt b) t .trees))
+  there : (k : ℕ) → k < run → 0 < mult (getD (freeAt b) k 0) (concatMap (pagesOf k (suc l)) (insertTree d l r (freeAt b) t .trees))
   there k h =
       let q = getD (freeAt b) k 0 in
-      let e : mult q (pick (ltb k run) (q ∷ []) []) ≡ mult q (q ∷ []) = ap (λ (z : Bool). mult q (pick z (q ∷ []) [])) (lt-ltb k run h) in
+      let e : mult q (if (ltb k run) (q ∷ []) []) ≡ mult q (q ∷ []) = ap (λ (z : Bool). mult q (if z (q ∷ []) [])) (lt-ltb k run h) in
       omega (arith, insert-level d l r k q (freeAt b) t (w .ok), mult-self q [])
 
   below : (k : ℕ) → k < run → levelOf (pageAt c (getD (freeAt b) k 0)) ≡ k
@@ -52,13 +53,13 @@ module _ (d : ℕ) (b : List ℕ) (r : Record) (l : ℕ) (t : Item (suc l)) (v :
   taken : (k : ℕ) → k < run → mult (getD (freeAt b) k 0) (freeAt c) ≡ 0
   taken k h =
       let q = getD (freeAt b) k 0 in
-      omega (arith, there k h, pages-of-le k q (suc l) (insertTree d l r (freeAt b) t .trees), own-o d b r l t v hr w room rise q, tick-le (inRange c q))
+      omega (arith, there k h, pages-of-le k q (suc l) (insertTree d l r (freeAt b) t .trees), own-o d b r l t v hr w room rise q, indicator-le (inRange c q))
 
   grown : (ts : List (Item (suc l))) → ts ≡ insertTree d l r (freeAt b) t .trees → Res l ts → All (Held d (suc l) c) ts
-      → ((q : ℕ) → mult q (flat (pages (suc l)) ts) + mult q (freeAt c) ≡ tick (inRange c q))
-      → flat (records (suc l)) ts ≡ insertRecord d r (records (suc l) t)
-      → (k : ℕ) → k < run + tick (eqb run (suc l)) → levelOf (pageAt (growRoot l c (map (entryOf d l) ts)) (getD (freeAt b) k 0)) ≡ k
-  unfolding growRoot records flat Held
+      → ((q : ℕ) → mult q (concatMap (pages (suc l)) ts) + mult q (freeAt c) ≡ indicator (inRange c q))
+      → concatMap (records (suc l)) ts ≡ insertRecord d r (records (suc l) t)
+      → (k : ℕ) → k < run + indicator (eqb run (suc l)) → levelOf (pageAt (growRoot l c (map (entryOf d l) ts)) (getD (freeAt b) k 0)) ≡ k
+  unfolding growRoot records concatMap Held
   grown ts e (one {t = a} ra) held own rs k h =
       let n : 1 ≡ length (insertTree d l r (freeAt b) t .trees) = ap (λ (z : List (Item (suc l))). length z) e in
       below k (omega (arith, insert-took d l r (freeAt b) t (w .ok) .trees))
@@ -67,10 +68,10 @@ module _ (d : ℕ) (b : List ℕ) (r : Record) (l : ℕ) (t : Item (suc l)) (v :
       let f0 = free-o d b r l t v hr w room rise in
       let tk = insert-took d l r (freeAt b) t (w .ok) in
       let m : 2 ≡ length (insertTree d l r (freeAt b) t .trees) = ap (λ (z : List (Item (suc l))). length z) e in
-      let sp : eqb run (suc l) ≡ true = tick-true (eqb run (suc l)) (omega (arith, tk .trees)) in
+      let sp : eqb run (suc l) ≡ true = indicator-true (eqb run (suc l)) (omega (arith, tk .trees)) in
       let same : run ≡ suc l = eqb-true run (suc l) sp in
       let len : length (freeAt c) ≡ length (freeAt b) - run = ap (λ (y : List ℕ). length y) f0 ∙ length-drop run (freeAt b) in
-      let fr = first-rest (freeAt c) (omega (arith, room, ap tick sp)) in
+      let fr = first-rest (freeAt c) (omega (arith, room, ap indicator sp)) in
       let n = getD (freeAt c) 0 0 in
       let x = node d (suc l) (a ∷ u ∷ []) in
       let ft : fieldAt features c ≡ d = sm .kept .field features refl refl ∙ w .features-are in
@@ -82,11 +83,11 @@ module _ (d : ℕ) (b : List ℕ) (r : Record) (l : ℕ) (t : Item (suc l)) (v :
       let q = getD (freeAt b) k 0 in
       let ne : q ≢ n = absent q n (drop 1 (freeAt c)) (ap (mult q) (sym fr) ∙ taken k lt) in
       ap levelOf (root-page (setPage (takePage c) n x) n (suc l) q ∙ page-other (takePage c) n x q ne .page ∙ page-take c q .page) ∙ below k lt)
-      (λ g. let ke : k ≡ run = let ge : run ≤ k = ltb-false k run g in omega (arith, tick-le (eqb run (suc l))) in
+      (λ g. let ke : k ≡ run = let ge : run ≤ k = ltb-false k run g in omega (arith, indicator-le (eqb run (suc l))) in
       ap (λ (y : ℕ). levelOf (pageAt (setRoot (setPage (takePage c) n x) n (suc l)) y)) (ap (λ (y : ℕ). getD (freeAt b) y 0) ke ∙ sym n-is)
       ∙ ap levelOf (nw .held .0) ∙ level-node d (suc l) (a ∷ u ∷ []) ∙ sym (ke ∙ same)))
 
-  pub order-of : (k : ℕ) → k < run + tick (eqb run (suc l)) → levelOf (pageAt (growRoot l c (insertAt d l b (t .0) r .entries)) (getD (freeAt b) k 0)) ≡ k
+  pub order-of : (k : ℕ) → k < run + indicator (eqb run (suc l)) → levelOf (pageAt (growRoot l c (insertAt d l b (t .0) r .entries)) (getD (freeAt b) k 0)) ≡ k
   order-of k h =
       rw (sim d b r l t v hr w room rise .entries)
       (grown (insertTree d l r (freeAt b) t .trees) refl (insert-res d l r (freeAt b) t hr (w .ok)) (sim d b r l t v hr w room rise .held) (own-o d b r l t v hr w room rise)

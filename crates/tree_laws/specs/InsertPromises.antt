@@ -6,9 +6,9 @@ use native.Mathlib.Omega.{arith}
 use native.Mathlib.Numerals.{add-one}
 use lib.Dec.{eqb}
 use lib.ListN.{length, drop, getD}
-use Rattle.lists.specs.Basics.{tick}
+use Rattle.lists.specs.Basics.{indicator}
 use Rattle.lists.specs.Counts.{mult}
-use Rattle.lists.specs.Rising.{Rising, ins-all, length-ins, ins-rising}
+use Rattle.lists.specs.AscendingBy.{AscendingBy, ins-all, length-ins, ins-rising}
 use Rattle.pagestore.specs.declared.Record.{Record}
 use Rattle.pagestore.specs.Fits.{RecordFits}
 use Rattle.pagestore.specs.Store.{features, root, level, total, fieldAt, setField, levelOf, levelAt, freeAt, viewOf}
@@ -36,7 +36,7 @@ pub record MayInsert (b : List ℕ) (r : Record) : Type 0 where
 
 -- the pages wanted, by the tree: its run of full pages, plus one if that takes in the root
 pub pages-wanted : (b : List ℕ) (r : Record) → SoundIndex b
-    → let n = runOf (viewOf b .d) (viewOf b .level) (rankOf (viewOf b .d) r) (treeOf (viewOf b)) in pagesWanted b r ≡ n + tick (eqb n (suc (viewOf b .level)))
+    → let n = runOf (viewOf b .d) (viewOf b .level) (rankOf (viewOf b .d) r) (treeOf (viewOf b)) in pagesWanted b r ≡ n + indicator (eqb n (suc (viewOf b .level)))
 unfolding pagesWanted
 pages-wanted b r s =
     let w = sound-whole b s in
@@ -55,10 +55,10 @@ module _ (b : List ℕ) (r : Record) (s : SoundIndex b) (m : MayInsert b r) wher
   abbrev run : ℕ
   run = runOf (viewOf b .d) (viewOf b .level) (rankOf (viewOf b .d) r) (treeOf (viewOf b))
 
-  wanted : pagesWanted b r ≡ run + tick (eqb run (suc (viewOf b .level)))
+  wanted : pagesWanted b r ≡ run + indicator (eqb run (suc (viewOf b .level)))
   wanted = pages-wanted b r s
 
-  rise : Rising (rankOf (viewOf b .d)) (insertRecord (viewOf b .d) r (live (viewOf b)))
+  rise : AscendingBy (rankOf (viewOf b .d)) (insertRecord (viewOf b .d) r (live (viewOf b)))
   unfolding live
   rise = ins-rising (rankOf d) r (rank-new d r (live (viewOf b)) (m .fits) (root-fit l (treeOf (viewOf b)) (w .ok)) (m .new)) (w .order)
 

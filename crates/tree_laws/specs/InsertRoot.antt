@@ -7,10 +7,10 @@ use native.Mathlib.Omega.{arith}
 use lib.Dec.{eqb}
 use lib.ListN.{length, drop, getD, length-drop}
 use lib.Seq.{drop-drop}
-use Rattle.lists.specs.Basics.{tick, All, none, also, flat, all-head}
-use Rattle.lists.specs.Choices.{tick-true}
+use Rattle.lists.specs.Basics.{indicator, All, none, also, concatMap, all-head}
+use Rattle.lists.specs.Choices.{indicator-true}
 use Rattle.lists.specs.Counts.{mult, mult-append, mult-self}
-use Rattle.lists.specs.Rising.{Rising}
+use Rattle.lists.specs.AscendingBy.{AscendingBy}
 use Rattle.pagestore.specs.declared.Record.{Record}
 use Rattle.pagestore.specs.Fits.{RecordFits}
 use Rattle.pagestore.specs.Store.{setPage, features, root, level, fieldAt, inRange, freeAt, takePage}
@@ -26,7 +26,7 @@ use Rattle.tree_laws.specs.Header.{setRoot, root-length, root-field, roo
 
 -- a new root n over the trees a and c of b
 module _ (d l : ℕ) (b : List ℕ) (a c : Item (suc l)) (n : ℕ) (fs : List ℕ) (fr : freeAt b ≡ n ∷ fs) (v : suc l < 256) (well : Well b) (ok : All (Ok (suc l)) (a ∷ c ∷ []))
-    (own : (q : ℕ) → mult q (flat (pages (suc l)) (a ∷ c ∷ [])) + mult q (freeAt b) ≡ tick (inRange b q)) (held : All (Held d (suc l) b) (a ∷ c ∷ [])) where
+    (own : (q : ℕ) → mult q (concatMap (pages (suc l)) (a ∷ c ∷ [])) + mult q (freeAt b) ≡ indicator (inRange b q)) (held : All (Held d (suc l) b) (a ∷ c ∷ [])) where
   abbrev b1 : List ℕ
   b1 = takePage b
 
@@ -42,18 +42,18 @@ module _ (d l : ℕ) (b : List ℕ) (a c : Item (suc l)) (n : ℕ) (fs : List �
   fs-are : freeAt b1 ≡ fs
   fs-are = free-take b (well .rest) ∙ ap (drop 1) fr
 
-  own1 : (q : ℕ) → mult q (n ∷ flat (pages (suc l)) (a ∷ c ∷ [])) + mult q (freeAt b1) ≡ tick (inRange b1 q)
+  own1 : (q : ℕ) → mult q (n ∷ concatMap (pages (suc l)) (a ∷ c ∷ [])) + mult q (freeAt b1) ≡ indicator (inRange b1 q)
   own1 q =
       let e : mult q (freeAt b) ≡ mult q (n ∷ []) + mult q fs = ap (mult q) fr ∙ mult-append q (n ∷ []) fs in
       let f : mult q (freeAt b1) ≡ mult q fs = ap (mult q) fs-are in
-      let g : mult q (n ∷ flat (pages (suc l)) (a ∷ c ∷ [])) ≡ mult q (n ∷ []) + mult q (flat (pages (suc l)) (a ∷ c ∷ [])) = mult-append q (n ∷ []) _ in
-      omega (arith, own q) ∙ ap tick (sym (kept-range k1 q))
+      let g : mult q (n ∷ concatMap (pages (suc l)) (a ∷ c ∷ [])) ≡ mult q (n ∷ []) + mult q (concatMap (pages (suc l)) (a ∷ c ∷ [])) = mult-append q (n ∷ []) _ in
+      omega (arith, own q) ∙ ap indicator (sym (kept-range k1 q))
 
   s1 : Sim d (suc l) b1 (n ∷ []) (oneOf d (suc l) b1 n (a ∷ c ∷ [])) (record { trees = (n, a ∷ c ∷ []) ∷ []; free = freeAt b1 })
   s1 = one-sim d (suc l) b1 n (a ∷ c ∷ []) v (k1 .well) (λ q. omega (arith, own1 q)) (held-list d (suc l) b b1 (λ q g. page-take b q .page) held) ok (omega arith)
 
   n-in : inRange b2 n ≡ true
-  n-in = kept-range (s1 .kept) n ∙ tick-true (inRange b1 n) (omega (arith, own1 n, mult-self n (flat (pages (suc l)) (a ∷ c ∷ []))))
+  n-in = kept-range (s1 .kept) n ∙ indicator-true (inRange b1 n) (omega (arith, own1 n, mult-self n (concatMap (pages (suc l)) (a ∷ c ∷ []))))
 
   pub new-free : freeAt b3 ≡ fs
   new-free = root-free b2 n (suc l) ∙ s1 .free ∙ fs-are
@@ -61,7 +61,7 @@ module _ (d l : ℕ) (b : List ℕ) (a c : Item (suc l)) (n : ℕ) (fs : List �
   pub new-kept : Kept b b2
   new-kept = kept-trans k1 (s1 .kept)
 
-  pub new-whole : fieldAt features b ≡ d → Rising (rankOf d) (records (suc (suc l)) (n, a ∷ c ∷ [])) → Whole d b3 (suc l) (n, a ∷ c ∷ [])
+  pub new-whole : fieldAt features b ≡ d → AscendingBy (rankOf d) (records (suc (suc l)) (n, a ∷ c ∷ [])) → Whole d b3 (suc l) (n, a ∷ c ∷ [])
   unfolding Some pages
   new-whole ft st =
       record {
@@ -71,12 +71,12 @@ module _ (d l : ℕ) (b : List ℕ) (a c : Item (suc l)) (n : ℕ) (fs : List �
         held = held-frame d (suc (suc l)) b2 b3 (n, a ∷ c ∷ []) (λ q g. root-page b2 n (suc l) q) (all-head (s1 .held));
         ok = record { some = omega arith; most = omega arith; subs = ok };
         well = root-well b2 n (suc l) (s1 .kept .well);
-        own = λ q. ap (λ (z : List ℕ). mult q (n ∷ flat (pages (suc l)) (a ∷ c ∷ [])) + mult q z) (root-free b2 n (suc l) ∙ s1 .free)
-            ∙ own1 q ∙ ap tick (sym (root-range b2 n (suc l) q ∙ kept-range (s1 .kept) q));
+        own = λ q. ap (λ (z : List ℕ). mult q (n ∷ concatMap (pages (suc l)) (a ∷ c ∷ [])) + mult q z) (root-free b2 n (suc l) ∙ s1 .free)
+            ∙ own1 q ∙ ap indicator (sym (root-range b2 n (suc l) q ∙ kept-range (s1 .kept) q));
         order = st;
       }
 
-  pub new-changed : fieldAt features b ≡ d → Rising (rankOf d) (records (suc (suc l)) (n, a ∷ c ∷ [])) → Changed d b b3 (suc l, (n, a ∷ c ∷ [])) (records (suc (suc l)) (n, a ∷ c ∷ [])) fs
+  pub new-changed : fieldAt features b ≡ d → AscendingBy (rankOf d) (records (suc (suc l)) (n, a ∷ c ∷ [])) → Changed d b b3 (suc l, (n, a ∷ c ∷ [])) (records (suc (suc l)) (n, a ∷ c ∷ [])) fs
   new-changed ft st =
       record {
         whole = new-whole ft st;
@@ -93,8 +93,8 @@ unfolding growRoot setPage node
 grow-two d l b a c h = let e : (l + 1) % 256 ≡ suc l = omega arith in rw (e, taken-first b)
 
 module _ (d : ℕ) (b : List ℕ) (r : Record) (l : ℕ) (t : Item (suc l)) (v : l < 255) (hr : RecordFits r) (w : Whole d b l t)
-    (room : runOf d l (rankOf d r) t + tick (eqb (runOf d l (rankOf d r) t) (suc l)) ≤ length (freeAt b))
-    (rise : Rising (rankOf d) (insertRecord d r (records (suc l) t))) where
+    (room : runOf d l (rankOf d r) t + indicator (eqb (runOf d l (rankOf d r) t) (suc l)) ≤ length (freeAt b))
+    (rise : AscendingBy (rankOf d) (insertRecord d r (records (suc l) t))) where
   abbrev run : ℕ
   run = runOf d l (rankOf d r) t
 
@@ -108,15 +108,15 @@ module _ (d : ℕ) (b : List ℕ) (r : Record) (l : ℕ) (t : Item (suc l)) (v :
   free-o = sim .free ∙ insert-took d l r (freeAt b) t (w .ok) .free
 
   done : (ts : List (Item (suc l))) → ts ≡ insertTree d l r (freeAt b) t .trees → Res l ts → All (Held d (suc l) (o .bytes)) ts
-      → ((q : ℕ) → mult q (flat (pages (suc l)) ts) + mult q (freeAt (o .bytes)) ≡ tick (inRange (o .bytes) q))
-      → flat (records (suc l)) ts ≡ insertRecord d r (records (suc l) t)
-      → Changed d b (growRoot l (o .bytes) (map (entryOf d l) ts)) (rooted l (getD (freeAt (o .bytes)) 0 0) ts) (insertRecord d r (records (suc l) t)) (drop (run + tick (eqb run (suc l))) (freeAt b))
-  unfolding growRoot rooted records flat
+      → ((q : ℕ) → mult q (concatMap (pages (suc l)) ts) + mult q (freeAt (o .bytes)) ≡ indicator (inRange (o .bytes) q))
+      → concatMap (records (suc l)) ts ≡ insertRecord d r (records (suc l) t)
+      → Changed d b (growRoot l (o .bytes) (map (entryOf d l) ts)) (rooted l (getD (freeAt (o .bytes)) 0 0) ts) (insertRecord d r (records (suc l) t)) (drop (run + indicator (eqb run (suc l))) (freeAt b))
+  unfolding growRoot rooted records concatMap
   done ts e (one {t = a} ra) held own rs =
       let ra' : records (suc l) a ≡ insertRecord d r (records (suc l) t) = sym (append-nil (records (suc l) a)) ∙ rs in
       let tk = insert-took d l r (freeAt b) t (w .ok) in
       let n : 1 ≡ length (insertTree d l r (freeAt b) t .trees) = ap (λ (z : List (Item (suc l))). length z) e in
-      let z : run + tick (eqb run (suc l)) ≡ run = omega (arith, tk .trees) in
+      let z : run + indicator (eqb run (suc l)) ≡ run = omega (arith, tk .trees) in
       record {
         whole =
             record {
@@ -138,19 +138,19 @@ module _ (d : ℕ) (b : List ℕ) (r : Record) (l : ℕ) (t : Item (suc l)) (v :
       let b' = o .bytes in
       let tk = insert-took d l r (freeAt b) t (w .ok) in
       let n : 2 ≡ length (insertTree d l r (freeAt b) t .trees) = ap (λ (z : List (Item (suc l))). length z) e in
-      let z : run + tick (eqb run (suc l)) ≡ run + 1 = omega (arith, tk .trees) in
+      let z : run + indicator (eqb run (suc l)) ≡ run + 1 = omega (arith, tk .trees) in
       let m : length (freeAt b') ≡ length (freeAt b) - run = ap (λ (y : List ℕ). length y) free-o ∙ length-drop run (freeAt b) in
       let fr = first-rest (freeAt b') (omega (arith, room)) in
       let ft : fieldAt features b' ≡ d = sim .kept .field features refl refl ∙ w .features-are in
       changed-over (sim .kept) (sym (grow-two d l b' a c v)) refl rs (ap (drop 1) free-o ∙ drop-drop 1 run (freeAt b) ∙ ap (λ (y : ℕ). drop y (freeAt b)) (sym z))
       (new-changed d l b' a c (getD (freeAt b') 0 0) (drop 1 (freeAt b')) fr (omega arith) (sim .kept .well) (also oa (also oc none)) own held ft (rw rs rise))
 
-  pub own-o : (q : ℕ) → mult q (flat (pages (suc l)) (insertTree d l r (freeAt b) t .trees)) + mult q (freeAt (o .bytes)) ≡ tick (inRange (o .bytes) q)
+  pub own-o : (q : ℕ) → mult q (concatMap (pages (suc l)) (insertTree d l r (freeAt b) t .trees)) + mult q (freeAt (o .bytes)) ≡ indicator (inRange (o .bytes) q)
   own-o q =
-      ap (λ (z : List ℕ). mult q (flat (pages (suc l)) (insertTree d l r (freeAt b) t .trees)) + mult q z) (sim .free)
-      ∙ insert-kept d l r q (freeAt b) t (w .ok) (omega arith) ∙ w .own q ∙ ap tick (sym (kept-range (sim .kept) q))
+      ap (λ (z : List ℕ). mult q (concatMap (pages (suc l)) (insertTree d l r (freeAt b) t .trees)) + mult q z) (sim .free)
+      ∙ insert-kept d l r q (freeAt b) t (w .ok) (omega arith) ∙ w .own q ∙ ap indicator (sym (kept-range (sim .kept) q))
 
-  pub insert-root : Changed d b (growRoot l (o .bytes) (o .entries)) (insertedTree d r (freeAt b) (l, t)) (insertRecord d r (records (suc l) t)) (drop (run + tick (eqb run (suc l))) (freeAt b))
+  pub insert-root : Changed d b (growRoot l (o .bytes) (o .entries)) (insertedTree d r (freeAt b) (l, t)) (insertRecord d r (records (suc l) t)) (drop (run + indicator (eqb run (suc l))) (freeAt b))
   unfolding insertedTree
   insert-root =
       rw (sim .entries, ← sim .free)

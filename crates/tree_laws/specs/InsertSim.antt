@@ -8,13 +8,13 @@ use native.Mathlib.Omega.{arith}
 use lib.Dec.{leb, eqb}
 use lib.ListN.{length, take, drop, getD, take-append-drop, length-take, length-drop, length-map}
 use borrow.Author.Tests.{leb-true, leb-false}
-use Rattle.lists.specs.Basics.{pick, tick, All, none, also, flat, flat-append, all-append}
-use Rattle.lists.specs.Choices.{bool-cases, tick-le, tick-true}
+use Rattle.lists.specs.Basics.{if, indicator, All, none, also, concatMap, concatMap-append, all-append}
+use Rattle.lists.specs.Choices.{bool-cases, indicator-le, indicator-true}
 use Rattle.lists.specs.Counts.{mult, mult-append, mult-more, mult-self, absent}
-use Rattle.lists.specs.FlatLaws.{map-append}
-use Rattle.lists.specs.Parts.{all-drop, all-replaced, length-replaced, flat-split, flat-three, map-take, map-drop}
-use Rattle.lists.specs.Rising.{ins-all, length-ins}
-use Rattle.lists.specs.Runs.{all-take, all-at}
+use Rattle.lists.specs.ConcatMapLaws.{map-append}
+use Rattle.lists.specs.Parts.{all-drop, all-replaced, length-replaced, concatMap-split, concatMap-three, map-take, map-drop}
+use Rattle.lists.specs.AscendingBy.{ins-all, length-ins}
+use Rattle.lists.specs.Tabulated.{all-take, all-at}
 use Rattle.pagestore.specs.declared.Record.{Record}
 use Rattle.pagestore.specs.declared.Entry.{Entry}
 use Rattle.pagestore.specs.Fits.{RecordFits}
@@ -56,21 +56,21 @@ twoOf d l b p n xs =
 
 -- the items xs at page p: each page once, in range, and none of them free
 module _ (d l : ℕ) (b : List ℕ) (p : ℕ) (xs : List (Item l)) (v : l < 256) (well : Well b)
-    (own : (q : ℕ) → mult q (p ∷ flat (pages l) xs) + mult q (freeAt b) ≤ tick (inRange b q)) (held : All (Held d l b) xs) (ok : All (Ok l) xs) where
-  own-range : (q : ℕ) → 0 < mult q (p ∷ flat (pages l) xs) + mult q (freeAt b) → inRange b q ≡ true
-  own-range q h = tick-true (inRange b q) (omega (arith, own q))
+    (own : (q : ℕ) → mult q (p ∷ concatMap (pages l) xs) + mult q (freeAt b) ≤ indicator (inRange b q)) (held : All (Held d l b) xs) (ok : All (Ok l) xs) where
+  own-range : (q : ℕ) → 0 < mult q (p ∷ concatMap (pages l) xs) + mult q (freeAt b) → inRange b q ≡ true
+  own-range q h = indicator-true (inRange b q) (omega (arith, own q))
 
-  sub-small : (q : ℕ) → 0 < mult q (flat (pages l) xs) → q < 2 ^ 32
-  sub-small q h = omega (arith, range-fits b q (own-range q (omega (arith, mult-more q p (flat (pages l) xs)))))
+  sub-small : (q : ℕ) → 0 < mult q (concatMap (pages l) xs) → q < 2 ^ 32
+  sub-small q h = omega (arith, range-fits b q (own-range q (omega (arith, mult-more q p (concatMap (pages l) xs)))))
 
-  sub-apart : (q : ℕ) → 0 < mult q (flat (pages l) xs) → q ≢ p
-  sub-apart q h = absent q p [] (omega (arith, own q, tick-le (inRange b q), mult-append q (p ∷ []) (flat (pages l) xs)))
+  sub-apart : (q : ℕ) → 0 < mult q (concatMap (pages l) xs) → q ≢ p
+  sub-apart q h = absent q p [] (omega (arith, own q, indicator-le (inRange b q), mult-append q (p ∷ []) (concatMap (pages l) xs)))
 
   p-range : inRange b p ≡ true
-  p-range = own-range p (omega (arith, mult-self p (flat (pages l) xs)))
+  p-range = own-range p (omega (arith, mult-self p (concatMap (pages l) xs)))
 
   p-free : mult p (freeAt b) ≡ 0
-  p-free = omega (arith, own p, tick-le (inRange b p), mult-self p (flat (pages l) xs))
+  p-free = omega (arith, own p, indicator-le (inRange b p), mult-self p (concatMap (pages l) xs))
 
   pub one-sim : length xs ≤ 16 → Sim d l b (p ∷ []) (oneOf d l b p xs) (record { trees = (p, xs) ∷ []; free = freeAt b })
   unfolding Held
@@ -94,13 +94,13 @@ module _ (d l : ℕ) (b : List ℕ) (p : ℕ) (xs : List (Item l)) (v : l < 256)
     p-apart : p ≢ n
     p-apart = absent p n [] (omega (arith, p-free, free-n p))
 
-    sub-apart-n : (q : ℕ) → 0 < mult q (flat (pages l) xs) → q ≢ n
-    sub-apart-n q h = absent q n [] (omega (arith, free-n q, own q, tick-le (inRange b q), mult-more q p (flat (pages l) xs)))
+    sub-apart-n : (q : ℕ) → 0 < mult q (concatMap (pages l) xs) → q ≢ n
+    sub-apart-n q h = absent q n [] (omega (arith, free-n q, own q, indicator-le (inRange b q), mult-more q p (concatMap (pages l) xs)))
 
     two-frame : (q : ℕ) → q ≢ p → q ≢ n → pageAt (twoOf d l b p n xs .bytes) q ≡ pageAt b q
     two-frame q f g = page-other (writeNode d l (takePage b) p (take 9 xs)) n _ q g .page ∙ page-other (takePage b) p _ q f .page ∙ page-take b q .page
 
-    sub-frame : (q : ℕ) → 0 < mult q (flat (pages l) xs) → pageAt (twoOf d l b p n xs .bytes) q ≡ pageAt b q
+    sub-frame : (q : ℕ) → 0 < mult q (concatMap (pages l) xs) → pageAt (twoOf d l b p n xs .bytes) q ≡ pageAt b q
     sub-frame q h = two-frame q (sub-apart q h) (sub-apart-n q h)
 
     two-sim : 16 < length xs → length xs ≤ 17 → Sim d l b (p ∷ []) (twoOf d l b p n xs) (record { trees = (p, take 9 xs) ∷ (n, drop 9 xs) ∷ []; free = fs })
@@ -110,14 +110,14 @@ module _ (d l : ℕ) (b : List ℕ) (p : ℕ) (xs : List (Item l)) (v : l < 256)
         let x2 = node d l (drop 9 xs) in
         let b1 = takePage b in
         let b2 = setPage b1 p x1 in
-        let fl : (q : ℕ) → mult q (flat (pages l) xs) ≡ mult q (flat (pages l) (take 9 xs)) + mult q (flat (pages l) (drop 9 xs)) =
-        λ q. ap (mult q) (ap (flat (pages l)) (sym (take-append-drop 9 xs)) ∙ flat-append (pages l) (take 9 xs) (drop 9 xs)) ∙ mult-append q (flat (pages l) (take 9 xs)) (flat (pages l) (drop 9 xs)) in
+        let fl : (q : ℕ) → mult q (concatMap (pages l) xs) ≡ mult q (concatMap (pages l) (take 9 xs)) + mult q (concatMap (pages l) (drop 9 xs)) =
+        λ q. ap (mult q) (ap (concatMap (pages l)) (sym (take-append-drop 9 xs)) ∙ concatMap-append (pages l) (take 9 xs) (drop 9 xs)) ∙ mult-append q (concatMap (pages l) (take 9 xs)) (concatMap (pages l) (drop 9 xs)) in
         let k1 = kept-take b well in
         let f1 : freeAt b1 ≡ fs = free-take b (well .rest) ∙ ap (drop 1) fr in
         let pf : mult p (freeAt b1) ≡ 0 = ap (mult p) f1 ∙ omega (arith, p-free, free-n p) in
         let k2 = kept-page b1 p x1 (k1 .well) pf in
         let f2 : freeAt b2 ≡ fs = free-page b1 p x1 (omega (arith, freed-le b1 p)) ∙ f1 in
-        let nf : mult n (freeAt b2) ≡ 0 = ap (mult n) f2 ∙ omega (arith, own n, tick-le (inRange b n), free-n n, mult-self n []) in
+        let nf : mult n (freeAt b2) ≡ 0 = ap (mult n) f2 ∙ omega (arith, own n, indicator-le (inRange b n), free-n n, mult-self n []) in
         let r1 : inRange b1 p ≡ true = kept-range k1 p ∙ p-range in
         let r2 : inRange b2 n ≡ true = kept-range (kept-trans k1 k2) n ∙ n-range in
         record {
@@ -140,14 +140,14 @@ pub first-rest : (xs : List ℕ) → 0 < length xs → xs ≡ getD xs 0 0 ∷ dr
 first-rest [] h = absurd (omega arith)
 first-rest (x ∷ xs) h = refl
 
-put-sim : (d l : ℕ) (b : List ℕ) (p : ℕ) (xs : List (Item l)) → l < 256 → Well b → ((q : ℕ) → mult q (p ∷ flat (pages l) xs) + mult q (freeAt b) ≤ tick (inRange b q))
+put-sim : (d l : ℕ) (b : List ℕ) (p : ℕ) (xs : List (Item l)) → l < 256 → Well b → ((q : ℕ) → mult q (p ∷ concatMap (pages l) xs) + mult q (freeAt b) ≤ indicator (inRange b q))
     → All (Held d l b) xs → All (Ok l) xs → length xs ≤ 17 → (16 < length xs → 0 < length (freeAt b))
     → Sim d l b (p ∷ []) (put (writeNode d l) (entryAs d l) b p xs) (cut p (freeAt b) xs)
 unfolding put cut
 put-sim d l b p xs v well own held ok h5 room =
     rw (taken-first b)
-    (bool-cases (λ c. Sim d l b (p ∷ []) (pick {A = Inserted} c (oneOf d l b p xs) (twoOf d l b p (getD (freeAt b) 0 0) xs))
-    (pick {A = Cut (Item l)} c (record { trees = (p, xs) ∷ []; free = freeAt b }) (record { trees = (p, take 9 xs) ∷ (getD (freeAt b) 0 0, drop 9 xs) ∷ []; free = drop 1 (freeAt b) })))
+    (bool-cases (λ c. Sim d l b (p ∷ []) (if {A = Inserted} c (oneOf d l b p xs) (twoOf d l b p (getD (freeAt b) 0 0) xs))
+    (if {A = Cut (Item l)} c (record { trees = (p, xs) ∷ []; free = freeAt b }) (record { trees = (p, take 9 xs) ∷ (getD (freeAt b) 0 0, drop 9 xs) ∷ []; free = drop 1 (freeAt b) })))
     (leb (length xs) 16)
     (λ e. one-sim d l b p xs v well own held ok (leb-true _ _ e))
     (λ e. two-sim d l b p xs v well own held ok (getD (freeAt b) 0 0) (drop 1 (freeAt b)) (first-rest (freeAt b) (room (leb-false _ _ e))) (leb-false _ _ e) h5))
@@ -208,41 +208,41 @@ step-put d l r b p ts us g o =
 -- ONE LEVEL
 
 pub sum-at : (l q p : ℕ) (ts : List (Item (suc l))) (i : ℕ) → i < length ts
-    → mult q (p ∷ flat (pages (suc l)) ts) ≡ mult q (p ∷ []) + (mult q (flat (pages (suc l)) (take i ts)) + (mult q (pages (suc l) (getD ts i (noTree l))) + mult q (flat (pages (suc l)) (drop (suc i) ts))))
+    → mult q (p ∷ concatMap (pages (suc l)) ts) ≡ mult q (p ∷ []) + (mult q (concatMap (pages (suc l)) (take i ts)) + (mult q (pages (suc l) (getD ts i (noTree l))) + mult q (concatMap (pages (suc l)) (drop (suc i) ts))))
 sum-at l q p ts i lt =
-    simp (flat-split (pages (suc l)) ts i (noTree l) lt, mult-append q (p ∷ []) (flat (pages (suc l)) (take i ts) ++ (pages (suc l) (getD ts i (noTree l)) ++ flat (pages (suc l)) (drop (suc i) ts))), mult-append q (flat (pages (suc l)) (take i ts)), mult-append q (pages (suc l) (getD ts i (noTree l))))
+    simp (concatMap-split (pages (suc l)) ts i (noTree l) lt, mult-append q (p ∷ []) (concatMap (pages (suc l)) (take i ts) ++ (pages (suc l) (getD ts i (noTree l)) ++ concatMap (pages (suc l)) (drop (suc i) ts))), mult-append q (concatMap (pages (suc l)) (take i ts)), mult-append q (pages (suc l) (getD ts i (noTree l))))
 
 -- an inner page p with the children ts, of which the one at i was replaced by the trees of u, in the bytes of o
 module _ (d l : ℕ) (b : List ℕ) (p : ℕ) (ts : List (Item (suc l))) (i : ℕ) (lt : i < length ts) (o : Inserted) (u : Cut (Item l))
-    (own : (q : ℕ) → mult q (p ∷ flat (pages (suc l)) ts) + mult q (freeAt b) ≤ tick (inRange b q))
+    (own : (q : ℕ) → mult q (p ∷ concatMap (pages (suc l)) ts) + mult q (freeAt b) ≤ indicator (inRange b q))
     (ih : Sim d l b (pages (suc l) (getD ts i (noTree l))) o u)
-    (same : (q : ℕ) → mult q (flat (pages (suc l)) (u .trees)) + mult q (u .free) ≡ mult q (pages (suc l) (getD ts i (noTree l))) + mult q (freeAt b)) where
-  sum-old : (q : ℕ) → mult q (p ∷ flat (pages (suc l)) ts)
-      ≡ mult q (p ∷ []) + (mult q (flat (pages (suc l)) (take i ts)) + (mult q (pages (suc l) (getD ts i (noTree l))) + mult q (flat (pages (suc l)) (drop (suc i) ts))))
+    (same : (q : ℕ) → mult q (concatMap (pages (suc l)) (u .trees)) + mult q (u .free) ≡ mult q (pages (suc l) (getD ts i (noTree l))) + mult q (freeAt b)) where
+  sum-old : (q : ℕ) → mult q (p ∷ concatMap (pages (suc l)) ts)
+      ≡ mult q (p ∷ []) + (mult q (concatMap (pages (suc l)) (take i ts)) + (mult q (pages (suc l) (getD ts i (noTree l))) + mult q (concatMap (pages (suc l)) (drop (suc i) ts))))
   sum-old q = sum-at l q p ts i lt
 
-  sum-new : (q : ℕ) → mult q (p ∷ flat (pages (suc l)) (replaced i (u .trees) ts))
-      ≡ mult q (p ∷ []) + (mult q (flat (pages (suc l)) (take i ts)) + (mult q (flat (pages (suc l)) (u .trees)) + mult q (flat (pages (suc l)) (drop (suc i) ts))))
+  sum-new : (q : ℕ) → mult q (p ∷ concatMap (pages (suc l)) (replaced i (u .trees) ts))
+      ≡ mult q (p ∷ []) + (mult q (concatMap (pages (suc l)) (take i ts)) + (mult q (concatMap (pages (suc l)) (u .trees)) + mult q (concatMap (pages (suc l)) (drop (suc i) ts))))
   sum-new q =
-      simp (flat-three (pages (suc l)) (take i ts) (u .trees) (drop (suc i) ts), mult-append q (p ∷ []) (flat (pages (suc l)) (take i ts) ++ (flat (pages (suc l)) (u .trees) ++ flat (pages (suc l)) (drop (suc i) ts))), mult-append q (flat (pages (suc l)) (take i ts)), mult-append q (flat (pages (suc l)) (u .trees)))
+      simp (concatMap-three (pages (suc l)) (take i ts) (u .trees) (drop (suc i) ts), mult-append q (p ∷ []) (concatMap (pages (suc l)) (take i ts) ++ (concatMap (pages (suc l)) (u .trees) ++ concatMap (pages (suc l)) (drop (suc i) ts))), mult-append q (concatMap (pages (suc l)) (take i ts)), mult-append q (concatMap (pages (suc l)) (u .trees)))
 
   free-eq : (q : ℕ) → mult q (freeAt (o .bytes)) ≡ mult q (u .free)
   free-eq q = ap (mult q) (ih .free)
 
-  own-new : (q : ℕ) → mult q (p ∷ flat (pages (suc l)) (replaced i (u .trees) ts)) + mult q (freeAt (o .bytes)) ≤ tick (inRange (o .bytes) q)
+  own-new : (q : ℕ) → mult q (p ∷ concatMap (pages (suc l)) (replaced i (u .trees) ts)) + mult q (freeAt (o .bytes)) ≤ indicator (inRange (o .bytes) q)
   own-new q = rw (kept-range (ih .kept) q) (omega (arith, own q, sum-old q, sum-new q, free-eq q, same q))
 
   -- a page that is neither the child's nor free is as it was
-  side : (ps : List ℕ) → ((q : ℕ) → mult q ps + mult q (pages (suc l) (getD ts i (noTree l))) ≤ mult q (p ∷ flat (pages (suc l)) ts)) → (q : ℕ) → 0 < mult q ps → pageAt (o .bytes) q ≡ pageAt b q
-  side ps le q h = ih .frame q (omega (arith, own q, le q, tick-le (inRange b q))) (omega (arith, own q, le q, tick-le (inRange b q)))
+  side : (ps : List ℕ) → ((q : ℕ) → mult q ps + mult q (pages (suc l) (getD ts i (noTree l))) ≤ mult q (p ∷ concatMap (pages (suc l)) ts)) → (q : ℕ) → 0 < mult q ps → pageAt (o .bytes) q ≡ pageAt b q
+  side ps le q h = ih .frame q (omega (arith, own q, le q, indicator-le (inRange b q))) (omega (arith, own q, le q, indicator-le (inRange b q)))
 
   held-new : All (Held d (suc l) b) ts → All (Held d (suc l) (o .bytes)) (replaced i (u .trees) ts)
   held-new held =
-      all-append (held-list d (suc l) b (o .bytes) (side (flat (pages (suc l)) (take i ts)) (λ q. omega (arith, sum-old q))) (all-take i held))
-      (all-append (ih .held) (held-list d (suc l) b (o .bytes) (side (flat (pages (suc l)) (drop (suc i) ts)) (λ q. omega (arith, sum-old q))) (all-drop (suc i) held)))
+      all-append (held-list d (suc l) b (o .bytes) (side (concatMap (pages (suc l)) (take i ts)) (λ q. omega (arith, sum-old q))) (all-take i held))
+      (all-append (ih .held) (held-list d (suc l) b (o .bytes) (side (concatMap (pages (suc l)) (drop (suc i) ts)) (λ q. omega (arith, sum-old q))) (all-drop (suc i) held)))
 
   inner-sim : suc l < 256 → All (Held d (suc l) b) ts → All (Ok (suc l)) (replaced i (u .trees) ts) → length (replaced i (u .trees) ts) ≤ 17 → (16 < length (replaced i (u .trees) ts) → 0 < length (u .free))
-      → Sim d (suc l) b (p ∷ flat (pages (suc l)) ts) (put (writeNode d (suc l)) (entryAs d (suc l)) (o .bytes) p (replaced i (u .trees) ts)) (cut p (u .free) (replaced i (u .trees) ts))
+      → Sim d (suc l) b (p ∷ concatMap (pages (suc l)) ts) (put (writeNode d (suc l)) (entryAs d (suc l)) (o .bytes) p (replaced i (u .trees) ts)) (cut p (u .free) (replaced i (u .trees) ts))
   inner-sim v held ok h5 room =
       let xs = replaced i (u .trees) ts in
       let s = put-sim d (suc l) (o .bytes) p xs v (ih .kept .well) own-new (held-new held) ok h5 (rw (ih .free) room) in
@@ -262,18 +262,18 @@ sim-cast {d} {l} {b} {ps} {ps'} e f g s =
 
 -- THE INSERTION
 pub insert-sim : (d l : ℕ) (b : List ℕ) (r : Record) (t : Item (suc l)) → l < 256 → RecordFits r → Root l t → Held d (suc l) b t → Well b
-    → ((q : ℕ) → mult q (pages (suc l) t) + mult q (freeAt b) ≤ tick (inRange b q)) → runOf d l (rankOf d r) t ≤ length (freeAt b)
+    → ((q : ℕ) → mult q (pages (suc l) t) + mult q (freeAt b) ≤ indicator (inRange b q)) → runOf d l (rankOf d r) t ≤ length (freeAt b)
     → Sim d l b (pages (suc l) t) (insertAt d l b (t .0) r) (insertTree d l r (freeAt b) t)
 unfolding insertAt insertTree Held pages Ok Some
 insert-sim d zero b r t v hr o held well own room =
     let p = t .0 in
     let xs = insertRecord d r (t .1) in
-    let e : flat (pages 0) xs ≡ flat (pages 0) (t .1) = no-pages xs ∙ sym (no-pages (t .1)) in
-    let own' : (q : ℕ) → mult q (p ∷ flat (pages 0) xs) + mult q (freeAt b) ≤ tick (inRange b q) = λ q. rw e (own q) in
+    let e : concatMap (pages 0) xs ≡ concatMap (pages 0) (t .1) = no-pages xs ∙ sym (no-pages (t .1)) in
+    let own' : (q : ℕ) → mult q (p ∷ concatMap (pages 0) xs) + mult q (freeAt b) ≤ indicator (inRange b q) = λ q. rw e (own q) in
     let n = length-ins (rankOf d) r (t .1) in
     let s = put-sim d zero b p xs v well own' (held-zero d b xs) (ins-all (rankOf d) r hr (o .subs)) (omega (arith, o .most)) (room-leaf d r (freeAt b) t room) in
     sim-cast (sym (put-leaf d b p xs) ∙ ap (λ (z : List Record). put setLeaf (leafEntry d) b p (insertRecord d r z)) (sym (leaf-items d b t held))) refl
-    (λ q h. omega (arith, mult-append q (p ∷ []) (flat (pages 0) (t .1)))) s
+    (λ q h. omega (arith, mult-append q (p ∷ []) (concatMap (pages 0) (t .1)))) s
 insert-sim d (suc l) b r t v hr o held well own room =
     let k = rankOf d r in
     let i = chosen d l k (t .1) in
@@ -290,7 +290,7 @@ insert-sim d (suc l) b r t v hr o held well own room =
     sim-cast (sym (inner-step d l r b t held ∙ step-put d l r b (t .0) (t .1) (u .trees) (ih .entries) ok')) refl (λ q h. h) s
 
 -- THE PAGES WANTED
-run-pick : (c f : Bool) (n : ℕ) → pick c (n + tick f) n ≡ n + tick (pick c f false)
+run-pick : (c f : Bool) (n : ℕ) → if c (n + indicator f) n ≡ n + indicator (if c f false)
 run-pick true f n = refl
 run-pick false f n = omega arith
 
@@ -302,7 +302,7 @@ chosen-child d l b k t h =
 
 pub full-run : (d l : ℕ) (b : List ℕ) (k : ℕ) (t : Item (suc l)) → Root l t → Held d (suc l) b t → fullRun l b (t .0) k ≡ runOf d l k t
 unfolding fullRun runOf Some Held
-full-run d zero b k t o held = ap (λ (n : ℕ). tick (leb 16 n)) (held-count d zero b t held)
+full-run d zero b k t o held = ap (λ (n : ℕ). indicator (leb 16 n)) (held-count d zero b t held)
 full-run d (suc l) b k t o held =
     let i = chosen d l k (t .1) in
     let lt = chosen-lt d l k (t .1) (omega (arith, o .some)) in

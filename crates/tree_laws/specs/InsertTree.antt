@@ -8,18 +8,18 @@ use lib.Dec.{leb, eqb}
 use lib.ListN.{length, take, drop, getD, take-append-drop, length-take, length-drop}
 use lib.Seq.{drop-drop}
 use borrow.Author.Tests.{leb-true, leb-false, eqb-true, le-leb, lt-leb, eq-eqb, ne-eqb}
-use Rattle.lists.specs.Basics.{pick, tick, All, none, also, flat, flat-append}
-use Rattle.lists.specs.Choices.{bool-cases, pick-cases}
+use Rattle.lists.specs.Basics.{if, indicator, All, none, also, concatMap, concatMap-append}
+use Rattle.lists.specs.Choices.{bool-cases, if-cases}
 use Rattle.lists.specs.Counts.{mult, mult-append}
-use Rattle.lists.specs.Parts.{all-drop, all-replaced, length-replaced, flat-split, flat-three}
-use Rattle.lists.specs.Runs.{all-take, all-at}
-use Rattle.lists.specs.Rising.{Rising, rising-left, rising-right, ins-left, ins-right, ins-all, length-ins}
+use Rattle.lists.specs.Parts.{all-drop, all-replaced, length-replaced, concatMap-split, concatMap-three}
+use Rattle.lists.specs.Tabulated.{all-take, all-at}
+use Rattle.lists.specs.AscendingBy.{AscendingBy, rising-left, rising-right, ins-left, ins-right, ins-all, length-ins}
 use Rattle.pagestore.specs.declared.Record.{Record}
 use Rattle.pagestore.specs.Fits.{RecordFits}
 use Rattle.tree_model.specs.Trees.{Item, records, pages, rankOf}
 use Rattle.tree.specs.Entries.{replaced}
 use Rattle.tree.specs.Insertion.{insertRecord}
-use Rattle.tree_laws.specs.Shapes.{Ok, Some, Root, ok-root, Shape, noTree, flat-records, no-pages, chosen, chosen-lt, before-chosen, behind-chosen}
+use Rattle.tree_laws.specs.Shapes.{Ok, Some, Root, ok-root, Shape, noTree, concatMap-records, no-pages, chosen, chosen-lt, before-chosen, behind-chosen}
 
 -- what a page has become, and the pages then free
 pub record Cut (A : Type 0) : Type 0 where
@@ -28,7 +28,7 @@ pub record Cut (A : Type 0) : Type 0 where
 
 unfoldable pub cut : {A : Type 0} → ℕ → List ℕ → List A → Cut A
 cut p fs xs =
-    pick (leb (length xs) 16)
+    if (leb (length xs) 16)
     (record { trees = (p, xs) ∷ []; free = fs })
     (record { trees = (p, take 9 xs) ∷ (getD fs 0 0, drop 9 xs) ∷ []; free = drop 1 fs })
 
@@ -51,10 +51,10 @@ insertedTree d r fs s = let u = insertTree d (s .0) r fs (s .1) in rooted (s .0)
 
 -- the full pages in an unbroken run upward from the leaf
 unfoldable pub runOf : ℕ → (l : ℕ) → ℕ → Item (suc l) → ℕ
-runOf d zero k t = tick (leb 16 (length (t .1)))
+runOf d zero k t = indicator (leb 16 (length (t .1)))
 runOf d (suc l) k t =
     let n = runOf d l k (getD (t .1) (chosen d l k (t .1)) (noTree l)) in
-    n + tick (pick (eqb n (suc l)) (leb 16 (length (t .1))) false)
+    n + indicator (if (eqb n (suc l)) (leb 16 (length (t .1))) false)
 
 -- CUT
 
@@ -62,22 +62,22 @@ pub cut-cases : {A : Type 0} (P : Cut A → Type 0) (p : ℕ) (fs : List ℕ) (x
     → (length xs ≤ 16 → P (record { trees = (p, xs) ∷ []; free = fs }))
     → (16 < length xs → P (record { trees = (p, take 9 xs) ∷ (getD fs 0 0, drop 9 xs) ∷ []; free = drop 1 fs })) → P (cut p fs xs)
 unfolding cut
-cut-cases P p fs xs f g = pick-cases P (leb (length xs) 16) _ _ (λ e. f (leb-true _ _ e)) (λ e. g (leb-false _ _ e))
+cut-cases P p fs xs f g = if-cases P (leb (length xs) 16) _ _ (λ e. f (leb-true _ _ e)) (λ e. g (leb-false _ _ e))
 
-cut-flat : {A B : Type 0} (f : A → List B) (p : ℕ) (fs : List ℕ) (xs : List A) → flat (λ t. flat f (t .1)) (cut p fs xs .trees) ≡ flat f xs
-unfolding flat
-cut-flat {A} {B} f p fs xs =
-    cut-cases (λ c. flat (λ t. flat f (t .1)) (c .trees) ≡ flat f xs) p fs xs (λ e. append-nil (flat f xs))
-    (λ e. ap (λ (z : List B). flat f (take 9 xs) ++ z) (append-nil (flat f (drop 9 xs))) ∙ sym (flat-append f (take 9 xs) (drop 9 xs)) ∙ ap (flat f) (take-append-drop 9 xs))
+cut-concatMap : {A B : Type 0} (f : A → List B) (p : ℕ) (fs : List ℕ) (xs : List A) → concatMap (λ t. concatMap f (t .1)) (cut p fs xs .trees) ≡ concatMap f xs
+unfolding concatMap
+cut-concatMap {A} {B} f p fs xs =
+    cut-cases (λ c. concatMap (λ t. concatMap f (t .1)) (c .trees) ≡ concatMap f xs) p fs xs (λ e. append-nil (concatMap f xs))
+    (λ e. ap (λ (z : List B). concatMap f (take 9 xs) ++ z) (append-nil (concatMap f (drop 9 xs))) ∙ sym (concatMap-append f (take 9 xs) (drop 9 xs)) ∙ ap (concatMap f) (take-append-drop 9 xs))
 
 -- RECORDS
 
 -- what the pages of an insertion hold: the records with the new one in key order
-pub insert-records : (d l : ℕ) (r : Record) (fs : List ℕ) (t : Item (suc l)) → Root l t → Rising (rankOf d) (records (suc l) t)
-    → flat (records (suc l)) (insertTree d l r fs t .trees) ≡ insertRecord d r (records (suc l) t)
+pub insert-records : (d l : ℕ) (r : Record) (fs : List ℕ) (t : Item (suc l)) → Root l t → AscendingBy (rankOf d) (records (suc l) t)
+    → concatMap (records (suc l)) (insertTree d l r fs t .trees) ≡ insertRecord d r (records (suc l) t)
 unfolding insertTree records Some
 insert-records d zero r fs t o s =
-    cut-flat (records 0) (t .0) fs (insertRecord d r (t .1)) ∙ flat-records (insertRecord d r (t .1)) ∙ ap (insertRecord d r) (sym (flat-records (t .1)))
+    cut-concatMap (records 0) (t .0) fs (insertRecord d r (t .1)) ∙ concatMap-records (insertRecord d r (t .1)) ∙ ap (insertRecord d r) (sym (concatMap-records (t .1)))
 insert-records d (suc l) r fs t o s =
     let k = rankOf d r in
     let i = chosen d l k (t .1) in
@@ -85,17 +85,17 @@ insert-records d (suc l) r fs t o s =
     let lt = chosen-lt d l k (t .1) m in
     let c = getD (t .1) i (noTree l) in
     let u = insertTree d l r fs c in
-    let ls : List Record = flat (records (suc l)) (take i (t .1)) in
-    let rs : List Record = flat (records (suc l)) (drop (suc i) (t .1)) in
-    let split : flat (records (suc l)) (t .1) ≡ ls ++ (records (suc l) c ++ rs) = flat-split (records (suc l)) (t .1) i (noTree l) lt in
-    let s' : Rising (rankOf d) (ls ++ (records (suc l) c ++ rs)) = rw split at s in
-    let ih : flat (records (suc l)) (u .trees) ≡ insertRecord d r (records (suc l) c) =
+    let ls : List Record = concatMap (records (suc l)) (take i (t .1)) in
+    let rs : List Record = concatMap (records (suc l)) (drop (suc i) (t .1)) in
+    let split : concatMap (records (suc l)) (t .1) ≡ ls ++ (records (suc l) c ++ rs) = concatMap-split (records (suc l)) (t .1) i (noTree l) lt in
+    let s' : AscendingBy (rankOf d) (ls ++ (records (suc l) c ++ rs)) = rw split at s in
+    let ih : concatMap (records (suc l)) (u .trees) ≡ insertRecord d r (records (suc l) c) =
     insert-records d l r fs c (ok-root l c (all-at (o .subs) i (noTree l) lt)) (rising-left (rankOf d) (records (suc l) c) rs (rising-right (rankOf d) ls _ s')) in
     let low : insertRecord d r (ls ++ (records (suc l) c ++ rs)) ≡ ls ++ insertRecord d r (records (suc l) c ++ rs) =
     ins-left (rankOf d) r (records (suc l) c ++ rs) (before-chosen d l k (t .1) m (o .subs) s) in
     let high : insertRecord d r (records (suc l) c ++ rs) ≡ insertRecord d r (records (suc l) c) ++ rs =
     ins-right (rankOf d) r (records (suc l) c) (behind-chosen d l k (t .1) m (o .subs) s) in
-    cut-flat (records (suc l)) (t .0) (u .free) (replaced i (u .trees) (t .1)) ∙ flat-three (records (suc l)) (take i (t .1)) (u .trees) (drop (suc i) (t .1)) ∙ cc
+    cut-concatMap (records (suc l)) (t .0) (u .free) (replaced i (u .trees) (t .1)) ∙ concatMap-three (records (suc l)) (take i (t .1)) (u .trees) (drop (suc i) (t .1)) ∙ cc
 
 -- FILLS
 
@@ -167,45 +167,45 @@ insert-page d (suc l) r fs t = cut-cases (λ c. getD (map (λ x. x .0) (c .trees
 -- the first n of the free pages are taken, and the page splits or not
 pub record Took {A : Type 0} (fs : List ℕ) (c : Cut A) (n : ℕ) (split : Bool) : Type 0 where
   pub free : c .free ≡ drop n fs
-  pub trees : length (c .trees) ≡ 1 + tick split
+  pub trees : length (c .trees) ≡ 1 + indicator split
 
-cut-took : {A : Type 0} (p : ℕ) (fs : List ℕ) (xs : List A) (split : Bool) → (16 < length xs → split ≡ true) → (length xs ≤ 16 → split ≡ false) → Took fs (cut p fs xs) (tick split) split
+cut-took : {A : Type 0} (p : ℕ) (fs : List ℕ) (xs : List A) (split : Bool) → (16 < length xs → split ≡ true) → (length xs ≤ 16 → split ≡ false) → Took fs (cut p fs xs) (indicator split) split
 cut-took p fs xs split f g =
-    cut-cases (λ c. Took fs c (tick split) split) p fs xs (λ e. rw (g e) (record { free = refl; trees = refl }))
+    cut-cases (λ c. Took fs c (indicator split) split) p fs xs (λ e. rw (g e) (record { free = refl; trees = refl }))
     (λ e. rw (f e) (record { free = refl; trees = refl }))
 
 pub run-le : (d l k : ℕ) (t : Item (suc l)) → runOf d l k t ≤ suc l
 unfolding runOf
-run-le d zero k t = bool-cases (λ c. tick c ≤ 1) (leb 16 (length (t .1))) (λ e. omega arith) (λ e. omega arith)
+run-le d zero k t = bool-cases (λ c. indicator c ≤ 1) (leb 16 (length (t .1))) (λ e. omega arith) (λ e. omega arith)
 run-le d (suc l) k t =
     let n = runOf d l k (getD (t .1) (chosen d l k (t .1)) (noTree l)) in
     let ih : n ≤ suc l = run-le d l k (getD (t .1) (chosen d l k (t .1)) (noTree l)) in
-    bool-cases (λ c. n + tick (pick c (leb 16 (length (t .1))) false) ≤ suc (suc l)) (eqb n (suc l))
-    (λ e. bool-cases (λ c. n + tick c ≤ suc (suc l)) (leb 16 (length (t .1))) (λ f. omega arith) (λ f. omega arith)) (λ e. omega arith)
+    bool-cases (λ c. n + indicator (if c (leb 16 (length (t .1))) false) ≤ suc (suc l)) (eqb n (suc l))
+    (λ e. bool-cases (λ c. n + indicator c ≤ suc (suc l)) (leb 16 (length (t .1))) (λ f. omega arith) (λ f. omega arith)) (λ e. omega arith)
 
-split-both : (l n m : ℕ) → n ≤ suc l → eqb (n + tick (pick (eqb n (suc l)) (leb 16 m) false)) (suc (suc l)) ≡ pick (eqb n (suc l)) (leb 16 m) false
+split-both : (l n m : ℕ) → n ≤ suc l → eqb (n + indicator (if (eqb n (suc l)) (leb 16 m) false)) (suc (suc l)) ≡ if (eqb n (suc l)) (leb 16 m) false
 split-both l n m le =
-    bool-cases (λ c. eqb (n + tick (pick c (leb 16 m) false)) (suc (suc l)) ≡ pick c (leb 16 m) false) (eqb n (suc l))
+    bool-cases (λ c. eqb (n + indicator (if c (leb 16 m) false)) (suc (suc l)) ≡ if c (leb 16 m) false) (eqb n (suc l))
     (λ e. let e' : n ≡ suc l = eqb-true n (suc l) e in
-    bool-cases (λ d. eqb (n + tick d) (suc (suc l)) ≡ d) (leb 16 m) (λ f. eq-eqb (n + 1) (suc (suc l)) (omega arith)) (λ f. ne-eqb (n + 0) (suc (suc l)) (λ (z : n + 0 ≡ suc (suc l)). omega arith)))
+    bool-cases (λ d. eqb (n + indicator d) (suc (suc l)) ≡ d) (leb 16 m) (λ f. eq-eqb (n + 1) (suc (suc l)) (omega arith)) (λ f. ne-eqb (n + 0) (suc (suc l)) (λ (z : n + 0 ≡ suc (suc l)). omega arith)))
     (λ e. ne-eqb (n + 0) (suc (suc l)) (λ (z : n + 0 ≡ suc (suc l)). omega arith))
 
-pub over : (c : Bool) (m len : ℕ) → len ≡ m + tick c → m ≤ 16 → 16 < len → pick c (leb 16 m) false ≡ true
+pub over : (c : Bool) (m len : ℕ) → len ≡ m + indicator c → m ≤ 16 → 16 < len → if c (leb 16 m) false ≡ true
 over true m len e h g = le-leb 16 m (omega arith)
 over false m len e h g = absurd (omega arith)
 
-pub under : (c : Bool) (m len : ℕ) → len ≡ m + tick c → len ≤ 16 → pick c (leb 16 m) false ≡ false
+pub under : (c : Bool) (m len : ℕ) → len ≡ m + indicator c → len ≤ 16 → if c (leb 16 m) false ≡ false
 under true m len e g = lt-leb 16 m (omega arith)
 under false m len e g = refl
 
 -- one level: the child took n pages and split or not
-step-took : {A B : Type 0} (l : ℕ) (fs : List ℕ) (c : Cut B) (n p m : ℕ) (xs : List A) → Took fs c n (eqb n (suc l)) → n ≤ suc l → m ≤ 16 → length xs ≡ m + tick (eqb n (suc l))
-    → Took fs (cut p (c .free) xs) (n + tick (pick (eqb n (suc l)) (leb 16 m) false)) (eqb (n + tick (pick (eqb n (suc l)) (leb 16 m) false)) (suc (suc l)))
+step-took : {A B : Type 0} (l : ℕ) (fs : List ℕ) (c : Cut B) (n p m : ℕ) (xs : List A) → Took fs c n (eqb n (suc l)) → n ≤ suc l → m ≤ 16 → length xs ≡ m + indicator (eqb n (suc l))
+    → Took fs (cut p (c .free) xs) (n + indicator (if (eqb n (suc l)) (leb 16 m) false)) (eqb (n + indicator (if (eqb n (suc l)) (leb 16 m) false)) (suc (suc l)))
 step-took l fs c n p m xs t le h len =
-    let both : Bool = pick (eqb n (suc l)) (leb 16 m) false in
-    let same : eqb (n + tick both) (suc (suc l)) ≡ both = split-both l n m le in
+    let both : Bool = if (eqb n (suc l)) (leb 16 m) false in
+    let same : eqb (n + indicator both) (suc (suc l)) ≡ both = split-both l n m le in
     let u = cut-took p (c .free) xs both (λ (g : 16 < length xs). over (eqb n (suc l)) m (length xs) len h g) (λ (g : length xs ≤ 16). under (eqb n (suc l)) m (length xs) len g) in
-    rw same (record { free = u .free ∙ ap (drop (tick both)) (t .free) ∙ drop-drop (tick both) n fs; trees = u .trees })
+    rw same (record { free = u .free ∙ ap (drop (indicator both)) (t .free) ∙ drop-drop (indicator both) n fs; trees = u .trees })
 
 -- exactly: as many pages as the run is long, and the page splits if the run takes it in
 pub insert-took : (d l : ℕ) (r : Record) (fs : List ℕ) (t : Item (suc l)) → Root l t
@@ -213,7 +213,7 @@ pub insert-took : (d l : ℕ) (r : Record) (fs : List ℕ) (t : Item (suc l)) �
 unfolding insertTree runOf Some
 insert-took d zero r fs t o =
     let n = length-ins (rankOf d) r (t .1) in
-    let e : eqb (tick (leb 16 (length (t .1)))) 1 ≡ leb 16 (length (t .1)) = bool-cases (λ c. eqb (tick c) 1 ≡ c) (leb 16 (length (t .1))) (λ _. refl) (λ _. refl) in
+    let e : eqb (indicator (leb 16 (length (t .1)))) 1 ≡ leb 16 (length (t .1)) = bool-cases (λ c. eqb (indicator c) 1 ≡ c) (leb 16 (length (t .1))) (λ _. refl) (λ _. refl) in
     rw e (cut-took (t .0) fs (insertRecord d r (t .1)) (leb 16 (length (t .1))) (λ (g : 16 < length (insertRecord d r (t .1))). le-leb 16 (length (t .1)) (omega arith)) (λ (g : length (insertRecord d r (t .1)) ≤ 16). lt-leb 16 (length (t .1)) (omega arith)))
 insert-took d (suc l) r fs t o =
     let k = rankOf d r in
@@ -234,7 +234,7 @@ pub room-leaf : (d : ℕ) (r : Record) (fs : List ℕ) (t : Item 1) → runOf d 
 unfolding runOf
 room-leaf d r fs t h g =
     let n = length-ins (rankOf d) r (t .1) in
-    let e : tick (leb 16 (length (t .1))) ≡ 1 = ap tick (le-leb 16 (length (t .1)) (omega arith)) in omega arith
+    let e : indicator (leb 16 (length (t .1))) ≡ 1 = ap indicator (le-leb 16 (length (t .1)) (omega arith)) in omega arith
 
 pub room-inner : (d l : ℕ) (r : Record) (fs : List ℕ) (t : Item (suc (suc l))) → Root (suc l) t → runOf d (suc l) (rankOf d r) t ≤ length fs
     → 16 < length (replaced (chosen d l (rankOf d r) (t .1)) (insertTree d l r fs (getD (t .1) (chosen d l (rankOf d r) (t .1)) (noTree l)) .trees) (t .1))
@@ -248,34 +248,34 @@ room-inner d l r fs t o h g =
     let u = insertTree d l r fs c in
     let ih = insert-took d l r fs c (ok-root l c (all-at (o .subs) i (noTree l) lt)) in
     let n = length-replaced i (u .trees) (t .1) lt in
-    let e : tick (pick (eqb (runOf d l k c) (suc l)) (leb 16 (length (t .1))) false) ≡ 1 =
-    ap tick (over (eqb (runOf d l k c) (suc l)) (length (t .1)) (length (replaced i (u .trees) (t .1))) (omega (arith, ih .trees)) (o .most) g) in
+    let e : indicator (if (eqb (runOf d l k c) (suc l)) (leb 16 (length (t .1))) false) ≡ 1 =
+    ap indicator (over (eqb (runOf d l k c) (suc l)) (length (t .1)) (length (replaced i (u .trees) (t .1))) (omega (arith, ih .trees)) (o .most) g) in
     let f : length (u .free) ≡ length fs - runOf d l k c = ap (λ (z : List ℕ). length z) (ih .free) ∙ length-drop (runOf d l k c) fs in
     omega arith
 
 -- NO PAGE IS LOST OR USED TWICE
 
 cut-pages : (l q p : ℕ) (fs : List ℕ) (xs : List (Item l)) → (16 < length xs → 0 < length fs)
-    → mult q (flat (pages (suc l)) (cut p fs xs .trees)) + mult q (cut p fs xs .free) ≡ mult q (p ∷ flat (pages l) xs) + mult q fs
-unfolding pages mult flat
+    → mult q (concatMap (pages (suc l)) (cut p fs xs .trees)) + mult q (cut p fs xs .free) ≡ mult q (p ∷ concatMap (pages l) xs) + mult q fs
+unfolding pages mult concatMap
 cut-pages l q p fs xs h =
-    cut-cases (λ c. mult q (flat (pages (suc l)) (c .trees)) + mult q (c .free) ≡ mult q (p ∷ flat (pages l) xs) + mult q fs) p fs xs
-    (λ e. rw (append-nil (flat (pages l) xs)))
+    cut-cases (λ c. mult q (concatMap (pages (suc l)) (c .trees)) + mult q (c .free) ≡ mult q (p ∷ concatMap (pages l) xs) + mult q fs) p fs xs
+    (λ e. rw (append-nil (concatMap (pages l) xs)))
     (λ e. go fs (h e))
   where
-    go : (gs : List ℕ) → 0 < length gs → mult q (flat (pages (suc l)) ((p, take 9 xs) ∷ (getD gs 0 0, drop 9 xs) ∷ [])) + mult q (drop 1 gs) ≡ mult q (p ∷ flat (pages l) xs) + mult q gs
+    go : (gs : List ℕ) → 0 < length gs → mult q (concatMap (pages (suc l)) ((p, take 9 xs) ∷ (getD gs 0 0, drop 9 xs) ∷ [])) + mult q (drop 1 gs) ≡ mult q (p ∷ concatMap (pages l) xs) + mult q gs
     go [] g = absurd (omega arith)
     go (g ∷ gs) _ =
-        let A = flat (pages l) (take 9 xs) in
-        let D = flat (pages l) (drop 9 xs) in
+        let A = concatMap (pages l) (take 9 xs) in
+        let D = concatMap (pages l) (drop 9 xs) in
         let e1 : mult q (A ++ g ∷ (D ++ [])) ≡ mult q A + mult q (g ∷ (D ++ [])) = mult-append q A (g ∷ (D ++ [])) in
         let e2 : mult q (D ++ []) ≡ mult q D = ap (mult q) (append-nil D) in
-        let e3 : mult q (flat (pages l) xs) ≡ mult q A + mult q D =
-        ap (mult q) (ap (flat (pages l)) (sym (take-append-drop 9 xs)) ∙ flat-append (pages l) (take 9 xs) (drop 9 xs)) ∙ mult-append q A D in
+        let e3 : mult q (concatMap (pages l) xs) ≡ mult q A + mult q D =
+        ap (mult q) (ap (concatMap (pages l)) (sym (take-append-drop 9 xs)) ∙ concatMap-append (pages l) (take 9 xs) (drop 9 xs)) ∙ mult-append q A D in
         omega arith
 
 pub insert-kept : (d l : ℕ) (r : Record) (q : ℕ) (fs : List ℕ) (t : Item (suc l)) → Root l t → runOf d l (rankOf d r) t ≤ length fs
-    → mult q (flat (pages (suc l)) (insertTree d l r fs t .trees)) + mult q (insertTree d l r fs t .free) ≡ mult q (pages (suc l) t) + mult q fs
+    → mult q (concatMap (pages (suc l)) (insertTree d l r fs t .trees)) + mult q (insertTree d l r fs t .free) ≡ mult q (pages (suc l) t) + mult q fs
 unfolding insertTree pages mult Some
 insert-kept d zero r q fs t o h =
     cut-pages zero q (t .0) fs (insertRecord d r (t .1)) (room-leaf d r fs t h)
@@ -287,13 +287,13 @@ insert-kept d (suc l) r q fs t o h =
     let c = getD (t .1) i (noTree l) in
     let u = insertTree d l r fs c in
     let okc = ok-root l c (all-at (o .subs) i (noTree l) lt) in
-    let ls = flat (pages (suc l)) (take i (t .1)) in
-    let rs = flat (pages (suc l)) (drop (suc i) (t .1)) in
-    let m = flat (pages (suc l)) (u .trees) in
+    let ls = concatMap (pages (suc l)) (take i (t .1)) in
+    let rs = concatMap (pages (suc l)) (drop (suc i) (t .1)) in
+    let m = concatMap (pages (suc l)) (u .trees) in
     let ih = insert-kept d l r q fs c okc (run-child d l k fs t h) in
     let z = cut-pages (suc l) q (t .0) (u .free) (replaced i (u .trees) (t .1)) (room-inner d l r fs t o h) in
-    let a : mult q (flat (pages (suc l)) (replaced i (u .trees) (t .1))) ≡ mult q ls + (mult q m + mult q rs) =
-    ap (mult q) (flat-three (pages (suc l)) (take i (t .1)) (u .trees) (drop (suc i) (t .1))) ∙ mult-append q ls (m ++ rs) ∙ ap (λ (n : ℕ). mult q ls + n) (mult-append q m rs) in
-    let b : mult q (flat (pages (suc l)) (t .1)) ≡ mult q ls + (mult q (pages (suc l) c) + mult q rs) =
-    ap (mult q) (flat-split (pages (suc l)) (t .1) i (noTree l) lt) ∙ mult-append q ls (pages (suc l) c ++ rs) ∙ ap (λ (n : ℕ). mult q ls + n) (mult-append q (pages (suc l) c) rs) in
+    let a : mult q (concatMap (pages (suc l)) (replaced i (u .trees) (t .1))) ≡ mult q ls + (mult q m + mult q rs) =
+    ap (mult q) (concatMap-three (pages (suc l)) (take i (t .1)) (u .trees) (drop (suc i) (t .1))) ∙ mult-append q ls (m ++ rs) ∙ ap (λ (n : ℕ). mult q ls + n) (mult-append q m rs) in
+    let b : mult q (concatMap (pages (suc l)) (t .1)) ≡ mult q ls + (mult q (pages (suc l) c) + mult q rs) =
+    ap (mult q) (concatMap-split (pages (suc l)) (t .1) i (noTree l) lt) ∙ mult-append q ls (pages (suc l) c ++ rs) ∙ ap (λ (n : ℕ). mult q ls + n) (mult-append q (pages (suc l) c) rs) in
     omega arith

@@ -8,26 +8,27 @@ use native.Mathlib.Omega.{arith}
 use lib.Dec.{eqb}
 use lib.ListN.{length, take, drop, getD}
 use borrow.Author.Tests.{eqb-true, eqb-false, eq-eqb}
-use Rattle.lists.specs.Basics.{pick, All, none, also, flat, all-left, all-right, all-map}
+use Rattle.lists.specs.Basics.{if, All, none, also, concatMap, all-left, all-right, all-map}
 use Rattle.lists.specs.Ascending.{headOr}
 use Rattle.lists.specs.Choices.{bool-cases}
 use Rattle.lists.specs.Counts.{mult, mult-append, mult-not}
-use Rattle.lists.specs.FlatLaws.{map-append}
-use Rattle.lists.specs.Parts.{flat-split}
-use Rattle.lists.specs.Rising.{Rising, rising-left, rising-right}
-use Rattle.lists.specs.Runs.{all-at}
-use Rattle.lists.specs.Sorting.{keep}
-use Rattle.lists.specs.Tests.{cases, false-true}
+use Rattle.lists.specs.ConcatMapLaws.{map-append}
+use Rattle.lists.specs.Parts.{concatMap-split}
+use Rattle.lists.specs.AscendingBy.{AscendingBy, rising-left, rising-right}
+use Rattle.lists.specs.Tabulated.{all-at}
+use Rattle.lists.specs.Sorting.{filter}
+use Rattle.lists.specs.Tests.{false-true, by-cases}
+use Rattle.lists.specs.Equal.{same-is, is-same, same}
 use Rattle.pagestore.specs.declared.Record.{Record}
 use Rattle.pagestore.specs.Fits.{RecordFits}
 use Rattle.pagestore.specs.Store.{features, root, level, leafAt, innerAt, recordsIn, entriesIn, fieldAt, viewOf}
 use Rattle.tree_model.specs.Trees.{Item, records, rankOf, keyOf, identOf, treeOf, live}
 use Rattle.tree_model.specs.Sound.{SoundIndex}
 use Rattle.tree.specs.Entries.{choose, childAt}
-use Rattle.tree.specs.Deletion.{Deleted, mend, deleteAt, deleteFrom}
+use Rattle.tree.specs.Deletion.{Deleted, fixUnderflow, deleteAt, deleteFrom}
 use Rattle.tree.specs.Lookup.{blank, withIdent, findIn}
-use Rattle.tree.specs.Keyed.{leafFor, same, samePoint, heldAmong, holdsAt}
-use Rattle.tree_laws.specs.Shapes.{Some, Root, ok-root, noTree, flat-records, child-at, chosen, chosen-lt, before-chosen, behind-chosen}
+use Rattle.tree.specs.Keyed.{leafFor, samePoint, heldAmong, holdsAt}
+use Rattle.tree_laws.specs.Shapes.{Some, Root, ok-root, noTree, concatMap-records, child-at, chosen, chosen-lt, before-chosen, behind-chosen}
 use Rattle.tree_laws.specs.DeleteTree.{Known, not-below, not-above}
 use Rattle.tree_laws.specs.Frames.{Held}
 use Rattle.tree_laws.specs.InsertSim.{leaf-items, inner-items}
@@ -40,21 +41,6 @@ use Rattle.tree_laws.specs.LookupPromises.{find-live, find-only}
 abbrev pub Twin : ℕ → Record → Record → Type 0
 Twin d x y = (y .id ≡ x .id) × (take d (y .coords) ≡ take d (x .coords))
 
-same-is : (xs ys : List ℕ) → same xs ys ≡ true → xs ≡ ys
-unfolding same
-same-is [] [] e = refl
-same-is [] (y ∷ ys) e = false-true e
-same-is (x ∷ xs) [] e = false-true e
-same-is (x ∷ xs) (y ∷ ys) e =
-    cases (eqb x y)
-    (λ t. let g : same xs ys ≡ true = rw t at e in let h : x ≡ y = eqb-true x y t in let s : xs ≡ ys = same-is xs ys g in λ i. h i ∷ s i)
-    (λ t. false-true (rw t at e))
-
-is-same : (xs : List ℕ) → same xs xs ≡ true
-unfolding same
-is-same [] = refl
-is-same (x ∷ xs) = rw (eq-eqb x x refl) (is-same xs)
-
 -- IN A LEAF
 
 -- where only y has the identifier, a record that is held there is y
@@ -62,7 +48,7 @@ held-twin : (d : ℕ) (x y : Record) {rs : List Record} → All (λ z. z .id ≡
 unfolding heldAmong samePoint
 held-twin d x y none e = false-true e
 held-twin d x y (also {x = r} h t) e =
-    cases (eqb (r .id) (x .id))
+    by-cases (eqb (r .id) (x .id))
     (λ c. let g : same (take d (r .coords)) (take d (x .coords)) ≡ true = rw c at e in
     let i : r .id ≡ x .id = eqb-true (r .id) (x .id) c in
     subst (Twin d x) (h i) (i, same-is (take d (r .coords)) (take d (x .coords)) g))
@@ -72,7 +58,7 @@ twin-held : (d : ℕ) (x : Record) {rs : List Record} → All (λ z. z .id ≡ x
 unfolding heldAmong samePoint mult
 twin-held d x none h = absurd (omega arith)
 twin-held d x (also {x = r} {xs = rs} f t) h =
-    cases (eqb (r .id) (x .id))
+    by-cases (eqb (r .id) (x .id))
     (λ c. rw (c, f (eqb-true (r .id) (x .id) c)) (is-same (take d (x .coords))))
     (λ c. let z : mult (x .id) (r .id ∷ map identOf rs) ≡ mult (x .id) (map identOf rs) = mult-not (x .id) (r .id) (map identOf rs) (λ (w : x .id ≡ r .id). eqb-false (r .id) (x .id) c (sym w)) in
     rw c (twin-held d x t (omega arith)))
@@ -93,14 +79,14 @@ led-child d l b k t h =
 -- they are records of the tree
 led-all : (P : Record → Type 0) (d l : ℕ) (b : List ℕ) (k : ℕ) (t : Item (suc l)) → Root l t → Held d (suc l) b t → All P (records (suc l) t) → All P (ledTo l b (t .0) k)
 unfolding leafFor records Some Held
-led-all P d zero b k t o h a = rw (leaf-items d b t h) (rw (flat-records (t .1)) at a)
+led-all P d zero b k t o h a = rw (leaf-items d b t h) (rw (concatMap-records (t .1)) at a)
 led-all P d (suc l) b k t o h a =
     let i = chosen d l k (t .1) in
     let lt = chosen-lt d l k (t .1) (omega (arith, o .some)) in
     let c = getD (t .1) i (noTree l) in
-    let ls : List Record = flat (records (suc l)) (take i (t .1)) in
-    let rs : List Record = flat (records (suc l)) (drop (suc i) (t .1)) in
-    let a' : All P (ls ++ (records (suc l) c ++ rs)) = rw (flat-split (records (suc l)) (t .1) i (noTree l) lt) at a in
+    let ls : List Record = concatMap (records (suc l)) (take i (t .1)) in
+    let rs : List Record = concatMap (records (suc l)) (drop (suc i) (t .1)) in
+    let a' : All P (ls ++ (records (suc l) c ++ rs)) = rw (concatMap-split (records (suc l)) (t .1) i (noTree l) lt) at a in
     subst (All P) (sym (led-child d l b k t h))
     (led-all P d l b k c (ok-root l c (all-at (o .subs) i (noTree l) lt)) (all-at (h .1) i (noTree l) lt) (all-left (records (suc l) c) rs (all-right ls _ a')))
 
@@ -113,21 +99,21 @@ times-append : (i : ℕ) (xs ys : List Record) → mult i (map identOf (xs ++ ys
 times-append i xs ys = ap (mult i) (map-append identOf xs ys) ∙ mult-append i (map identOf xs) (map identOf ys)
 
 -- an identifier whose records have x's rank stands as often in the leaf to which that leads as in the tree
-led-times : (d l : ℕ) (b : List ℕ) (x : Record) (t : Item (suc l)) → Root l t → Held d (suc l) b t → Rising (rankOf d) (records (suc l) t) → All (Known d x) (records (suc l) t)
+led-times : (d l : ℕ) (b : List ℕ) (x : Record) (t : Item (suc l)) → Root l t → Held d (suc l) b t → AscendingBy (rankOf d) (records (suc l) t) → All (Known d x) (records (suc l) t)
     → mult (x .id) (map identOf (ledTo l b (t .0) (rankOf d x))) ≡ mult (x .id) (map identOf (records (suc l) t))
 unfolding leafFor records Some Held
-led-times d zero b x t o h s kn = ap (λ (rs : List Record). mult (x .id) (map identOf rs)) (leaf-items d b t h ∙ sym (flat-records (t .1)))
+led-times d zero b x t o h s kn = ap (λ (rs : List Record). mult (x .id) (map identOf rs)) (leaf-items d b t h ∙ sym (concatMap-records (t .1)))
 led-times d (suc l) b x t o h s kn =
     let k = rankOf d x in
     let i = chosen d l k (t .1) in
     let some : 0 < length (t .1) = omega (arith, o .some) in
     let lt = chosen-lt d l k (t .1) some in
     let c = getD (t .1) i (noTree l) in
-    let ls : List Record = flat (records (suc l)) (take i (t .1)) in
+    let ls : List Record = concatMap (records (suc l)) (take i (t .1)) in
     let cs : List Record = records (suc l) c in
-    let rs : List Record = flat (records (suc l)) (drop (suc i) (t .1)) in
-    let split : flat (records (suc l)) (t .1) ≡ ls ++ (cs ++ rs) = flat-split (records (suc l)) (t .1) i (noTree l) lt in
-    let s' : Rising (rankOf d) (ls ++ (cs ++ rs)) = rw split at s in
+    let rs : List Record = concatMap (records (suc l)) (drop (suc i) (t .1)) in
+    let split : concatMap (records (suc l)) (t .1) ≡ ls ++ (cs ++ rs) = concatMap-split (records (suc l)) (t .1) i (noTree l) lt in
+    let s' : AscendingBy (rankOf d) (ls ++ (cs ++ rs)) = rw split at s in
     let kn' : All (Known d x) (ls ++ (cs ++ rs)) = rw split at kn in
     let knc = all-right ls (cs ++ rs) kn' in
     let below : mult (x .id) (map identOf ls) ≡ 0 = absent-all (x .id) (not-below d x (all-left ls _ kn') (before-chosen d l k (t .1) some (o .subs) s)) in
@@ -135,7 +121,7 @@ led-times d (suc l) b x t o h s kn =
     let ih : mult (x .id) (map identOf (ledTo l b (c .0) k)) ≡ mult (x .id) (map identOf cs) =
     led-times d l b x c (ok-root l c (all-at (o .subs) i (noTree l) lt)) (all-at (h .1) i (noTree l) lt) (rising-left (rankOf d) cs rs (rising-right (rankOf d) ls _ s')) (all-left cs rs knc) in
     let led : mult (x .id) (map identOf (ledTo (suc l) b (t .0) k)) ≡ mult (x .id) (map identOf (ledTo l b (c .0) k)) = ap (λ (zs : List Record). mult (x .id) (map identOf zs)) (led-child d l b k t h) in
-    let all : mult (x .id) (map identOf (flat (records (suc l)) (t .1))) ≡ mult (x .id) (map identOf (ls ++ (cs ++ rs))) = ap (λ (zs : List Record). mult (x .id) (map identOf zs)) split in
+    let all : mult (x .id) (map identOf (concatMap (records (suc l)) (t .1))) ≡ mult (x .id) (map identOf (ls ++ (cs ++ rs))) = ap (λ (zs : List Record). mult (x .id) (map identOf zs)) split in
     omega (arith, times-append (x .id) ls (cs ++ rs), times-append (x .id) cs rs)
 
 -- IN A SOUND INDEX
@@ -176,10 +162,10 @@ module _ (b : List ℕ) (s : SoundIndex b) (x : Record) where
 
 -- what holds of every live record holds of the one found
 headed : (P : Record → Type 0) (i : ℕ) {rs : List Record} → All P rs → 0 < mult i (map identOf rs) → P (headOr blank (withIdent i rs))
-unfolding keep headOr mult
+unfolding filter headOr mult
 headed P i none h = absurd (omega arith)
 headed P i (also {x = r} {xs = rs} p t) h =
-    bool-cases (λ c. eqb (r .id) i ≡ c → P (headOr blank (pick c (r ∷ withIdent i rs) (withIdent i rs)))) (eqb (r .id) i)
+    bool-cases (λ c. eqb (r .id) i ≡ c → P (headOr blank (if c (r ∷ withIdent i rs) (withIdent i rs)))) (eqb (r .id) i)
     (λ e f. p)
     (λ e f. let z : mult i (r .id ∷ map identOf rs) ≡ mult i (map identOf rs) = mult-not i (r .id) (map identOf rs) (λ (w : i ≡ r .id). eqb-false (r .id) i e (sym w)) in headed P i t (omega arith))
     refl
@@ -200,8 +186,8 @@ unfolding deleteAt
 delete-alike d zero b p x y i k = rw i
 delete-alike d (suc l) b p x y i k =
     let es = entriesIn (innerAt b p) in
-    ap (λ (r : ℕ). mend d l p es (choose r es) (deleteAt d l b (childAt es (choose r es)) y)) k
-    ∙ ap (mend d l p es (choose (rankOf d x) es)) (delete-alike d l b (childAt es (choose (rankOf d x) es)) x y i k)
+    ap (λ (r : ℕ). fixUnderflow d l p es (choose r es) (deleteAt d l b (childAt es (choose r es)) y)) k
+    ∙ ap (fixUnderflow d l p es (choose (rankOf d x) es)) (delete-alike d l b (childAt es (choose (rankOf d x) es)) x y i k)
 
 -- so by identifier and point
 pub delete-twin : (b : List ℕ) (x y : Record) → Twin (viewOf b .d) x y → deleteFrom b y ≡ deleteFrom b x

@@ -7,10 +7,10 @@ use lib.Dec.{ltb, eqb}
 use lib.IntN.{ℤ, pos, negsuc, natAbs}
 use lib.ListN.{length, getD, take, length-take}
 use borrow.Author.Tests.{ltb-true, ltb-false, lt-ltb, le-ltb}
-use Rattle.lists.specs.Basics.{pick, All, none, also}
+use Rattle.lists.specs.Basics.{if, All, none, also}
 use Rattle.lists.specs.Choices.{bool-cases}
-use Rattle.lists.specs.Runs.{all-take}
-use Rattle.lists.specs.Tests.{cases}
+use Rattle.lists.specs.Tabulated.{all-take}
+use Rattle.lists.specs.Tests.{by-cases}
 use Rattle.geometry.specs.Keys.{keyNumber}
 use Rattle.geometry.specs.Points.{isNeg, heightOf, axisAt, axisOf, pyramidOf}
 use Rattle.geometry.specs.Stored.{coordOf, pointOf}
@@ -27,7 +27,7 @@ coord-high x l = rw (le-ltb x 1000 l)
 
 coord-fits : (x : ℕ) → x < 2 ^ 11 → natAbs (coordOf x) < 2 ^ 16
 coord-fits x h =
-    cases (ltb x 1000)
+    by-cases (ltb x 1000)
     (λ e. rw (coord-low x (ltb-true x 1000 e)) (omega arith))
     (λ e. rw (coord-high x (ltb-false x 1000 e)) (omega arith))
 
@@ -46,13 +46,13 @@ unfolding axisAt
 axis-le h [] = omega arith
 axis-le h (c ∷ cs) =
     let i : axisAt h cs ≤ length cs = axis-le h cs in
-    bool-cases (λ b. pick b 0 (suc (axisAt h cs)) ≤ suc (length cs)) (eqb (natAbs c) h) (λ e. omega arith) (λ e. omega arith)
+    bool-cases (λ b. if b 0 (suc (axisAt h cs)) ≤ suc (length cs)) (eqb (natAbs c) h) (λ e. omega arith) (λ e. omega arith)
 
 pyramid-le : (p : List ℤ) → pyramidOf p ≤ length p + length p
 unfolding pyramidOf axisOf
 pyramid-le p =
     let i : axisAt (heightOf p) p ≤ length p = axis-le (heightOf p) p in
-    bool-cases (λ b. pick b (axisAt (heightOf p) p) (axisAt (heightOf p) p + length p) ≤ length p + length p) (isNeg (getD p (axisAt (heightOf p) p) (pos 0)))
+    bool-cases (λ b. if b (axisAt (heightOf p) p) (axisAt (heightOf p) p + length p) ≤ length p + length p) (isNeg (getD p (axisAt (heightOf p) p) (pos 0)))
     (λ e. omega arith) (λ e. omega arith)
 
 pub key-fits : (d : ℕ) (r : Record) → RecordFits r → KeyFits (keyOf d r)

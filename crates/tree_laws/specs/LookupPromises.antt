@@ -7,19 +7,19 @@ use native.Mathlib.Omega.{arith}
 use lib.Dec.{eqb}
 use lib.ListN.{length, length-append}
 use borrow.Author.Tests.{eqb-true, eqb-false, eq-eqb, ne-eqb}
-use Rattle.lists.specs.Basics.{pick, tick, All, none, also, flat, all-map}
+use Rattle.lists.specs.Basics.{if, indicator, All, none, also, concatMap, all-map}
 use Rattle.lists.specs.Ascending.{headOr}
 use Rattle.lists.specs.Choices.{bool-cases}
 use Rattle.lists.specs.Counts.{mult, mult-more, mult-not, absent}
-use Rattle.lists.specs.FlatLaws.{map-append}
-use Rattle.lists.specs.Sorting.{keep, sum}
+use Rattle.lists.specs.ConcatMapLaws.{map-append}
+use Rattle.lists.specs.Sorting.{filter, sum}
 use Rattle.pagestore.specs.declared.Record.{Record}
 use Rattle.pagestore.specs.declared.Entry.{Entry}
 use Rattle.pagestore.specs.Store.{root, level, fieldAt, viewOf}
 use Rattle.tree_model.specs.Trees.{Item, records, leaves, identOf, entryOf, treeOf, live, leavesOf}
 use Rattle.tree_model.specs.Sound.{SoundIndex}
 use Rattle.tree.specs.Lookup.{recordsUnder, withIdent, blank, findUnder, findIn, leafEntries, leafCount}
-use Rattle.tree_laws.specs.Shapes.{flat-records}
+use Rattle.tree_laws.specs.Shapes.{concatMap-records}
 use Rattle.tree_laws.specs.Idents.{none-of}
 use Rattle.tree_laws.specs.Frames.{Held}
 use Rattle.tree_laws.specs.InsertSim.{leaf-items, inner-items}
@@ -28,16 +28,16 @@ use Rattle.tree_laws.specs.Wholes.{sound-whole, sound-right}
 -- THE RECORDS
 
 kids-under : (d l : ℕ) (b : List ℕ) → ((t : Item (suc l)) → Held d (suc l) b t → recordsUnder l b (t .0) ≡ records (suc l) t) → {ts : List (Item (suc l))} → All (Held d (suc l) b) ts
-    → flat (λ e. recordsUnder l b (e .child)) (map (entryOf d l) ts) ≡ flat (records (suc l)) ts
-unfolding flat entryOf
+    → concatMap (λ e. recordsUnder l b (e .child)) (map (entryOf d l) ts) ≡ concatMap (records (suc l)) ts
+unfolding concatMap entryOf
 kids-under d l b f none = refl
 kids-under d l b f (also {x = t} h r) = λ i. f t h i ++ kids-under d l b f r i
 
 -- below any page of the tree
 pub under-is : (d l : ℕ) (b : List ℕ) (t : Item (suc l)) → Held d (suc l) b t → recordsUnder l b (t .0) ≡ records (suc l) t
 unfolding recordsUnder records Held
-under-is d zero b t h = leaf-items d b t h ∙ sym (flat-records (t .1))
-under-is d (suc l) b t h = ap (flat (λ e. recordsUnder l b (e .child))) (inner-items d l b t h) ∙ kids-under d l b (under-is d l b) (h .1)
+under-is d zero b t h = leaf-items d b t h ∙ sym (concatMap-records (t .1))
+under-is d (suc l) b t h = ap (concatMap (λ e. recordsUnder l b (e .child))) (inner-items d l b t h) ∙ kids-under d l b (under-is d l b) (h .1)
 
 -- the records that are read are the live ones
 pub records-live : (b : List ℕ) → SoundIndex b → recordsUnder (fieldAt level b) b (fieldAt root b) ≡ live (viewOf b)
@@ -54,10 +54,10 @@ find-live b i s = ap (λ (rs : List Record). headOr blank (withIdent i rs)) (rec
 
 -- where it is there, it has that identifier
 found-ident : (i : ℕ) (rs : List Record) → 0 < mult i (map identOf rs) → headOr blank (withIdent i rs) .id ≡ i
-unfolding keep headOr mult
+unfolding filter headOr mult
 found-ident i [] h = absurd (omega arith)
 found-ident i (r ∷ rs) h =
-    bool-cases (λ c. eqb (r .id) i ≡ c → headOr blank (pick c (r ∷ withIdent i rs) (withIdent i rs)) .id ≡ i) (eqb (r .id) i)
+    bool-cases (λ c. eqb (r .id) i ≡ c → headOr blank (if c (r ∷ withIdent i rs) (withIdent i rs)) .id ≡ i) (eqb (r .id) i)
     (λ e f. eqb-true (r .id) i e)
     (λ e f. let ne = eqb-false (r .id) i e in
     let z : mult i (r .id ∷ map identOf rs) ≡ mult i (map identOf rs) = mult-not i (r .id) (map identOf rs) (λ (w : i ≡ r .id). ne (sym w)) in
@@ -65,7 +65,7 @@ found-ident i (r ∷ rs) h =
     refl
 
 found-none : (i : ℕ) (rs : List Record) → mult i (map identOf rs) ≡ 0 → headOr blank (withIdent i rs) ≡ blank
-unfolding keep headOr mult
+unfolding filter headOr mult
 found-none i [] h = refl
 found-none i (r ∷ rs) h =
     let ne : i ≢ r .id = absent i (r .id) (map identOf rs) h in
@@ -73,12 +73,12 @@ found-none i (r ∷ rs) h =
 
 -- and no other record has it, where identifiers are distinct
 only-one : (i : ℕ) (rs : List Record) → mult i (map identOf rs) ≤ 1 → All (λ x. x .id ≡ i → x ≡ headOr blank (withIdent i rs)) rs
-unfolding keep headOr mult
+unfolding filter headOr mult
 only-one i [] h = none
 only-one i (r ∷ rs) h =
-    bool-cases (λ c. eqb (r .id) i ≡ c → All (λ x. x .id ≡ i → x ≡ headOr blank (pick c (r ∷ withIdent i rs) (withIdent i rs))) (r ∷ rs)) (eqb (r .id) i)
+    bool-cases (λ c. eqb (r .id) i ≡ c → All (λ x. x .id ≡ i → x ≡ headOr blank (if c (r ∷ withIdent i rs) (withIdent i rs))) (r ∷ rs)) (eqb (r .id) i)
     (λ e f. let same : i ≡ r .id = sym (eqb-true (r .id) i e) in
-    let z : mult i (map identOf rs) ≡ 0 = let y : tick (eqb i (r .id)) ≡ 1 = ap tick (eq-eqb i (r .id) same) in omega arith in
+    let z : mult i (map identOf rs) ≡ 0 = let y : indicator (eqb i (r .id)) ≡ 1 = ap indicator (eq-eqb i (r .id) same) in omega arith in
     also (λ _. refl) (all-map (λ x (ne : i ≢ x .id) (g : x .id ≡ i). absurd (ne (sym g))) (none-of i rs z)))
     (λ e f. also (λ g. absurd (eqb-false (r .id) i e g)) (only-one i rs (omega (arith, mult-more i (r .id) (map identOf rs)))))
     refl
@@ -97,22 +97,22 @@ find-only b i s =
 -- THE LEAVES
 
 kids-leaves : (d l : ℕ) (b : List ℕ) → ((t : Item (suc l)) → Held d (suc l) b t → leafEntries l b (entryOf d l t) ≡ map (entryOf d 0) (leaves l t)) → {ts : List (Item (suc l))} → All (Held d (suc l) b) ts
-    → flat (leafEntries l b) (map (entryOf d l) ts) ≡ map (entryOf d 0) (flat (leaves l) ts)
-unfolding flat
+    → concatMap (leafEntries l b) (map (entryOf d l) ts) ≡ map (entryOf d 0) (concatMap (leaves l) ts)
+unfolding concatMap
 kids-leaves d l b f none = refl
-kids-leaves d l b f (also {x = t} {xs = ts} h r) = (λ i. f t h i ++ kids-leaves d l b f r i) ∙ sym (map-append (entryOf d 0) (leaves l t) (flat (leaves l) ts))
+kids-leaves d l b f (also {x = t} {xs = ts} h r) = (λ i. f t h i ++ kids-leaves d l b f r i) ∙ sym (map-append (entryOf d 0) (leaves l t) (concatMap (leaves l) ts))
 
 -- below the entry of any page of the tree
 pub entries-are : (d l : ℕ) (b : List ℕ) (t : Item (suc l)) → Held d (suc l) b t → leafEntries l b (entryOf d l t) ≡ map (entryOf d 0) (leaves l t)
 unfolding leafEntries leaves Held entryOf
 entries-are d zero b t h = refl
-entries-are d (suc l) b t h = ap (flat (leafEntries l b)) (inner-items d l b t h) ∙ kids-leaves d l b (entries-are d l b) (h .1)
+entries-are d (suc l) b t h = ap (concatMap (leafEntries l b)) (inner-items d l b t h) ∙ kids-leaves d l b (entries-are d l b) (h .1)
 
 kids-count : (d l : ℕ) (b : List ℕ) → ((t : Item (suc l)) → Held d (suc l) b t → leafCount l b (t .0) ≡ length (leaves l t)) → {ts : List (Item (suc l))} → All (Held d (suc l) b) ts
-    → sum (λ e. leafCount l b (e .child)) (map (entryOf d l) ts) ≡ length (flat (leaves l) ts)
-unfolding flat sum entryOf
+    → sum (λ e. leafCount l b (e .child)) (map (entryOf d l) ts) ≡ length (concatMap (leaves l) ts)
+unfolding concatMap sum entryOf
 kids-count d l b f none = refl
-kids-count d l b f (also {x = t} {xs = ts} h r) = omega (arith, f t h, kids-count d l b f r, length-append (leaves l t) (flat (leaves l) ts))
+kids-count d l b f (also {x = t} {xs = ts} h r) = omega (arith, f t h, kids-count d l b f r, length-append (leaves l t) (concatMap (leaves l) ts))
 
 -- below any page of the tree
 pub count-is : (d l : ℕ) (b : List ℕ) (t : Item (suc l)) → Held d (suc l) b t → leafCount l b (t .0) ≡ length (leaves l t)

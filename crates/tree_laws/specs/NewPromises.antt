@@ -6,10 +6,10 @@ use native.Mathlib.Omega.{arith}
 use lib.Dec.{eqb}
 use lib.ListN.{length}
 use borrow.Author.Tests.{ne-eqb}
-use Rattle.lists.specs.Basics.{tick, none, flat, upFrom}
-use Rattle.lists.specs.Counts.{mult, up-below, up-past, up-within}
-use Rattle.lists.specs.Rising.{end}
-use Rattle.lists.specs.Tests.{cases}
+use Rattle.lists.specs.Basics.{indicator, none, concatMap, rangeFrom}
+use Rattle.lists.specs.Counts.{mult, rangeFrom-below, rangeFrom-past, rangeFrom-within}
+use Rattle.lists.specs.AscendingBy.{end}
+use Rattle.lists.specs.Tests.{by-cases}
 use Rattle.pagestore.specs.Store.{pagesIn, inRange, freeAt, newIndex, viewOf}
 use Rattle.pagestore.specs.Store.RangeLaws.{range-is, range-high, range-zero, range-past, range-same, pages-same}
 use Rattle.pagestore.specs.Store.NewLaws.{New, length-new, new-index}
@@ -36,18 +36,18 @@ module _ (b : List ℕ) (d : ℕ) (lent : Permitted (length b)) (low : 1 ≤ d) 
   new = new-index b d two (omega arith)
 
   -- each page but the header is the root or never used
-  own : (q : ℕ) → mult q (1 ∷ []) + mult q (upFrom 2 (pagesIn b - 2)) ≡ tick (inRange b q)
+  own : (q : ℕ) → mult q (1 ∷ []) + mult q (rangeFrom 2 (pagesIn b - 2)) ≡ indicator (inRange b q)
   unfolding mult
-  own zero = omega (arith, up-below 0 2 (pagesIn b - 2) (omega arith), ap tick (range-zero b))
-  own (suc zero) = omega (arith, up-below 1 2 (pagesIn b - 2) (omega arith), ap tick (range-is b 1 (omega arith) (omega (arith, two))))
+  own zero = omega (arith, rangeFrom-below 0 2 (pagesIn b - 2) (omega arith), ap indicator (range-zero b))
+  own (suc zero) = omega (arith, rangeFrom-below 1 2 (pagesIn b - 2) (omega arith), ap indicator (range-is b 1 (omega arith) (omega (arith, two))))
   own (suc (suc q)) =
-      let z : tick (eqb (suc (suc q)) 1) ≡ 0 = ap tick (ne-eqb (suc (suc q)) 1 (λ (e : suc (suc q) ≡ 1). omega arith)) in
-      cases (inRange b (suc (suc q)))
-      (λ e. omega (arith, ap tick e, up-within (suc (suc q)) 2 (pagesIn b - 2) (omega arith) (omega (arith, range-high b (suc (suc q)) e))))
-      (λ e. omega (arith, ap tick e, up-past (suc (suc q)) 2 (pagesIn b - 2) (omega (arith, two, range-past b (suc (suc q)) (omega arith) e))))
+      let z : indicator (eqb (suc (suc q)) 1) ≡ 0 = ap indicator (ne-eqb (suc (suc q)) 1 (λ (e : suc (suc q) ≡ 1). omega arith)) in
+      by-cases (inRange b (suc (suc q)))
+      (λ e. omega (arith, ap indicator e, rangeFrom-within (suc (suc q)) 2 (pagesIn b - 2) (omega arith) (omega (arith, range-high b (suc (suc q)) e))))
+      (λ e. omega (arith, ap indicator e, rangeFrom-past (suc (suc q)) 2 (pagesIn b - 2) (omega (arith, two, range-past b (suc (suc q)) (omega arith) e))))
 
   whole : Whole d (newIndex b d) 0 (1, [])
-  unfolding Held node Some pages records flat
+  unfolding Held node Some pages records concatMap
   whole =
       record {
         features-are = new .features;
@@ -56,7 +56,7 @@ module _ (b : List ℕ) (d : ℕ) (lent : Permitted (length b)) (low : 1 ≤ d) 
         held = (new .page, none);
         ok = record { some = tt; most = omega arith; subs = none };
         well = record { rest = new .rest; low = omega (arith, new .fresh); high = omega (arith, new .fresh, two, pages-same b (newIndex b d) (length-new b d)) };
-        own = λ q. ap (λ (z : List ℕ). mult q (1 ∷ []) + mult q z) (new .free) ∙ own q ∙ ap tick (sym (range-same b (newIndex b d) q (length-new b d)));
+        own = λ q. ap (λ (z : List ℕ). mult q (1 ∷ []) + mult q z) (new .free) ∙ own q ∙ ap indicator (sym (range-same b (newIndex b d) q (length-new b d)));
         order = end;
       }
 
@@ -74,14 +74,14 @@ module _ (b : List ℕ) (d : ℕ) (lent : Permitted (length b)) (low : 1 ≤ d) 
       }
 
   pub new-sound : SoundIndex (newIndex b d)
-  unfolding records flat
+  unfolding records concatMap
   new-sound = whole-sound d (newIndex b d) 0 (1, []) whole right
 
   pub new-live : live (viewOf (newIndex b d)) ≡ []
-  unfolding records flat
+  unfolding records concatMap
   new-live = whole-live d (newIndex b d) 0 (1, []) whole
 
-  pub new-free : freeAt (newIndex b d) ≡ upFrom 2 (pagesIn b - 2)
+  pub new-free : freeAt (newIndex b d) ≡ rangeFrom 2 (pagesIn b - 2)
   new-free = new .free
 
   pub new-features : viewOf (newIndex b d) .d ≡ d

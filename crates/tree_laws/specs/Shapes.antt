@@ -6,11 +6,11 @@ use native.Mathlib.Omega.{arith}
 use lib.Dec.{leb}
 use lib.ListN.{length, take, drop, getD, length-append, length-map}
 use borrow.Author.Tests.{leb-true, leb-false}
-use Rattle.lists.specs.Basics.{pick, All, none, also, flat, all-append, all-left, all-map}
+use Rattle.lists.specs.Basics.{if, All, none, also, concatMap, all-append, all-left, all-map}
 use Rattle.lists.specs.Ascending.{headOr}
 use Rattle.lists.specs.Choices.{bool-cases}
 use Rattle.lists.specs.Parts.{head-of}
-use Rattle.lists.specs.Rising.{Rising, step, rising-right, rising-cross}
+use Rattle.lists.specs.AscendingBy.{AscendingBy, step, rising-right, rising-cross}
 use Rattle.geometry.specs.Keys.{keyNumber}
 use Rattle.pagestore.specs.declared.Record.{Record}
 use Rattle.pagestore.specs.declared.Entry.{Entry}
@@ -39,13 +39,13 @@ ok-root zero t o = record { some = tt; most = o .1; subs = o .2 }
 ok-root (suc l) t o = record { some = omega arith; most = o .1; subs = o .2 }
 
 pub records-some : (l : ℕ) (x : Item l) → Ok l x → 0 < length (records l x)
-unfolding records Ok flat
+unfolding records Ok concatMap
 records-some zero r o = omega arith
 records-some (suc l) t o = go (t .1) (omega arith) (o .2) (records-some l)
   where
-    go : (ts : List (Item l)) → 2 ≤ length ts → All (Ok l) ts → ((x : Item l) → Ok l x → 0 < length (records l x)) → 0 < length (flat (records l) ts)
+    go : (ts : List (Item l)) → 2 ≤ length ts → All (Ok l) ts → ((x : Item l) → Ok l x → 0 < length (records l x)) → 0 < length (concatMap (records l) ts)
     go [] h a f = absurd (omega arith)
-    go (u ∷ us) h (also p a) f = let g : 0 < length (records l u) = f u p in rw (length-append (records l u) (flat (records l) us)) (omega arith)
+    go (u ∷ us) h (also p a) f = let g : 0 < length (records l u) = f u p in rw (length-append (records l u) (concatMap (records l) us)) (omega arith)
 
 -- a tree with its level
 abbrev pub Shape : Type 0
@@ -55,13 +55,13 @@ Shape = (l : ℕ) × Item (suc l)
 abbrev pub noTree : (l : ℕ) → Item (suc l)
 noTree l = (0, [])
 
-pub flat-records : (rs : List Record) → flat (records 0) rs ≡ rs
-unfolding flat records
-flat-records [] = refl
-flat-records (r ∷ rs) = ap (λ (z : List Record). r ∷ z) (flat-records rs)
+pub concatMap-records : (rs : List Record) → concatMap (records 0) rs ≡ rs
+unfolding concatMap records
+concatMap-records [] = refl
+concatMap-records (r ∷ rs) = ap (λ (z : List Record). r ∷ z) (concatMap-records rs)
 
-pub no-pages : (rs : List Record) → flat (pages 0) rs ≡ []
-unfolding flat pages
+pub no-pages : (rs : List Record) → concatMap (pages 0) rs ≡ []
+unfolding concatMap pages
 no-pages [] = refl
 no-pages (r ∷ rs) = no-pages rs
 
@@ -81,7 +81,7 @@ unfolding notAbove
 above-le k [] = omega arith
 above-le k (e ∷ es) =
     let h : notAbove k es ≤ length es = above-le k es in
-    bool-cases (λ c. pick c (suc (notAbove k es)) 0 ≤ suc (length es)) (leb (keyNumber (e .first)) k) (λ _. omega arith) (λ _. omega arith)
+    bool-cases (λ c. if c (suc (notAbove k es)) 0 ≤ suc (length es)) (leb (keyNumber (e .first)) k) (λ _. omega arith) (λ _. omega arith)
 
 pub chosen-lt : (d l k : ℕ) (ts : List (Item (suc l))) → 0 < length ts → chosen d l k ts < length ts
 unfolding chosen choose
@@ -94,17 +94,17 @@ first-rank d l t = refl
 
 -- In rising records those before the child chosen are below k, and those behind it above.
 module _ (d l k : ℕ) where
-  from-first : (xs ys : List Record) → 0 < length xs → Rising (rankOf d) (xs ++ ys) → All (λ y. rankOf d (headOr noRecord xs) ≤ rankOf d y) (xs ++ ys)
+  from-first : (xs ys : List Record) → 0 < length xs → AscendingBy (rankOf d) (xs ++ ys) → All (λ y. rankOf d (headOr noRecord xs) ≤ rankOf d y) (xs ++ ys)
   unfolding headOr
   from-first [] ys h r = absurd (omega arith)
   from-first (x ∷ xs) ys h (step g r) = also {x = x} (omega arith) (all-map (λ y (w : rankOf d x < rankOf d y). omega arith) g)
 
-  low : (u : Item (suc l)) (us : List (Item (suc l))) → Rising (rankOf d) (records (suc l) u ++ flat (records (suc l)) us) → All (λ x. 0 < length (records (suc l) x)) us
-      → All (λ x. rankOf d x < k) (flat (records (suc l)) (take (notAbove k (map (entryOf d l) us)) (u ∷ us)))
-  unfolding notAbove flat
+  low : (u : Item (suc l)) (us : List (Item (suc l))) → AscendingBy (rankOf d) (records (suc l) u ++ concatMap (records (suc l)) us) → All (λ x. 0 < length (records (suc l) x)) us
+      → All (λ x. rankOf d x < k) (concatMap (records (suc l)) (take (notAbove k (map (entryOf d l) us)) (u ∷ us)))
+  unfolding notAbove concatMap
   low u [] r n = none
   low u (w ∷ ws) r (also p n) =
-      bool-cases (λ c. All (λ x. rankOf d x < k) (flat (records (suc l)) (take (pick c (suc (notAbove k (map (entryOf d l) ws))) 0) (u ∷ w ∷ ws)))) (leb (keyNumber (entryOf d l w .first)) k)
+      bool-cases (λ c. All (λ x. rankOf d x < k) (concatMap (records (suc l)) (take (if c (suc (notAbove k (map (entryOf d l) ws))) 0) (u ∷ w ∷ ws)))) (leb (keyNumber (entryOf d l w .first)) k)
       (λ e. let g : rankOf d (headOr noRecord (records (suc l) w)) ≤ k = rw (← first-rank d l w) (leb-true _ _ e) in
       all-append
       (all-map (λ x (b : rankOf d x < rankOf d (headOr noRecord (records (suc l) w))). omega arith)
@@ -112,25 +112,25 @@ module _ (d l k : ℕ) where
       (low w ws (rising-right (rankOf d) (records (suc l) u) _ r) n))
       (λ e. none)
 
-  high : (u : Item (suc l)) (us : List (Item (suc l))) → Rising (rankOf d) (records (suc l) u ++ flat (records (suc l)) us) → All (λ x. 0 < length (records (suc l) x)) us
-      → All (λ x. k < rankOf d x) (flat (records (suc l)) (drop (notAbove k (map (entryOf d l) us)) us))
-  unfolding notAbove flat
+  high : (u : Item (suc l)) (us : List (Item (suc l))) → AscendingBy (rankOf d) (records (suc l) u ++ concatMap (records (suc l)) us) → All (λ x. 0 < length (records (suc l) x)) us
+      → All (λ x. k < rankOf d x) (concatMap (records (suc l)) (drop (notAbove k (map (entryOf d l) us)) us))
+  unfolding notAbove concatMap
   high u [] r n = none
   high u (w ∷ ws) r (also p n) =
-      bool-cases (λ c. All (λ x. k < rankOf d x) (flat (records (suc l)) (drop (pick c (suc (notAbove k (map (entryOf d l) ws))) 0) (w ∷ ws)))) (leb (keyNumber (entryOf d l w .first)) k)
+      bool-cases (λ c. All (λ x. k < rankOf d x) (concatMap (records (suc l)) (drop (if c (suc (notAbove k (map (entryOf d l) ws))) 0) (w ∷ ws)))) (leb (keyNumber (entryOf d l w .first)) k)
       (λ e. high w ws (rising-right (rankOf d) (records (suc l) u) _ r) n)
       (λ e. let g : k < rankOf d (headOr noRecord (records (suc l) w)) = rw (← first-rank d l w) (leb-false _ _ e) in
       all-map (λ x (b : rankOf d (headOr noRecord (records (suc l) w)) ≤ rankOf d x). omega arith)
-      (from-first (records (suc l) w) (flat (records (suc l)) ws) p (rising-right (rankOf d) (records (suc l) u) _ r)))
+      (from-first (records (suc l) w) (concatMap (records (suc l)) ws) p (rising-right (rankOf d) (records (suc l) u) _ r)))
 
-  pub before-chosen : (ts : List (Item (suc l))) → 0 < length ts → All (Ok (suc l)) ts → Rising (rankOf d) (flat (records (suc l)) ts)
-      → All (λ x. rankOf d x < k) (flat (records (suc l)) (take (chosen d l k ts) ts))
-  unfolding chosen choose flat
+  pub before-chosen : (ts : List (Item (suc l))) → 0 < length ts → All (Ok (suc l)) ts → AscendingBy (rankOf d) (concatMap (records (suc l)) ts)
+      → All (λ x. rankOf d x < k) (concatMap (records (suc l)) (take (chosen d l k ts) ts))
+  unfolding chosen choose concatMap
   before-chosen [] h o r = absurd (omega arith)
   before-chosen (u ∷ us) h (also p o) r = low u us r (all-map (records-some (suc l)) o)
 
-  pub behind-chosen : (ts : List (Item (suc l))) → 0 < length ts → All (Ok (suc l)) ts → Rising (rankOf d) (flat (records (suc l)) ts)
-      → All (λ x. k < rankOf d x) (flat (records (suc l)) (drop (suc (chosen d l k ts)) ts))
-  unfolding chosen choose flat
+  pub behind-chosen : (ts : List (Item (suc l))) → 0 < length ts → All (Ok (suc l)) ts → AscendingBy (rankOf d) (concatMap (records (suc l)) ts)
+      → All (λ x. k < rankOf d x) (concatMap (records (suc l)) (drop (suc (chosen d l k ts)) ts))
+  unfolding chosen choose concatMap
   behind-chosen [] h o r = absurd (omega arith)
   behind-chosen (u ∷ us) h (also p o) r = high u us r (all-map (records-some (suc l)) o)

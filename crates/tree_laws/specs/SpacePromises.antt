@@ -6,7 +6,7 @@ use Prim.Native.Nat.{ℕ, zero, suc, _+_, _-_, _≤_, _<_}
 use native.Mathlib.Omega.{arith}
 use lib.Dec.{ltb}
 use lib.ListN.{length, take, drop, length-append, take-append-drop}
-use Rattle.lists.specs.Basics.{tick}
+use Rattle.lists.specs.Basics.{indicator}
 use Rattle.lists.specs.Counts.{mult, mult-append, length-once}
 use Rattle.pagestore.specs.declared.Record.{Record}
 use Rattle.pagestore.specs.Store.{inRange, pagesIn, freeAt, viewOf}
@@ -18,10 +18,10 @@ use Rattle.tree_laws.specs.Wholes.{sound-whole}
 use Rattle.tree_laws.specs.InsertPromises.{MayInsert, insert-sound, insert-pages, insert-length}
 use Rattle.tree_laws.specs.DeletePromises.{deleteIdent, pagesGiven, delete-sound, delete-pages, delete-length}
 
-by-count : (n : ℕ) (b xs : List ℕ) → 1 ≤ n → n ≡ pagesIn b → ((q : ℕ) → mult q xs ≡ tick (inRange b q)) → length xs + 1 ≡ n
+by-count : (n : ℕ) (b xs : List ℕ) → 1 ≤ n → n ≡ pagesIn b → ((q : ℕ) → mult q xs ≡ indicator (inRange b q)) → length xs + 1 ≡ n
 unfolding inRange
 by-count zero b xs h e f = absurd (omega arith)
-by-count (suc n) b xs h e f = omega (arith, length-once n xs (λ q. f q ∙ ap (λ (m : ℕ). tick (ltb 0 q && ltb q m)) (sym e)))
+by-count (suc n) b xs h e f = omega (arith, length-once n xs (λ q. f q ∙ ap (λ (m : ℕ). indicator (ltb 0 q && ltb q m)) (sym e)))
 
 -- the pages in the tree of an index
 abbrev pub treePages : List ℕ → List ℕ
@@ -47,7 +47,7 @@ pages-taken b r s m q =
     let n = pagesWanted b r in
     let old = sound-whole b s .own q in
     let new = sound-whole (insertInto b r) (insert-sound b r s m) .own q in
-    let same : tick (inRange (insertInto b r) q) ≡ tick (inRange b q) = ap tick (range-same b (insertInto b r) q (insert-length b r s m)) in
+    let same : indicator (inRange (insertInto b r) q) ≡ indicator (inRange b q) = ap indicator (range-same b (insertInto b r) q (insert-length b r s m)) in
     let left : mult q (freeAt (insertInto b r)) ≡ mult q (drop n (freeAt b)) = ap (mult q) (insert-pages b r s m) in
     let both : mult q (freeAt b) ≡ mult q (take n (freeAt b)) + mult q (drop n (freeAt b)) = ap (mult q) (sym (take-append-drop n (freeAt b))) ∙ mult-append q (take n (freeAt b)) (drop n (freeAt b)) in
     omega arith
@@ -57,6 +57,6 @@ pub pages-given : (b : List ℕ) (i : ℕ) → SoundIndex b → 0 < mult i (map 
 pages-given b i s h q =
     let old = sound-whole b s .own q in
     let new = sound-whole (deleteIdent b i) (delete-sound b i s h) .own q in
-    let same : tick (inRange (deleteIdent b i) q) ≡ tick (inRange b q) = ap tick (range-same b (deleteIdent b i) q (delete-length b i s h)) in
+    let same : indicator (inRange (deleteIdent b i) q) ≡ indicator (inRange b q) = ap indicator (range-same b (deleteIdent b i) q (delete-length b i s h)) in
     let left : mult q (freeAt (deleteIdent b i)) ≡ mult q (pagesGiven b i) + mult q (freeAt b) = ap (mult q) (delete-pages b i s h) ∙ mult-append q (pagesGiven b i) (freeAt b) in
     omega arith

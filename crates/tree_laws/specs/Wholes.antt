@@ -4,11 +4,11 @@ use mathlib.Core.List.{List, _++_, map}
 use Prim.Native.Nat.{ℕ, zero, suc, _+_, _-_, _*_, _≤_}
 use native.Mathlib.Omega.{arith}
 use lib.ListN.{length}
-use Rattle.lists.specs.Basics.{tick, All, all-map, upFrom}
+use Rattle.lists.specs.Basics.{indicator, All, all-map, rangeFrom}
 use Rattle.lists.specs.Counts.{mult, mult-append}
-use Rattle.lists.specs.FlatLaws.{all-both, all-flat}
-use Rattle.lists.specs.Rising.{Rising, rising-of, ascending-of}
-use Rattle.lists.specs.Tests.{cases}
+use Rattle.lists.specs.ConcatMapLaws.{all-both, all-concatMap}
+use Rattle.lists.specs.AscendingBy.{AscendingBy, rising-of, ascending-of}
+use Rattle.lists.specs.Tests.{by-cases}
 use Rattle.pagestore.specs.declared.Record.{Record}
 use Rattle.pagestore.specs.Fits.{RecordFits}
 use Rattle.pagestore.specs.Store.{size, features, root, level, total, freed, fresh, fieldAt, inRange, leafAt, recordsIn, freedAt, freshAt, freeAt, View, viewOf}
@@ -29,8 +29,8 @@ pub record Whole (d : ℕ) (b : List ℕ) (l : ℕ) (t : Item (suc l)) : Type 0 
   pub held : Held d (suc l) b t
   pub ok : Root l t
   pub well : Well b
-  pub own : (q : ℕ) → mult q (pages (suc l) t) + mult q (freeAt b) ≡ tick (inRange b q)
-  pub order : Rising (rankOf d) (records (suc l) t)
+  pub own : (q : ℕ) → mult q (pages (suc l) t) + mult q (freeAt b) ≡ indicator (inRange b q)
+  pub order : AscendingBy (rankOf d) (records (suc l) t)
 
 -- the rest of soundness, of the records rs
 pub record Right (d : ℕ) (b : List ℕ) (rs : List Record) : Type 0 where
@@ -71,7 +71,7 @@ root-filled (suc l) t r = (r .some, r .most)
 
 pub root-fit : (l : ℕ) (t : Item (suc l)) → Root l t → All RecordFits (records (suc l) t)
 unfolding records
-root-fit l t r = all-flat (records l) (t .1) (all-map (records-fit l) (r .subs))
+root-fit l t r = all-concatMap (records l) (t .1) (all-map (records-fit l) (r .subs))
 
 -- THE VIEW
 
@@ -92,9 +92,9 @@ tree-page (suc l) v p = refl
 
 -- the never used pages of the view are the store's
 fresh-are : (b : List ℕ) → Well b → freshPages (viewOf b) ≡ freshAt b
-unfolding viewOf freshAt upFrom
+unfolding viewOf freshAt rangeFrom
 fresh-are b w =
-    cases (inRange b (fieldAt fresh b)) (λ e. rw e)
+    by-cases (inRange b (fieldAt fresh b)) (λ e. rw e)
     (λ e. rw (e, range-past b (fieldAt fresh b) (w .low) e))
 
 is-page : (b : List ℕ) (p : ℕ) → isPage (viewOf b) p ≡ inRange b p
@@ -119,7 +119,7 @@ sound-whole b s =
       held = h;
       ok = root-of (viewOf b .d) b (viewOf b .level) (treeOf (viewOf b)) h (s .rootFill) (s .fills);
       well = w;
-      own = λ q. sym (count-pages b w (pages (suc (viewOf b .level)) (treeOf (viewOf b))) q) ∙ s .once q ∙ ap tick (is-page b q);
+      own = λ q. sym (count-pages b w (pages (suc (viewOf b .level)) (treeOf (viewOf b))) q) ∙ s .once q ∙ ap indicator (is-page b q);
       order = rising-of (rankOf (viewOf b .d)) (live (viewOf b)) (s .order);
     }
 
@@ -185,7 +185,7 @@ sound-at b t w r =
       rep = held-rep b (suc (viewOf b .level)) (treeOf (viewOf b)) h;
       rootFill = root-filled (viewOf b .level) (treeOf (viewOf b)) o;
       fills = all-map (ok-filled (viewOf b .level)) (o .subs);
-      order = ascending-of (rankOf (viewOf b .d)) (subst (Rising (rankOf (viewOf b .d))) rs (w .order));
+      order = ascending-of (rankOf (viewOf b .d)) (subst (AscendingBy (rankOf (viewOf b .d))) rs (w .order));
       ranges = subst (All (RecordOk (viewOf b .d))) rs (r .ranges);
       distinct = λ i. subst (λ (z : List Record). mult i (map identOf z) ≤ 1) rs (r .distinct i);
       total = r .total-is ∙ ap (λ (z : List Record). length z) rs;
@@ -193,7 +193,7 @@ sound-at b t w r =
       chain = w .well .rest;
       fresh = (w .well .low, w .well .high);
       once = λ q. count-pages b (w .well) (pages (suc (viewOf b .level)) (treeOf (viewOf b))) q
-          ∙ ap (λ (u : Item (suc (viewOf b .level))). mult q (pages (suc (viewOf b .level)) u) + mult q (freeAt b)) (sym e) ∙ w .own q ∙ ap tick (sym (is-page b q));
+          ∙ ap (λ (u : Item (suc (viewOf b .level))). mult q (pages (suc (viewOf b .level)) u) + mult q (freeAt b)) (sym e) ∙ w .own q ∙ ap indicator (sym (is-page b q));
     }
 
 -- an index that holds a tree, with the rest right, is sound

@@ -5,7 +5,7 @@ use mathlib.Core.List.{List, _++_, map}
 use Prim.Native.Nat.{ℕ, zero, suc, _+_, _-_, _*_, _%_, _≤_}
 use lib.Dec.{ltb}
 use lib.ListN.{length, take}
-use Rattle.lists.specs.Basics.{All, tick, upFrom}
+use Rattle.lists.specs.Basics.{All, indicator, rangeFrom}
 use Rattle.lists.specs.Counts.{mult}
 use Rattle.lists.specs.Ascending.{Ascending}
 use Rattle.pagestore.specs.declared.Record.{Record}
@@ -24,7 +24,7 @@ isPage v p = ltb 0 p && ltb p (v .count)
 
 -- the pages never used
 abbrev pub freshPages : View → List ℕ
-freshPages v = upFrom (v .fresh) (v .count - v .fresh)
+freshPages v = rangeFrom (v .fresh) (v .count - v .fresh)
 
 -- the root holds 0 to 16 records or 2 to 16 children
 unfoldable pub RootFilled : (l : ℕ) → Item (suc l) → Type 0
@@ -58,7 +58,7 @@ pub record Sound (v : View) : Type 0 where
   pub chain : v .rest ≡ 0
   pub fresh : (1 ≤ v .fresh) × (v .fresh ≤ v .count)
   -- each page but the header is just once in the tree, freed or never used, and no other number is
-  pub once : (p : ℕ) → mult p (pages (suc (v .level)) (treeOf v) ++ (v .freed ++ freshPages v)) ≡ tick (isPage v p)
+  pub once : (p : ℕ) → mult p (pages (suc (v .level)) (treeOf v) ++ (v .freed ++ freshPages v)) ≡ indicator (isPage v p)
 
 -- a sound index, by its bytes
 abbrev pub SoundIndex : List ℕ → Type 0

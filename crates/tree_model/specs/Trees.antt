@@ -4,7 +4,7 @@ use mathlib.Core.List.{List, [], _∷_, map}
 use lib.IntN.{ℤ}
 use Prim.Native.Nat.{ℕ, zero, suc}
 use lib.ListN.{length, take}
-use Rattle.lists.specs.Basics.{All, flat}
+use Rattle.lists.specs.Basics.{All, concatMap}
 use Rattle.lists.specs.Ascending.{headOr, lastOr}
 use Rattle.geometry.specs.declared.Key.{Key}
 use Rattle.geometry.specs.Keys.{keyNumber}
@@ -51,17 +51,17 @@ Item (suc l) = ℕ × List (Item l)
 -- the records of an item, in order
 unfoldable pub records : (l : ℕ) → Item l → List Record
 records zero r = r ∷ []
-records (suc l) t = flat (records l) (t .1)
+records (suc l) t = concatMap (records l) (t .1)
 
 -- its pages
 unfoldable pub pages : (l : ℕ) → Item l → List ℕ
 pages zero r = []
-pages (suc l) t = t .0 ∷ flat (pages l) (t .1)
+pages (suc l) t = t .0 ∷ concatMap (pages l) (t .1)
 
 -- its leaves, each a page with its records; a leaf's position (01) is its place in this list
 unfoldable pub leaves : (l : ℕ) → Item (suc l) → List (Item 1)
 leaves zero t = t ∷ []
-leaves (suc l) t = flat (leaves l) (t .1)
+leaves (suc l) t = concatMap (leaves l) (t .1)
 
 -- an inner entry gives a child with its first and last key
 unfoldable pub entryOf : ℕ → (l : ℕ) → Item (suc l) → Entry

@@ -315,8 +315,8 @@ module _ {M : Type 1} (𝓤 : URA M) (H : Heap 𝓤) (A : Atoms 𝓤) (W : Given
             move ! (2 ∷ []) $ drop ! $ move ! (3 ∷ 1 ∷ 2 ∷ 0 ∷ []) $
             by ! (leaves (zs .0) (ts .0) len (record {
               same = refl;
-              filling = e₁ ∙ ap (λ (t : Bool). choice.pick t (filled (xd .now) (xg .now) (u .count) xs) xs) (sym (came test yes));
-              count = e₂ ∙ ap (λ (t : Bool). choice.pick t (counted h (u .leaves)) h) (sym (came test yes));
+              filling = e₁ ∙ ap (λ (t : Bool). choice.if t (filled (xd .now) (xg .now) (u .count) xs) xs) (sym (came test yes));
+              count = e₂ ∙ ap (λ (t : Bool). choice.if t (counted h (u .leaves)) h) (sym (came test yes));
             }))))))))))))))
             -- both are let go
             (λ no. skips ! $
@@ -325,8 +325,8 @@ module _ {M : Type 1} (𝓤 : URA M) (H : Heap 𝓤) (A : Atoms 𝓤) (W : Given
             move ! (3 ∷ 0 ∷ 4 ∷ 1 ∷ []) $
             by ! (leaves xs h refl (record {
               same = refl;
-              filling = ap (λ (t : Bool). choice.pick t (filled (xd .now) (xg .now) (u .count) xs) xs) (sym (went test no));
-              count = ap (λ (t : Bool). choice.pick t (counted h (u .leaves)) h) (sym (went test no));
+              filling = ap (λ (t : Bool). choice.if t (filled (xd .now) (xg .now) (u .count) xs) xs) (sym (went test no));
+              count = ap (λ (t : Bool). choice.if t (counted h (u .leaves)) h) (sym (went test no));
             })))
 
         passes : Sq W (Locals (‵ (froom rowsT l₁ 0)) (‵ (froom tallyT l₂ 0)) (‵ (froom N′.mir l₃ 0)) (‵ (froom distancesT l₄ 0)) (‵ (froom tagsT l₅ 0)) (‵ (froom tyBool l₆ 0)) (raw Entered ∷ []))

@@ -5,8 +5,8 @@ use mathlib.Core.List.{List, [], _∷_, _++_}
 use Prim.Native.Nat.{ℕ, zero, suc, _+_, _-_, _≤_, _<_}
 use native.Mathlib.Omega.{arith}
 use lib.ListN.{length, length-append}
-use Rattle.lists.specs.Basics.{length-up}
-use Rattle.lists.specs.Tests.{cases}
+use Rattle.lists.specs.Basics.{length-rangeFrom}
+use Rattle.lists.specs.Tests.{by-cases}
 use Rattle.pagestore.specs.Store.{Field, freed, fresh, fieldAt, inRange, pagesIn, linkAt, chain, freedAt, freshAt, freeAt}
 
 -- how many pages the chain still has from page p on, once n links have been followed
@@ -41,7 +41,7 @@ left-end b n p h = ap (λ (m : ℕ). length (chain m b p)) (let s : pagesIn b - 
 
 pub fresh-some : (b : List ℕ) → inRange b (fieldAt fresh b) ≡ true → length (freshAt b) ≡ pagesIn b - fieldAt fresh b
 unfolding freshAt
-fresh-some b e = rw e (length-up (fieldAt fresh b) (pagesIn b - fieldAt fresh b))
+fresh-some b e = rw e (length-rangeFrom (fieldAt fresh b) (pagesIn b - fieldAt fresh b))
 
 pub fresh-none : (b : List ℕ) → inRange b (fieldAt fresh b) ≡ false → length (freshAt b) ≡ 0
 unfolding freshAt
@@ -60,7 +60,7 @@ chain-most : (m : ℕ) (b : List ℕ) (p : ℕ) → length (chain m b p) ≤ m
 unfolding chain
 chain-most zero b p = omega arith
 chain-most (suc m) b p =
-    cases (inRange b p)
+    by-cases (inRange b p)
     (λ e. let r = chain-most m b (linkAt b p) in omega (arith, chain-next m b p e))
     (λ e. omega (arith, chain-none (suc m) b p e))
 
@@ -69,7 +69,7 @@ unfolding freedAt
 freed-most b = omega (arith, chain-most (pagesIn b) b (fieldAt freed b), pages-most b)
 
 pub fresh-most : (b : List ℕ) → length (freshAt b) ≤ 16384
-fresh-most b = cases (inRange b (fieldAt fresh b)) (λ e. omega (arith, fresh-some b e, pages-most b)) (λ e. omega (arith, fresh-none b e))
+fresh-most b = by-cases (inRange b (fieldAt fresh b)) (λ e. omega (arith, fresh-some b e, pages-most b)) (λ e. omega (arith, fresh-none b e))
 
 -- ---- THE WALK ALONG THE CHAIN, over the values of the code
 

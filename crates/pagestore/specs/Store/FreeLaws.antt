@@ -9,8 +9,9 @@ use native.Mathlib.Omega.{arith}
 use lib.Dec.{ltb, eqb}
 use lib.ListN.{length, getD, drop}
 use borrow.Author.Tests.{eqb-true, eqb-false, ltb-true, ltb-false}
-use Rattle.lists.specs.Basics.{All, none, also, upFrom, all-append, all-map}
-use Rattle.lists.specs.Counts.{mult, by-cases, mult-append, mult-more, mult-self, mult-not, pigeons}
+use Rattle.lists.specs.Basics.{All, none, also, rangeFrom, all-append, all-map}
+use Rattle.lists.specs.Counts.{mult, mult-append, mult-more, mult-self, mult-not, pigeons, mult-none}
+use Rattle.lists.specs.Tests.{by-cases}
 use Rattle.pagestore.specs.Store.{pagesIn, inRange, linkAt, Page, setPage, Field, Apart, fieldAt, setField, freed, fresh, chain, chainEnd, freedAt, restAt, freshAt, freeAt, pageTaken, takePage, setLink, freePage}
 use Rattle.pagestore.specs.Store.RangeLaws.{range-low, range-high, range-past, range-fits, range-whole, range-is, range-zero, range-same, pages-same}
 use Rattle.pagestore.specs.Store.PageLaws.{SamePage, same-refl, same-trans, page-other, page-field, field-page, field-same, field-other, field-fits, field-link, link-same, link-other, link-fits, length-set-page, length-set-field, length-set-link}
@@ -149,8 +150,8 @@ pub freed-range : (b : List ℕ) → All (λ q. inRange b q ≡ true) (freedAt b
 unfolding freedAt
 freed-range b = chain-range (pagesIn b) b (fieldAt freed b)
 
-up-range : (b : List ℕ) (a n : ℕ) → 0 < a → a + n ≤ pagesIn b → All (λ q. inRange b q ≡ true) (upFrom a n)
-unfolding upFrom
+up-range : (b : List ℕ) (a n : ℕ) → 0 < a → a + n ≤ pagesIn b → All (λ q. inRange b q ≡ true) (rangeFrom a n)
+unfolding rangeFrom
 up-range b a zero l h = none
 up-range b a (suc n) l h = also (range-is b a l (omega arith)) (up-range b (suc a) n (omega arith) (omega arith))
 
@@ -235,8 +236,8 @@ end-some : (n : ℕ) (b : List ℕ) (p : ℕ) → 0 < n → inRange b p ≡ true
 end-some zero b p l h = absurd (omega arith)
 end-some (suc n) b p l h = let e : suc n - 1 ≡ n = omega arith in rw e (end-in n b p h)
 
-up-some : (a n : ℕ) → 0 < n → upFrom a n ≡ a ∷ upFrom (a + 1) (n - 1)
-unfolding upFrom
+up-some : (a n : ℕ) → 0 < n → rangeFrom a n ≡ a ∷ rangeFrom (a + 1) (n - 1)
+unfolding rangeFrom
 up-some a zero h = absurd (omega arith)
 up-some a (suc n) h = let e : suc n - 1 ≡ n = omega arith in rw (e, add-one a)
 
@@ -335,10 +336,6 @@ none-freed : (b : List ℕ) → inRange b (fieldAt freed b) ≡ false → freedA
 unfolding freedAt
 none-freed b h = chain-out (pagesIn b) b (fieldAt freed b) h
 
-none-counted : (q : ℕ) → mult q [] ≡ 0
-unfolding mult
-none-counted q = refl
-
 -- no page is free
 no-free : (b : List ℕ) → inRange b (fieldAt freed b) ≡ false → inRange b (fieldAt fresh b) ≡ false → freeAt b ≡ []
 unfolding freeAt freedAt freshAt
@@ -369,12 +366,12 @@ module _ (b : List ℕ) (h : inRange b (fieldAt freed b) ≡ false) (g : inRange
   open-rest = end-out (pagesIn opened) opened (fieldAt freed opened) open-none ∙ open-head ∙ sym (end-out (pagesIn b) b (fieldAt freed b) h)
 
   open-fresh : freshAt opened ≡ drop 1 (freshAt b)
-  unfolding freshAt upFrom
+  unfolding freshAt rangeFrom
   open-fresh =
       let a : ℕ = fieldAt fresh b in
       let n : ℕ = pagesIn b in
       let l : fieldAt fresh b < pagesIn b = range-high b (fieldAt fresh b) g in
-      let u : upFrom (fieldAt fresh b) (pagesIn b - fieldAt fresh b) ≡ a ∷ upFrom (a + 1) (n - a - 1) = up-some a (n - a) (omega arith) in
+      let u : rangeFrom (fieldAt fresh b) (pagesIn b - fieldAt fresh b) ≡ a ∷ rangeFrom (a + 1) (n - a - 1) = up-some a (n - a) (omega arith) in
       let m : n - a - 1 ≡ n - (a + 1) = omega arith in
       rw (open-next, range-same b opened (fieldAt fresh b + 1) open-length, pages-same b opened open-length, g, u, m)
       (by-cases (inRange b (fieldAt fresh b + 1)) (λ t. rw t)
@@ -412,7 +409,7 @@ pub taken-gone : (b : List ℕ) → restAt b ≡ 0 → mult (pageTaken b) (freed
 unfolding pageTaken takePage popped opened
 taken-gone b e =
     by-cases (inRange b (fieldAt freed b)) (λ h. rw (h, pop-freed b e h) (pop-gone b e h))
-    (λ h. rw h (by-cases (inRange b (fieldAt fresh b)) (λ g. rw (g, none-freed (setField fresh b (fieldAt fresh b + 1)) (open-none b h g)) (none-counted (fieldAt fresh b))) (λ g. rw (g, none-freed b h) (none-counted 0))))
+    (λ h. rw h (by-cases (inRange b (fieldAt fresh b)) (λ g. rw (g, none-freed (setField fresh b (fieldAt fresh b + 1)) (open-none b h g)) (mult-none (fieldAt fresh b))) (λ g. rw (g, none-freed b h) (mult-none 0))))
 
 -- ---- FREEING A PAGE
 

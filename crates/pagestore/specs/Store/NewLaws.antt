@@ -9,8 +9,9 @@ use lib.Dec.{leb}
 use lib.ListN.{length, getD, drop, take, replicate, length-append, length-replicate, length-take, length-drop, getD-replicate, List·getD-append}
 use lib.Seq.{getD-drop, drop-at, drop-drop}
 use borrow.Author.Tests.{leb-true}
-use Rattle.lists.specs.Basics.{none, upFrom, tick}
-use Rattle.lists.specs.Counts.{by-cases, mult, mult-self, mult-not, up-below, up-past, up-within}
+use Rattle.lists.specs.Basics.{none, rangeFrom, indicator}
+use Rattle.lists.specs.Counts.{mult, mult-self, mult-not, rangeFrom-below, rangeFrom-past, rangeFrom-within}
+use Rattle.lists.specs.Tests.{by-cases}
 use Rattle.pagestore.specs.Bytes.{leAt, leBytes}
 use Rattle.pagestore.specs.ByteLaws.{length-le, put-drop}
 use Rattle.pagestore.specs.Layout.{leafBytes}
@@ -98,15 +99,15 @@ chain-none (suc n) b = (rw (range-zero b), rw (range-zero b))
 
 -- ---- THE NEW INDEX
 
-once-from : (b : List ℕ) → 2 ≤ pagesIn b → (q : ℕ) → mult q (1 ∷ upFrom 2 (pagesIn b - 2)) ≡ tick (inRange b q)
-once-from b h zero = rw (range-zero b) (mult-not 0 1 (upFrom 2 (pagesIn b - 2)) (λ (e : 0 ≡ 1). omega arith) ∙ up-below 0 2 (pagesIn b - 2) (omega arith))
+once-from : (b : List ℕ) → 2 ≤ pagesIn b → (q : ℕ) → mult q (1 ∷ rangeFrom 2 (pagesIn b - 2)) ≡ indicator (inRange b q)
+once-from b h zero = rw (range-zero b) (mult-not 0 1 (rangeFrom 2 (pagesIn b - 2)) (λ (e : 0 ≡ 1). omega arith) ∙ rangeFrom-below 0 2 (pagesIn b - 2) (omega arith))
 once-from b h (suc zero) =
-    rw (range-is b 1 (omega arith) h) (omega (arith, mult-self 1 (upFrom 2 (pagesIn b - 2)), up-below 1 2 (pagesIn b - 2) (omega arith)))
+    rw (range-is b 1 (omega arith) h) (omega (arith, mult-self 1 (rangeFrom 2 (pagesIn b - 2)), rangeFrom-below 1 2 (pagesIn b - 2) (omega arith)))
 once-from b h (suc (suc q)) =
-    mult-not (suc (suc q)) 1 (upFrom 2 (pagesIn b - 2)) (λ (e : suc (suc q) ≡ 1). omega arith)
+    mult-not (suc (suc q)) 1 (rangeFrom 2 (pagesIn b - 2)) (λ (e : suc (suc q) ≡ 1). omega arith)
     ∙ by-cases (inRange b (suc (suc q)))
-    (λ t. rw t (up-within (suc (suc q)) 2 (pagesIn b - 2) (omega arith) (omega (arith, range-high b (suc (suc q)) t))))
-    (λ t. rw t (up-past (suc (suc q)) 2 (pagesIn b - 2) (omega (arith, range-past b (suc (suc q)) (omega arith) t))))
+    (λ t. rw t (rangeFrom-within (suc (suc q)) 2 (pagesIn b - 2) (omega arith) (omega (arith, range-high b (suc (suc q)) t))))
+    (λ t. rw t (rangeFrom-past (suc (suc q)) 2 (pagesIn b - 2) (omega (arith, range-past b (suc (suc q)) (omega arith) t))))
 
 -- c is a new index for d features in the bytes of b
 pub record New (b : List ℕ) (d : ℕ) (c : List ℕ) : Type 0 where
@@ -118,7 +119,7 @@ pub record New (b : List ℕ) (d : ℕ) (c : List ℕ) : Type 0 where
   pub freed : fieldAt freed c ≡ 0
   pub fresh : fieldAt fresh c ≡ 2
   pub page : pageAt c 1 ≡ leaf 0 []
-  pub free : freeAt c ≡ upFrom 2 (pagesIn b - 2)
+  pub free : freeAt c ≡ rangeFrom 2 (pagesIn b - 2)
   pub rest : restAt c ≡ 0
   pub other : (q : ℕ) → q ≢ 1 → SamePage b c q
   pub bytes : drop 2048 c ≡ drop 2048 b
@@ -218,8 +219,8 @@ module _ (b : List ℕ) (d : ℕ) where
     unfolding restAt
     rest-new = rw freed-new (chain-none (pagesIn (newIndex b d)) (newIndex b d) .1)
 
-    free-new : freeAt (newIndex b d) ≡ upFrom 2 (pagesIn b - 2)
-    unfolding freeAt freedAt freshAt upFrom
+    free-new : freeAt (newIndex b d) ≡ rangeFrom 2 (pagesIn b - 2)
+    unfolding freeAt freedAt freshAt rangeFrom
     free-new = rw (freed-new, fresh-new, chain-none (pagesIn (newIndex b d)) (newIndex b d) .0, range-same b (newIndex b d) 2 length-new, pages-new)
         (by-cases (inRange b 2) (λ t. rw t) (λ t. rw (t, range-past b 2 (omega arith) t)))
 
@@ -242,5 +243,5 @@ module _ (b : List ℕ) (d : ℕ) where
     }
 
     -- each page but the header is just once the root or free
-    pub new-once : (q : ℕ) → mult q (1 ∷ freeAt (newIndex b d)) ≡ tick (inRange b q)
+    pub new-once : (q : ℕ) → mult q (1 ∷ freeAt (newIndex b d)) ≡ indicator (inRange b q)
     new-once q = rw free-new (once-from b h q)

@@ -10,8 +10,8 @@ use lib.Dec.{leb}
 use lib.ListN.{length, take, drop, length-take, getD}
 use borrow.Author.Tests.{le-leb, eqb-false}
 use Rattle.lists.specs.Basics.{All}
-use Rattle.lists.specs.Counts.{by-cases}
-use Rattle.lists.specs.Runs.{all-take}
+use Rattle.lists.specs.Tabulated.{all-take}
+use Rattle.lists.specs.Tests.{by-cases}
 use Rattle.pagestore.specs.Bytes.{byteAt, leBytes, put}
 use Rattle.pagestore.specs.ByteLaws.{le-fits, length-le, le-ext, le-at, length-put, put-other, put-there}
 use Rattle.pagestore.specs.Layout.{leafOf, innerOf, linkOf, leafBytes, innerBytes, freedBytes}

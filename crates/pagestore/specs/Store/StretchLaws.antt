@@ -9,7 +9,7 @@ use lib.Dec.{leb}
 use lib.ListN.{length, getD, take, drop, replicate, length-append, length-take, length-drop, List·getD-append}
 use lib.Seq.{take-at, drop-at, length-take-le, getD-take, getD-drop, getD-append-add, ext-getD}
 use borrow.Author.Tests.{leb-true, leb-false, le-leb, lt-leb}
-use Rattle.lists.specs.Counts.{by-cases}
+use Rattle.lists.specs.Tests.{by-cases}
 use Rattle.pagestore.specs.Bytes.{byteAt, leAt, leBytes, put}
 use Rattle.pagestore.specs.ByteLaws.{le-ext}
 use Rattle.pagestore.specs.Layout.{leafOf, innerOf, linkOf, leafBytes, innerBytes, freedBytes}

@@ -2,11 +2,11 @@
 use mathlib.Core.Path.{_∙_}
 use denote.Ref.{now}
 use lib.ListN.{length}
-use Rattle.pagestore.proofs.CodeLaws.{unmapped}
 use Rattle.search.specs.Asked.{asking}
 use Rattle.search.proofs.AnswerLaws.{level-low, answer-some, searched}
 use Rattle.search.proofs.AskedLaws.{preparable}
 use borrow.Author.Needs.{needs}
+use Rattle.lists.specs.Lengths.{unmapped}
 use Rattle.search.proofs.search_with.Statement.{statement}
 use Rattle.search.proofs.search_with.Tie as tie
 

@@ -1,22 +1,22 @@
--- `chain` puts the identifier at the head of its lane and links it to what stood there.
+-- `chain` puts the identifier at the head of its bucket and links it to what stood there.
 use mathlib.Core.Path.{_≡_, _∙_}
 use lib.ListN.{getD}
-use Rattle.sound_repeats.specs.Lanes.{laneOf, latest}
-use Rattle.sound_repeats.proofs.LanesLaws.{heads-more, chained-more}
+use Rattle.sound_repeats.specs.Buckets.{bucketOf, latest}
+use Rattle.sound_repeats.proofs.BucketLaws.{heads-more, chained-more}
 use native.Mathlib.Omega.{arith}
 use denote.Ref.{now}
 use borrow.Author.Needs.{needs}
 use Rattle.sound_repeats.proofs.chain.Statement.{statement}
 use Rattle.sound_repeats.proofs.chain.Tie as tie
 
-mul-lane : tie.Need-mul-lane
-mul-lane c = search needs
+mul-bucket : tie.Need-mul-bucket
+mul-bucket c = search needs
 
-shared-slice-read-lane : tie.Need-shared-slice-read-lane
-shared-slice-read-lane c = search needs
+shared-slice-read-bucket : tie.Need-shared-slice-read-bucket
+shared-slice-read-bucket c = search needs
 
-lane-requires : tie.Need-lane-requires
-lane-requires c κs = search needs
+bucket-requires : tie.Need-bucket-requires
+bucket-requires c κs = search needs
 
 mul-before : tie.Need-mul-before
 mul-before c = search needs
@@ -55,8 +55,8 @@ returns : tie.Need-returns
 returns c =
     let st = (c .before .before .before .before .before .before .before .before) in
     let ids = now (st .args .ids) in
-    let g : c .before .before .before .lane .result ≡ laneOf (getD ids (st .args .i) 0) = c .before .before .before .lane .ensures in
-    let l : getD (now (st .args .head)) (laneOf (getD ids (st .args .i) 0)) 0 ≡ latest ids (laneOf (getD ids (st .args .i) 0)) (st .args .i) = st .pre .2 .last (laneOf (getD ids (st .args .i) 0)) (omega arith) in (
+    let g : c .before .before .before .bucket .result ≡ bucketOf (getD ids (st .args .i) 0) = c .before .before .before .bucket .ensures in
+    let l : getD (now (st .args .head)) (bucketOf (getD ids (st .args .i) 0)) 0 ≡ latest ids (bucketOf (getD ids (st .args .i) 0)) (st .args .i) = st .pre .2 .last (bucketOf (getD ids (st .args .i) 0)) (omega arith) in (
       c .wide .ensures ∙ rw g l,
       rw (g, c .before .narrow .ensures) (heads-more ids (st .args .i) (now (st .args .head)) (omega arith) (st .pre .2)),
       rw (g, l) (chained-more ids (st .args .i) (now (st .args .next)) (omega arith) (st .pre .3)),
@@ -66,9 +66,9 @@ pub chain-spec : {M : Type 1} → statement M
 chain-spec =
     tie.close
     (tie.spec
-    mul-lane
-    shared-slice-read-lane
-    lane-requires
+    mul-bucket
+    shared-slice-read-bucket
+    bucket-requires
     mul-before
     slice-read-before
     mul-next

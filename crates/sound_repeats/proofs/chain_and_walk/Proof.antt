@@ -1,5 +1,5 @@
 -- `chain_and_walk` hands what `chains` made to `walks`.
-use Rattle.sound_repeats.proofs.LanesLaws.{room-kept}
+use Rattle.sound_repeats.proofs.BucketLaws.{room-kept}
 use borrow.Author.Needs.{needs}
 use Rattle.sound_repeats.proofs.chain_and_walk.Statement.{statement}
 use Rattle.sound_repeats.proofs.chain_and_walk.Tie as tie

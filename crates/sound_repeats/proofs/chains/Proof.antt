@@ -2,8 +2,8 @@
 use Prim.Native.Nat.{_-_, _≤_}
 use mathlib.Core.Path.{_≡_, refl, _∙_}
 use lib.ListN.{length}
-use Rattle.sound_repeats.specs.Lanes.{Heads, Chained}
-use Rattle.sound_repeats.proofs.LanesLaws.{heads-none, chained-none, room-kept}
+use Rattle.sound_repeats.specs.Buckets.{Heads, Chained}
+use Rattle.sound_repeats.proofs.BucketLaws.{heads-none, chained-none, room-kept}
 use native.Mathlib.Omega.{arith}
 use denote.Ref.{now}
 use Rattle.sound_repeats.proofs.chains.Statement.{statement}

@@ -4,8 +4,8 @@ use mathlib.Core.Bool.{true, false}
 use mathlib.Core.Path.{_≡_, refl, _∙_}
 use lib.ListN.{length}
 use Rattle.lists.specs.Tests.{false-true}
-use Rattle.sound_repeats.specs.Lanes.{Heads, Chained, Sofar}
-use Rattle.sound_repeats.proofs.LanesLaws.{heads-none, chained-none, chained-less, room-kept, sofar-none, compared-more, compared}
+use Rattle.sound_repeats.specs.Buckets.{Heads, Chained, Sofar}
+use Rattle.sound_repeats.proofs.BucketLaws.{heads-none, chained-none, chained-less, room-kept, sofar-none, compared-more, compared}
 use native.Mathlib.Omega.{arith}
 use denote.Ref.{now}
 use Rattle.sound_repeats.proofs.compare.Statement.{statement}

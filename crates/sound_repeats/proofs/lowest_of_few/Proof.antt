@@ -1,6 +1,6 @@
 -- `lowest_of_few` makes blank arrays for at most 16,384 identifiers.
 use mathlib.Core.Path.{refl}
-use Rattle.sound_repeats.proofs.LanesLaws.{blank, room}
+use Rattle.sound_repeats.proofs.BucketLaws.{blank, room}
 use native.Mathlib.Omega.{arith}
 use borrow.Author.Needs.{needs}
 use Rattle.sound_repeats.proofs.lowest_of_few.Statement.{statement}

@@ -1,6 +1,6 @@
 -- `lowest_of_many` makes blank arrays for at most 65,535 identifiers.
 use mathlib.Core.Path.{refl, sym}
-use Rattle.sound_repeats.proofs.LanesLaws.{blank, long, room}
+use Rattle.sound_repeats.proofs.BucketLaws.{blank, long, room}
 use borrow.Author.Needs.{needs}
 use Rattle.sound_repeats.proofs.lowest_of_many.Statement.{statement}
 use Rattle.sound_repeats.proofs.lowest_of_many.Tie as tie

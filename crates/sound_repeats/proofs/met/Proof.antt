@@ -1,7 +1,7 @@
 -- `met` is `metOf`.
 use mathlib.Core.Path.{ap, _∙_}
 use Rattle.sound_repeats.specs.Repeats.{lowerPage}
-use Rattle.sound_repeats.proofs.LanesLaws.{met-none, met-apart, met-same}
+use Rattle.sound_repeats.proofs.BucketLaws.{met-none, met-apart, met-same}
 use native.Mathlib.Omega.{arith}
 use denote.Ref.{now}
 use borrow.Author.Needs.{needs}

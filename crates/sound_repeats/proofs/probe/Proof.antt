@@ -2,7 +2,7 @@
 use Prim.Native.Nat.{suc, _-_}
 use mathlib.Core.Path.{_≡_, refl, _∙_}
 use lib.ListN.{getD}
-use Rattle.sound_repeats.proofs.LanesLaws.{Probing, probing-start, probing-more, probed-found, probed-past, probed-none, link-le}
+use Rattle.sound_repeats.proofs.BucketLaws.{Probing, probing-start, probing-more, probed-found, probed-past, probed-none, link-le}
 use native.Mathlib.Omega.{arith}
 use denote.Ref.{now}
 use Rattle.sound_repeats.proofs.probe.Statement.{statement}

@@ -1,8 +1,8 @@
--- `walk` meets the identifiers of one lane, last to first. The loop's invariant is `Walking`.
+-- `walk` meets the identifiers of one bucket, last to first. The loop's invariant is `Walking`.
 use Prim.Native.Nat.{suc, _-_}
 use mathlib.Core.Path.{_≡_, refl, _∙_}
 use lib.ListN.{length, length-set}
-use Rattle.sound_repeats.proofs.LanesLaws.{Walking, walking-start, walking-more, walking-done, stamps-le, link-le}
+use Rattle.sound_repeats.proofs.BucketLaws.{Walking, walking-start, walking-more, walking-done, stamps-le, link-le}
 use native.Mathlib.Omega.{arith}
 use denote.Ref.{now}
 use Rattle.sound_repeats.proofs.walk.Statement.{statement}

@@ -1,9 +1,9 @@
--- `walks` walks the lanes 0, 1, .. 16,383.
+-- `walks` walks the buckets 0, 1, .. 16,383.
 use Prim.Native.Nat.{_-_, _≤_}
 use mathlib.Core.Path.{_≡_, refl, _∙_}
 use lib.ListN.{length}
-use Rattle.sound_repeats.specs.Lanes.{Stage}
-use Rattle.sound_repeats.proofs.LanesLaws.{stage-none, stage-all}
+use Rattle.sound_repeats.specs.Buckets.{Stage}
+use Rattle.sound_repeats.proofs.BucketLaws.{stage-none, stage-all}
 use native.Mathlib.Omega.{arith}
 use denote.Ref.{now}
 use Rattle.sound_repeats.proofs.walks.Statement.{statement}

@@ -3,9 +3,9 @@ use mathlib.Core.Path.{_≡_, sym}
 use native.Mathlib.Omega.{arith}
 use lib.ListN.{length, take}
 use lib.Seq.{length-take-le}
-use Rattle.pagestore.proofs.CodeLaws.{unmapped}
 use Rattle.acts_step.proofs.ActLaws.{does-insert, does-delete, does-question}
 use borrow.Author.Needs.{needs}
+use Rattle.lists.specs.Lengths.{unmapped}
 use Rattle.acts_step.proofs.acting.do_act.Statement.{statement}
 use Rattle.acts_step.proofs.acting.do_act.Tie as tie
 

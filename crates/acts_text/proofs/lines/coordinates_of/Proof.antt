@@ -3,8 +3,8 @@ use mir.Facts.{toZ-ofZ}
 use mir.Val.{toZ, ofZ}
 use mir.Syntax.{w16}
 use mathlib.Core.Path.{_∙_, _≡_, refl}
-use Rattle.lists.specs.Basics.{run}
-use Rattle.lists.specs.Runs.{run-more, run-done}
+use Rattle.lists.specs.Basics.{tabulate}
+use Rattle.lists.specs.Tabulated.{tabulate-more, tabulate-done}
 use Rattle.acts_text.specs.Fields.{ofBits}
 use Rattle.acts_text.specs.Lines.{coordinates}
 use lib.ListN.{length, take, getD}
@@ -20,13 +20,13 @@ abbrev coordinate : List ℕ → ℕ → ℤ
 coordinate v m = ofBits (getD v (3 + m) 0)
 
 abbrev Inv-loop : tie.InvT-loop
-Inv-loop v c₀ i₀ c i = (i ≤ 16) × (length c ≡ 16) × (take i c ≡ run i (coordinate v))
+Inv-loop v c₀ i₀ c i = (i ≤ 16) × (length c ≡ 16) × (take i c ≡ tabulate i (coordinate v))
 
 abbrev μ-loop : tie.MeasureT-loop
 μ-loop v c₀ i₀ c i = 16 - i
 
 loop-holds : tie.Need-loop-holds Inv-loop μ-loop
-unfolding run
+unfolding tabulate
 loop-holds c = (omega arith, refl, refl)
 
 add-of-bits : tie.Need-add-of-bits Inv-loop μ-loop
@@ -54,11 +54,11 @@ loop-less : tie.Need-loop-less Inv-loop μ-loop
 loop-less c = search needs
 
 loop-again : tie.Need-loop-again Inv-loop μ-loop
-loop-again c = let p = c .before .before .before .loop in let h : p .i < length (p .c) = search needs in (search needs, search needs, run-more (coordinate (c .before .before .before .before .before .args .v .now)) (p .c) (p .i) (toZ w16 (ofZ w16 (c .of-bits .result))) h (p .inv .2) (toZ-ofZ {w = w16} {z = c .of-bits .result} (record { sfits = c .of-bits .ok }) ∙ c .of-bits .ensures))
+loop-again c = let p = c .before .before .before .loop in let h : p .i < length (p .c) = search needs in (search needs, search needs, tabulate-more (coordinate (c .before .before .before .before .before .args .v .now)) (p .c) (p .i) (toZ w16 (ofZ w16 (c .of-bits .result))) h (p .inv .2) (toZ-ofZ {w = w16} {z = c .of-bits .result} (record { sfits = c .of-bits .ok }) ∙ c .of-bits .ensures))
 
 returns : tie.Need-returns Inv-loop μ-loop
 unfolding coordinates
-returns c = let p = c .before .loop in run-done (coordinate (c .before .before .before .args .v .now)) 16 (p .c) (p .i) (p .inv .0) (c .loop-test .left) (p .inv .1) (p .inv .2)
+returns c = let p = c .before .loop in tabulate-done (coordinate (c .before .before .before .args .v .now)) 16 (p .c) (p .i) (p .inv .0) (c .loop-test .left) (p .inv .1) (p .inv .2)
 
 pub coordinates-of-spec : {M : Type 1} → statement M
 coordinates-of-spec =

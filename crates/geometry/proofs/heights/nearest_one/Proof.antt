@@ -5,7 +5,7 @@ use mathlib.Core.Path.{ap, _∙_}
 use Prim.Native.Nat.{ℕ}
 use lib.Dec.{eqb}
 use lib.ListN.{getD, replicate}
-use Rattle.lists.specs.Basics.{pick}
+use Rattle.lists.specs.Basics.{if}
 use Rattle.geometry.proofs.OneLaws.{one-nearest}
 use Rattle.geometry.proofs.heights.nearest_one.Statement.{statement}
 use Rattle.geometry.proofs.heights.nearest_one.Tie as tie
@@ -40,8 +40,8 @@ array-write-heights-2 c = search needs
 returns : tie.Need-returns
 returns c =
     let a = c .before .before .before .before .before .before .before .before .args in let p = c .before .before .before .before .before .before .before .before .pre in
-    let u = c .before .before .before .reached .ensures ∙ ap (λ (x : ℕ). pick (eqb (getD (a .asked .now) 32 0) 0) 0 x) (c .before .before .before .before .above .ensures) in
-    let v = c .reached2 .ensures ∙ ap (λ (x : ℕ). pick (eqb (getD (a .asked .now) 32 0) 0) 0 x) (c .before .above2 .ensures) in
+    let u = c .before .before .before .reached .ensures ∙ ap (λ (x : ℕ). if (eqb (getD (a .asked .now) 32 0) 0) 0 x) (c .before .before .before .before .above .ensures) in
+    let v = c .reached2 .ensures ∙ ap (λ (x : ℕ). if (eqb (getD (a .asked .now) 32 0) 0) 0 x) (c .before .above2 .ensures) in
     (one-nearest (a .asked .now) (replicate 32 0) _ _ (p .0) (p .1) (omega arith) u v, omega arith)
 
 pub nearest-one-spec : {M : Type 1} → statement M

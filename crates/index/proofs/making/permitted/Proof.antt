@@ -3,7 +3,7 @@ use native.Mathlib.Omega.{arith}
 use borrow.Author.Tests.{eqb-true, eqb-false}
 use lib.Dec.{eqb}
 use Prim.Native.Nat.{_%_}
-use Rattle.lists.specs.Tests.{cases}
+use Rattle.lists.specs.Tests.{by-cases}
 use Rattle.tree_model.specs.Sound.{Permitted}
 use Rattle.index.specs.Outcomes.{holds, fails}
 use Rattle.index.proofs.making.permitted.Statement.{statement}
@@ -18,7 +18,7 @@ returns-2 c = fails (λ (h : Permitted (c .before .before .args .bytes)). omega 
 returns-3 : tie.Need-returns-3
 returns-3 c =
     let n = c .before .before .args .bytes in
-    cases (eqb (n % 1024) 0)
+    by-cases (eqb (n % 1024) 0)
     (λ e. rw e (holds (record { whole = eqb-true (n % 1024) 0 e; low = omega arith; high = omega arith })))
     (λ e. rw e (fails (λ (h : Permitted n). eqb-false (n % 1024) 0 e (h .whole))))
 

@@ -4,10 +4,10 @@ use native.Mathlib.Omega.{arith}
 use denote.Ref.{now}
 use lib.ListN.{length, length-take}
 use lib.Seq.{length-take-le}
-use Rattle.pagestore.proofs.CodeLaws.{unmapped}
 use Rattle.index.specs.Asking.{questionOf}
 use Rattle.index.specs.PointLaws.{query-for}
 use borrow.Author.Needs.{needs}
+use Rattle.lists.specs.Lengths.{unmapped}
 use Rattle.index.proofs.querying.query_of.Statement.{statement}
 use Rattle.index.proofs.querying.query_of.Tie as tie
 

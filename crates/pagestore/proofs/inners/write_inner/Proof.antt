@@ -1,11 +1,12 @@
-use Rattle.pagestore.proofs.CodeLaws.{unmapped, entries-put, inner-put}
+use Rattle.pagestore.proofs.CodeLaws.{entries-put, inner-put}
 use mathlib.Core.Path.{_≡_, refl, sym, _∙_}
 use Prim.Native.Nat.{_≤_, _-_}
 use native.Mathlib.Omega.{arith}
 use lib.ListN.{length, getD}
-use Rattle.lists.specs.Basics.{run, flat}
+use Rattle.lists.specs.Basics.{tabulate, concatMap}
+use Rattle.lists.specs.Lengths.{unmapped}
 use Rattle.pagestore.specs.Bytes.{put}
-use Rattle.pagestore.specs.ByteLaws.{flat-next}
+use Rattle.pagestore.specs.ByteLaws.{concatMap-next}
 use Rattle.pagestore.specs.Layout.{entryBytes}
 use Rattle.pagestore.specs.LayoutLaws.{length-entry, noEntry}
 use borrow.Author.Needs.{needs}
@@ -13,7 +14,7 @@ use Rattle.pagestore.proofs.inners.write_inner.Statement.{statement}
 use Rattle.pagestore.proofs.inners.write_inner.Tie as tie
 
 abbrev Inv-loop : tie.InvT-loop
-Inv-loop page₀ inner n i₀ page i = (i ≤ n) × (length page ≡ 1024) × (page ≡ put page₀ 4 (flat entryBytes (run i (λ k. getD (inner .entries) k noEntry))))
+Inv-loop page₀ inner n i₀ page i = (i ≤ n) × (length page ≡ 1024) × (page ≡ put page₀ 4 (concatMap entryBytes (tabulate i (λ k. getD (inner .entries) k noEntry))))
 
 abbrev μ-loop : tie.MeasureT-loop
 μ-loop page₀ inner n i₀ page i = n - i
@@ -25,7 +26,7 @@ put-head-requires : tie.Need-put-head-requires Inv-loop μ-loop
 put-head-requires c κs = search needs
 
 loop-holds : tie.Need-loop-holds Inv-loop μ-loop
-unfolding flat run put
+unfolding concatMap tabulate put
 loop-holds c = search needs
 
 mul-put-entry : tie.Need-mul-put-entry Inv-loop μ-loop
@@ -50,7 +51,7 @@ loop-less : tie.Need-loop-less Inv-loop μ-loop
 loop-less c = search needs
 
 loop-again : tie.Need-loop-again Inv-loop μ-loop
-loop-again c = let L = c .before .before .before .before .before .before .loop in (search needs, search needs, flat-next entryBytes 20 length-entry _ _ _ (L .i) _ _ _ _ refl refl (L .inv .2) (c .before .before .put-entry .ensures))
+loop-again c = let L = c .before .before .before .before .before .before .loop in (search needs, search needs, concatMap-next entryBytes 20 length-entry _ _ _ (L .i) _ _ _ _ refl refl (L .inv .2) (c .before .before .put-entry .ensures))
 
 mul-at : tie.Need-mul-at Inv-loop μ-loop
 mul-at c = search needs

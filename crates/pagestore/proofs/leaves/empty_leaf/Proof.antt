@@ -1,6 +1,6 @@
 use Rattle.pagestore.specs.Layout.{recordAt, leafOf}
 use Rattle.pagestore.specs.Bytes.{leAt}
-use Rattle.lists.specs.Basics.{run}
+use Rattle.lists.specs.Basics.{tabulate}
 use borrow.Author.Needs.{needs}
 use Rattle.pagestore.proofs.leaves.empty_leaf.Statement.{statement}
 use Rattle.pagestore.proofs.leaves.empty_leaf.Tie as tie
@@ -9,7 +9,7 @@ no-record-requires : tie.Need-no-record-requires
 no-record-requires c κs = search needs
 
 returns : tie.Need-returns
-unfolding leafOf recordAt leAt run
+unfolding leafOf recordAt leAt tabulate
 returns c = rw (c .no-record .ensures)
 
 pub empty-leaf-spec : {M : Type 1} → statement M

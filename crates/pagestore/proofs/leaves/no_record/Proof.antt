@@ -1,12 +1,12 @@
 use mathlib.Core.Path.{refl}
 use Rattle.pagestore.specs.Layout.{recordAt}
 use Rattle.pagestore.specs.Bytes.{leAt}
-use Rattle.lists.specs.Basics.{run}
+use Rattle.lists.specs.Basics.{tabulate}
 use Rattle.pagestore.proofs.leaves.no_record.Statement.{statement}
 use Rattle.pagestore.proofs.leaves.no_record.Tie as tie
 
 returns : tie.Need-returns
-unfolding recordAt leAt run
+unfolding recordAt leAt tabulate
 returns c = refl
 
 pub no-record-spec : {M : Type 1} → statement M

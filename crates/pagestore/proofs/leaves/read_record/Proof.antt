@@ -1,8 +1,8 @@
 use mathlib.Core.Path.{_≡_}
 use Prim.Native.Nat.{_≤_, _<_, _-_}
 use lib.ListN.{length, take, getD}
-use Rattle.lists.specs.Basics.{run}
-use Rattle.lists.specs.Runs.{run-more, run-done}
+use Rattle.lists.specs.Basics.{tabulate}
+use Rattle.lists.specs.Tabulated.{tabulate-more, tabulate-done}
 use Rattle.pagestore.specs.Layout.{leafOf}
 use Rattle.pagestore.specs.LayoutLaws.{noRecord}
 use Rattle.pagestore.proofs.CodeLaws.{record-whole}
@@ -11,7 +11,7 @@ use Rattle.pagestore.proofs.leaves.read_record.Statement.{statement}
 use Rattle.pagestore.proofs.leaves.read_record.Tie as tie
 
 abbrev Inv-loop : tie.InvT-loop
-Inv-loop page i id coords₀ m₀ coords m = (m ≤ 16) × (length coords ≡ 16) × (take m coords ≡ run m (λ k. getD (getD (leafOf page .records) i noRecord .coords) k 0))
+Inv-loop page i id coords₀ m₀ coords m = (m ≤ 16) × (length coords ≡ 16) × (take m coords ≡ tabulate m (λ k. getD (getD (leafOf page .records) i noRecord .coords) k 0))
 
 abbrev μ-loop : tie.MeasureT-loop
 μ-loop page i id coords₀ m₀ coords m = 16 - m
@@ -20,7 +20,7 @@ read-ident-requires : tie.Need-read-ident-requires Inv-loop μ-loop
 read-ident-requires c κs = search needs
 
 loop-holds : tie.Need-loop-holds Inv-loop μ-loop
-unfolding run
+unfolding tabulate
 loop-holds c = search needs
 
 read-coord-requires : tie.Need-read-coord-requires Inv-loop μ-loop
@@ -39,10 +39,10 @@ loop-less : tie.Need-loop-less Inv-loop μ-loop
 loop-less c = search needs
 
 loop-again : tie.Need-loop-again Inv-loop μ-loop
-loop-again c = let L = c .before .before .loop in let h : L .m < length (L .coords) = search needs in (search needs, search needs, run-more _ (L .coords) (L .m) _ h (L .inv .2) (c .read-coord .ensures .0))
+loop-again c = let L = c .before .before .loop in let h : L .m < length (L .coords) = search needs in (search needs, search needs, tabulate-more _ (L .coords) (L .m) _ h (L .inv .2) (c .read-coord .ensures .0))
 
 returns : tie.Need-returns Inv-loop μ-loop
-returns c = let L = c .before .loop in record-whole _ (c .before .before .before .before .args .i) _ _ (search needs) (c .before .before .read-ident .ensures) (run-done _ 16 (L .coords) (L .m) (L .inv .0) (c .loop-test .left) (L .inv .1) (L .inv .2))
+returns c = let L = c .before .loop in record-whole _ (c .before .before .before .before .args .i) _ _ (search needs) (c .before .before .read-ident .ensures) (tabulate-done _ 16 (L .coords) (L .m) (L .inv .0) (c .loop-test .left) (L .inv .1) (L .inv .2))
 
 pub read-record-spec : {M : Type 1} → statement M
 read-record-spec =

@@ -3,8 +3,9 @@ use Prim.Native.Nat.{_≤_, _-_}
 use native.Mathlib.Omega.{arith}
 use lib.ListN.{length, take, drop}
 use Rattle.pagestore.specs.Layout.{putRecords}
-use Rattle.pagestore.proofs.CodeLaws.{unmapped, records-next, leaf-put}
+use Rattle.pagestore.proofs.CodeLaws.{records-next, leaf-put}
 use borrow.Author.Needs.{needs}
+use Rattle.lists.specs.Lengths.{unmapped}
 use Rattle.pagestore.proofs.leaves.write_leaf.Statement.{statement}
 use Rattle.pagestore.proofs.leaves.write_leaf.Tie as tie
 

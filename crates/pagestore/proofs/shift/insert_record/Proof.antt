@@ -5,8 +5,8 @@ use mathlib.Core.List.{List}
 use lib.ListN.{length, take, set, getD}
 use Rattle.pagestore.specs.declared.Record.{Record}
 use Rattle.pagestore.specs.LayoutLaws.{noRecord}
-use Rattle.pagestore.proofs.CodeLaws.{unmapped}
 use Rattle.lists.specs.Shift.{raised, raised-none, raised-more, raised-filled}
+use Rattle.lists.specs.Lengths.{unmapped}
 use borrow.Author.Needs.{needs}
 use Rattle.pagestore.proofs.shift.insert_record.Statement.{statement}
 use Rattle.pagestore.proofs.shift.insert_record.Tie as tie

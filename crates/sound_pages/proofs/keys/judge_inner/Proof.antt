@@ -1,11 +1,11 @@
 use Prim.Native.Nat.{_-_, _≤_, ℕ}
 use Rattle.sound_faults.specs.Faults.{ends}
-use Rattle.lists.specs.Basics.{flat}
+use Rattle.lists.specs.Basics.{concatMap}
 use Rattle.pagestore.specs.LayoutLaws.{noEntry}
 use Rattle.pagestore.specs.Store.{innerAt}
 use Rattle.pagestore.specs.Store.PageLaws.{entries-slots}
 use Rattle.sound_pages.proofs.JudgeLaws.{pair-stop, pairs-step, pairs-stop, rising-start, span-faulty, span-fine}
-use Rattle.sound_pages.specs.Judged.{Rising}
+use Rattle.sound_pages.specs.Judged.{AscendingSpan}
 use borrow.Author.Needs.{needs}
 use lib.ListN.{getD, take}
 use mathlib.Core.List.{[], _∷_}
@@ -15,13 +15,13 @@ use Rattle.sound_pages.proofs.keys.judge_inner.Statement.{statement}
 use Rattle.sound_pages.proofs.keys.judge_inner.Tie as tie
 
 abbrev Inv-loop : tie.InvT-loop
-Inv-loop index page n first₀ next₀ i₀ first next i = (i ≤ n) × Rising (flat ends (take i (innerAt index page .entries))) first next
+Inv-loop index page n first₀ next₀ i₀ first next i = (i ≤ n) × AscendingSpan (concatMap ends (take i (innerAt index page .entries))) first next
 
 abbrev μ-loop : tie.MeasureT-loop
 μ-loop index page n first₀ next₀ i₀ first next i = n - i
 
 loop-holds : tie.Need-loop-holds Inv-loop μ-loop
-unfolding flat
+unfolding concatMap
 loop-holds c = (omega arith, rising-start)
 
 entry-at-requires : tie.Need-entry-at-requires Inv-loop μ-loop
@@ -64,7 +64,7 @@ span-to-requires : tie.Need-span-to-requires Inv-loop μ-loop
 span-to-requires c κs = search needs
 
 returns-3 : tie.Need-returns-3 Inv-loop μ-loop
-returns-3 c = let s = (c .before .before .before .before) in let L = c .before .before .loop in let x = innerAt (s .args .index .now) (s .args .page) in let e : L .i ≡ x .count = omega (arith, L .inv .0, c .before .loop-test .left, s .pre .0) in let w = subst (λ (k : ℕ). Rising (flat ends (take k (x .entries))) (L .first) (L .next)) e (L .inv .1) in span-fine (w .ascends) w (c .span-to .ensures)
+returns-3 c = let s = (c .before .before .before .before) in let L = c .before .before .loop in let x = innerAt (s .args .index .now) (s .args .page) in let e : L .i ≡ x .count = omega (arith, L .inv .0, c .before .loop-test .left, s .pre .0) in let w = subst (λ (k : ℕ). AscendingSpan (concatMap ends (take k (x .entries))) (L .first) (L .next)) e (L .inv .1) in span-fine (w .ascends) w (c .span-to .ensures)
 
 pub judge-inner-spec : {M : Type 1} → statement M
 judge-inner-spec =

@@ -5,7 +5,7 @@ use Rattle.pagestore.specs.LayoutLaws.{leaf-slots, noRecord}
 use Rattle.pagestore.specs.declared.Record.{Record}
 use Rattle.sound_pages.proofs.JudgeLaws.{all-more, faults, passes, ranks-step, ranks-stop, rising-start, span-faulty, span-fine, take-spot}
 use Rattle.sound_pages.proofs.KeyLaws.{key-judged, rank-is}
-use Rattle.sound_pages.specs.Judged.{RecordsBad, Rising}
+use Rattle.sound_pages.specs.Judged.{RecordsBad, AscendingSpan}
 use Rattle.tree_model.specs.Sound.{RecordOk}
 use Rattle.tree_model.specs.Trees.{rankOf}
 use borrow.Author.Needs.{needs}
@@ -18,7 +18,7 @@ use Rattle.sound_pages.proofs.keys.judge_records.Statement.{statement}
 use Rattle.sound_pages.proofs.keys.judge_records.Tie as tie
 
 abbrev Inv-loop : tie.InvT-loop
-Inv-loop page n d tops first₀ next₀ i₀ first next i = (i ≤ n) × Rising (map (rankOf d) (take i (leafOf page .records))) first next × All (RecordOk d) (take i (leafOf page .records))
+Inv-loop page n d tops first₀ next₀ i₀ first next i = (i ≤ n) × AscendingSpan (map (rankOf d) (take i (leafOf page .records))) first next × All (RecordOk d) (take i (leafOf page .records))
 
 abbrev μ-loop : tie.MeasureT-loop
 μ-loop page n d tops first₀ next₀ i₀ first next i = n - i
@@ -72,7 +72,7 @@ span-to-requires : tie.Need-span-to-requires Inv-loop μ-loop
 span-to-requires c κs = search needs
 
 returns-3 : tie.Need-returns-3 Inv-loop μ-loop
-returns-3 c = let s = (c .before .before .before .before .before) in let L = c .before .before .loop in let x = leafOf (s .args .page .now) in let e : L .i ≡ x .count = omega (arith, L .inv .0, c .before .loop-test .left, s .pre .1) in let w = subst (λ (k : ℕ). Rising (map (rankOf (s .args .d)) (take k (x .records))) (L .first) (L .next)) e (L .inv .1) in span-fine (record { order = w .ascends; ranges = subst (λ (k : ℕ). All (RecordOk (s .args .d)) (take k (x .records))) e (L .inv .2) }) w (c .span-to .ensures)
+returns-3 c = let s = (c .before .before .before .before .before) in let L = c .before .before .loop in let x = leafOf (s .args .page .now) in let e : L .i ≡ x .count = omega (arith, L .inv .0, c .before .loop-test .left, s .pre .1) in let w = subst (λ (k : ℕ). AscendingSpan (map (rankOf (s .args .d)) (take k (x .records))) (L .first) (L .next)) e (L .inv .1) in span-fine (record { order = w .ascends; ranges = subst (λ (k : ℕ). All (RecordOk (s .args .d)) (take k (x .records))) e (L .inv .2) }) w (c .span-to .ensures)
 
 pub judge-records-spec : {M : Type 1} → statement M
 judge-records-spec =

@@ -1,6 +1,5 @@
 use Prim.Native.Nat.{_-_, _<_, _≤_, ℕ}
 use Rattle.sound_faults.specs.Assembled.{reached-page}
-use Rattle.lists.specs.Sorting.{keep}
 use Rattle.pagestore.specs.LayoutLaws.{noEntry}
 use Rattle.pagestore.specs.Store.{innerAt, levelAt, viewOf}
 use Rattle.pagestore.specs.declared.Entry.{Entry}

@@ -4,8 +4,8 @@ use lib.ListN.{length}
 use mathlib.Core.Path.{sym}
 use lib.ListN.{length-take}
 use lib.Seq.{length-take-le}
-use Rattle.pagestore.proofs.CodeLaws.{unmapped}
 use borrow.Author.Needs.{needs}
+use Rattle.lists.specs.Lengths.{unmapped}
 use Rattle.test_scan.proofs.leaves.record_pair.Statement.{statement}
 use Rattle.test_scan.proofs.leaves.record_pair.Tie as tie
 

@@ -2,9 +2,9 @@ use mathlib.Core.Path.{_≡_, refl}
 use Prim.Native.Nat.{_+_, _-_, _≤_, _<_, min}
 use native.Mathlib.Omega.{arith}
 use lib.ListN.{length}
-use Rattle.tree_core.proofs.HeldLaws.{unmapped}
 use Rattle.tree.proofs.KeyedLaws.{Rests, rests-next, rests-differ, rests-end, point-is}
 use borrow.Author.Needs.{needs}
+use Rattle.lists.specs.Lengths.{unmapped}
 use Rattle.tree.proofs.keyed.same_point.Statement.{statement}
 use Rattle.tree.proofs.keyed.same_point.Tie as tie
 use Rattle.tree.proofs.keyed.same_point.Reads as reads

@@ -1,8 +1,8 @@
 use mathlib.Core.Path.{_≡_}
 use lib.ListN.{length}
-use Rattle.tree_core.proofs.HeldLaws.{unmapped}
 use Rattle.tree_core.proofs.EntryLaws.{child-in, child-out}
 use borrow.Author.Needs.{needs}
+use Rattle.lists.specs.Lengths.{unmapped}
 use Rattle.tree_core.proofs.entries.child_at.Statement.{statement}
 use Rattle.tree_core.proofs.entries.child_at.Tie as tie
 use Rattle.tree_core.proofs.entries.child_at.Reads as reads

@@ -1,9 +1,9 @@
 use mathlib.Core.Path.{_≡_, _∙_}
 use lib.ListN.{length}
 use Rattle.tree_core.specs.Entries.{noEntry}
-use Rattle.tree_core.proofs.HeldLaws.{unmapped}
 use Rattle.tree_core.proofs.EntryLaws.{inner-bare, inner-some, head-filled, last-filled}
 use borrow.Author.Needs.{needs}
+use Rattle.lists.specs.Lengths.{unmapped}
 use Rattle.tree_core.proofs.entries.inner_entry.Statement.{statement}
 use Rattle.tree_core.proofs.entries.inner_entry.Tie as tie
 use Rattle.tree_core.proofs.entries.inner_entry.Reads as reads

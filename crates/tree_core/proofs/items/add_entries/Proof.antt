@@ -6,11 +6,12 @@ use lib.ListN.{length, take, drop, length-append, length-take, length-drop}
 use lib.Seq.{slice, take-all}
 use denote.Ref.{now}
 use Rattle.tree_core.specs.Held.{Held}
-use Rattle.tree_core.proofs.HeldLaws.{unmapped, held-then, held-is, held-whole}
+use Rattle.tree_core.proofs.HeldLaws.{held-then, held-is, held-whole}
 use Rattle.pagestore.specs.declared.Entry.{Entry}
 use Rattle.tree_core.specs.Held.{heldEntries}
 use Rattle.tree_core.proofs.EntryLaws.{taken-in}
 use borrow.Author.Needs.{needs}
+use Rattle.lists.specs.Lengths.{unmapped}
 use Rattle.tree_core.proofs.items.add_entries.Statement.{statement}
 use Rattle.tree_core.proofs.items.add_entries.Tie as tie
 use Rattle.tree_core.proofs.items.add_entries.Reads as reads

@@ -1,4 +1,4 @@
-use Rattle.tree_core.proofs.HeldLaws.{unmapped, append-none, append-more, append-held}
+use Rattle.tree_core.proofs.HeldLaws.{append-none, append-more, append-held}
 use mathlib.Core.Path.{_≡_}
 use mathlib.Core.List.{_++_}
 use Prim.Native.Nat.{_+_, _-_, _≤_, _<_, max}
@@ -6,6 +6,7 @@ use native.Mathlib.Omega.{arith}
 use lib.ListN.{length, take}
 use lib.Seq.{slice, length-take-le}
 use borrow.Author.Needs.{needs}
+use Rattle.lists.specs.Lengths.{unmapped}
 use Rattle.tree_core.proofs.items.append_entries.Statement.{statement}
 use Rattle.tree_core.proofs.items.append_entries.Tie as tie
 use Rattle.tree_core.proofs.items.append_entries.Reads as reads

@@ -1,4 +1,4 @@
-use Rattle.tree_core.proofs.HeldLaws.{unmapped, append-more, part-held}
+use Rattle.tree_core.proofs.HeldLaws.{append-more, part-held}
 use mathlib.Core.Path.{_≡_, refl, sym}
 use mathlib.Core.List.{[]}
 use Prim.Native.Nat.{_+_, _-_, _≤_, _<_}
@@ -6,6 +6,7 @@ use native.Mathlib.Omega.{arith}
 use lib.ListN.{length, take}
 use lib.Seq.{slice, slice-empty}
 use borrow.Author.Needs.{needs}
+use Rattle.lists.specs.Lengths.{unmapped}
 use Rattle.tree_core.proofs.items.inner_of.Statement.{statement}
 use Rattle.tree_core.proofs.items.inner_of.Tie as tie
 use Rattle.tree_core.proofs.items.inner_of.Reads as reads

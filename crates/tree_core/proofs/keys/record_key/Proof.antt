@@ -2,9 +2,9 @@ use mathlib.Core.Path.{_≡_, sym}
 use native.Mathlib.Omega.{arith}
 use lib.ListN.{length, length-take}
 use lib.Seq.{length-take-le}
-use Rattle.tree_core.proofs.HeldLaws.{unmapped}
 use Rattle.tree_core.proofs.EntryLaws.{key-none, key-some}
 use borrow.Author.Needs.{needs}
+use Rattle.lists.specs.Lengths.{unmapped}
 use Rattle.tree_core.proofs.keys.record_key.Statement.{statement}
 use Rattle.tree_core.proofs.keys.record_key.Tie as tie
 use Rattle.tree_core.proofs.keys.record_key.Reads as reads

@@ -13,7 +13,7 @@ use Rattle.tree_delete.proofs.deletion.delete_at.Kinds as delete-at-kin
 use Rattle.tree_delete.proofs.deletion.+delete_at.Lts-delete_at as delete-at-lts
 use Rattle.pagestore.proofs.inner_at.Reads as inner-at-reads
 use Rattle.tree_delete.proofs.deletion.delete_leaf.Reads as delete-leaf-reads
-use Rattle.tree_delete.proofs.deletion.mend_page.Reads as mend-page-reads
+use Rattle.tree_delete.proofs.deletion.fix_underflow.Reads as fix-underflow-reads
 use Rattle.tree_core.proofs.child_of.Reads as child-of-reads
 use Rattle.tree_core.proofs.choose_at.Reads as choose-at-reads
 use Rattle.tree_delete.proofs.deletion.+delete_at.{statement}
@@ -41,8 +41,8 @@ calls t = (
   child-of-reads.Learnt,
   delete-at-below t,
   delete-at.Post,
-  mend-page-reads.Asked,
-  mend-page-reads.Learnt,
+  fix-underflow-reads.Asked,
+  fix-underflow-reads.Learnt,
 )
 
 delete-at-delete-leaf-requires : (t : ℕ) → delete-at-lts.Need-delete-leaf-requires (calls t) (delete-at-at t) delete-at.Post
@@ -70,16 +70,16 @@ delete-at-sub-delete-at t c = omega (arith, pos-of-ne-zero (c .before .before .b
 delete-at-delete-at-requires : (t : ℕ) → delete-at-lts.Need-delete-at-requires (calls t) (delete-at-at t) delete-at.Post
 delete-at-delete-at-requires t c κs = (omega (arith, pos-of-ne-zero (c .before .before .before .before .before .before .before .if1 .left), c .before .before .before .before .before .before .before .before .before .pre .0), c .before .before .before .before .before .before .before .before .before .pre .1)
 
-delete-at-mend-page-requires : (t : ℕ) → delete-at-lts.Need-mend-page-requires (calls t) (delete-at-at t) delete-at.Post
-delete-at-mend-page-requires t c κs = (c .before .before .before .before .before .before .before .choose-at .ensures .1, pos-of-ne-zero (c .before .before .before .before .before .before .before .before .before .before .before .if1 .left))
+delete-at-fix-underflow-requires : (t : ℕ) → delete-at-lts.Need-fix-underflow-requires (calls t) (delete-at-at t) delete-at.Post
+delete-at-fix-underflow-requires t c κs = (c .before .before .before .before .before .before .before .choose-at .ensures .1, pos-of-ne-zero (c .before .before .before .before .before .before .before .before .before .before .before .if1 .left))
 
 delete-at-same-length-2 : (t : ℕ) → delete-at-lts.Need-same-length-2 (calls t) (delete-at-at t) delete-at.Post
-delete-at-same-length-2 t c = c .before .before .mend-page .kept .0 ∙ c .before .before .before .before .before .before .delete-at .kept .0
+delete-at-same-length-2 t c = c .before .before .fix-underflow .kept .0 ∙ c .before .before .before .before .before .before .delete-at .kept .0
 
 delete-at-returns-2 : (t : ℕ) → delete-at-lts.Need-returns-2 (calls t) (delete-at-at t) delete-at.Post
 delete-at-returns-2 t c = let a = c .before .before .before .before .before .before .before .before .before .before .before .before .before .before .before .before .args in
     delete-inner (a .d) (a .level) (now (a .index)) (a .page) (a .x) (c .before .before .before .before .before .before .before .before .before .before .before .before .before .before .if1 .left) (c .before .before .before .before .before .before .before .before .before .before .before .before .before .before .before .before .pre .1) (ap entriesIn (c .before .before .before .before .before .before .before .before .before .before .before .before .inner-at .ensures))
-    (c .before .before .before .before .before .before .before .before .before .before .choose-at .ensures .0) (c .before .before .before .before .before .before .before .before .child-of .ensures) (c .before .before .before .before .before .before .delete-at .ensures) (c .before .before .mend-page .ensures)
+    (c .before .before .before .before .before .before .before .before .before .before .choose-at .ensures .0) (c .before .before .before .before .before .before .before .before .child-of .ensures) (c .before .before .before .before .before .before .delete-at .ensures) (c .before .before .fix-underflow .ensures)
 
 pub +delete-at-spec : {M : Type 1} → statement M
 +delete-at-spec = close μ-delete-at λ t. delete-at-lts.spec (calls t)
@@ -93,6 +93,6 @@ pub +delete-at-spec : {M : Type 1} → statement M
     (delete-at-child-of-requires t)
     (delete-at-sub-delete-at t)
     (delete-at-delete-at-requires t)
-    (delete-at-mend-page-requires t)
+    (delete-at-fix-underflow-requires t)
     (delete-at-same-length-2 t)
     (delete-at-returns-2 t)

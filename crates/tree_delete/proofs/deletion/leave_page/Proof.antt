@@ -6,10 +6,11 @@ use lib.ListN.{length, take, drop, length-append, length-take, length-drop}
 use lib.Seq.{slice, take-all}
 use denote.Ref.{now}
 use Rattle.tree_core.specs.Held.{Held}
-use Rattle.tree_core.proofs.HeldLaws.{unmapped, held-then, held-is, held-whole}
+use Rattle.tree_core.proofs.HeldLaws.{held-then, held-is, held-whole}
 use Rattle.tree_core.proofs.EntryLaws.{length-filled}
 use Rattle.tree_core.proofs.DeletionLaws.{leave-is}
 use borrow.Author.Needs.{needs}
+use Rattle.lists.specs.Lengths.{unmapped}
 use Rattle.tree_delete.proofs.deletion.leave_page.Statement.{statement}
 use Rattle.tree_delete.proofs.deletion.leave_page.Tie as tie
 use Rattle.tree_delete.proofs.deletion.leave_page.Reads as reads

@@ -6,10 +6,11 @@ use lib.ListN.{length, take, drop, length-append, length-take, length-drop}
 use lib.Seq.{slice, take-all}
 use denote.Ref.{now}
 use Rattle.tree_core.specs.Held.{Held}
-use Rattle.tree_core.proofs.HeldLaws.{unmapped, held-then, held-is, held-whole}
+use Rattle.tree_core.proofs.HeldLaws.{held-then, held-is, held-whole}
 use Rattle.tree_core.specs.CodeTerms.{grownList}
 use Rattle.tree_core.proofs.InsertionLaws.{length-grown}
 use borrow.Author.Needs.{needs}
+use Rattle.lists.specs.Lengths.{unmapped}
 use Rattle.tree_delete.proofs.deletion.replace_pair.Statement.{statement}
 use Rattle.tree_delete.proofs.deletion.replace_pair.Tie as tie
 use Rattle.tree_delete.proofs.deletion.replace_pair.Reads as reads

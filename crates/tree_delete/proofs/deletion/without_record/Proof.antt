@@ -6,8 +6,9 @@ use lib.ListN.{length, take, drop, length-append, length-take, length-drop}
 use lib.Seq.{slice, take-all}
 use denote.Ref.{now}
 use Rattle.tree_core.specs.Held.{Held}
-use Rattle.tree_core.proofs.HeldLaws.{unmapped, held-then, held-is, held-whole}
+use Rattle.tree_core.proofs.HeldLaws.{held-then, held-is, held-whole}
 use borrow.Author.Needs.{needs}
+use Rattle.lists.specs.Lengths.{unmapped}
 use Rattle.tree_delete.proofs.deletion.without_record.Statement.{statement}
 use Rattle.tree_delete.proofs.deletion.without_record.Tie as tie
 use Rattle.tree_delete.proofs.deletion.without_record.Reads as reads

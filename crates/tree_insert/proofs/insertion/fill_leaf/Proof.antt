@@ -4,9 +4,9 @@ use lib.ListN.{length}
 use denote.Ref.{now}
 use Rattle.pagestore.specs.Store.{setLeaf, recordsIn}
 use Rattle.tree_core.specs.Entries.{leafEntry}
-use Rattle.tree_core.proofs.HeldLaws.{unmapped}
 use Rattle.tree_core.proofs.InsertionLaws.{fill-is, put-filled}
 use borrow.Author.Needs.{needs}
+use Rattle.lists.specs.Lengths.{unmapped}
 use Rattle.tree_insert.proofs.insertion.fill_leaf.Statement.{statement}
 use Rattle.tree_insert.proofs.insertion.fill_leaf.Tie as tie
 

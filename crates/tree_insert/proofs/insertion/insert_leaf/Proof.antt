@@ -5,9 +5,10 @@ use denote.Ref.{now}
 use Rattle.pagestore.specs.Store.{recordsIn}
 use Rattle.pagestore.specs.declared.Leaf.{Leaf}
 use Rattle.tree_core.specs.Insertion.{insertRecord}
-use Rattle.tree_core.proofs.HeldLaws.{unmapped, held-most}
+use Rattle.tree_core.proofs.HeldLaws.{held-most}
 use Rattle.tree_core.proofs.InsertionLaws.{leaf-step}
 use borrow.Author.Needs.{needs}
+use Rattle.lists.specs.Lengths.{unmapped}
 use Rattle.tree_insert.proofs.insertion.insert_leaf.Statement.{statement}
 use Rattle.tree_insert.proofs.insertion.insert_leaf.Tie as tie
 

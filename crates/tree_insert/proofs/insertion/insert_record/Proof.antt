@@ -5,9 +5,10 @@ use lib.Seq.{slice, length-take-le}
 use denote.Ref.{now}
 use Rattle.tree_core.specs.Held.{Held}
 use mathlib.Core.List.{[], _∷_, _++_}
-use Rattle.tree_core.proofs.HeldLaws.{unmapped, held-then, held-is}
+use Rattle.tree_core.proofs.HeldLaws.{held-then, held-is}
 use Rattle.tree_core.proofs.InsertionLaws.{inserted-is, insert-is}
 use borrow.Author.Needs.{needs}
+use Rattle.lists.specs.Lengths.{unmapped}
 use Rattle.tree_insert.proofs.insertion.insert_record.Statement.{statement}
 use Rattle.tree_insert.proofs.insertion.insert_record.Tie as tie
 use Rattle.tree_insert.proofs.insertion.insert_record.Reads as reads

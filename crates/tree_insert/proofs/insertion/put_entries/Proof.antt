@@ -6,9 +6,9 @@ use denote.Ref.{now}
 use Rattle.tree_core.specs.Entries.{innerEntry}
 use Rattle.tree_core.specs.Insertion.{writeInner}
 use Rattle.tree_core.specs.Held.{heldEntries}
-use Rattle.tree_core.proofs.HeldLaws.{unmapped}
 use Rattle.tree_core.proofs.InsertionLaws.{put-one, level-is}
 use borrow.Author.Needs.{needs}
+use Rattle.lists.specs.Lengths.{unmapped}
 use Rattle.tree_insert.proofs.insertion.put_entries.Statement.{statement}
 use Rattle.tree_insert.proofs.insertion.put_entries.Tie as tie
 use Rattle.tree_insert.proofs.insertion.put_entries.Reads as reads

@@ -4,9 +4,10 @@ use lib.ListN.{length}
 use denote.Ref.{now}
 use Rattle.tree_core.specs.Entries.{innerEntry}
 use Rattle.tree_core.specs.Insertion.{writeInner}
-use Rattle.tree_core.proofs.HeldLaws.{unmapped, held-most}
+use Rattle.tree_core.proofs.HeldLaws.{held-most}
 use Rattle.tree_core.proofs.InsertionLaws.{put-held, level-is}
 use borrow.Author.Needs.{needs}
+use Rattle.lists.specs.Lengths.{unmapped}
 use Rattle.tree_insert.proofs.insertion.put_entry.Statement.{statement}
 use Rattle.tree_insert.proofs.insertion.put_entry.Tie as tie
 

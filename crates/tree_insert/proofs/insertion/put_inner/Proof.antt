@@ -1,8 +1,9 @@
 use mathlib.Core.Path.{_≡_}
 use native.Mathlib.Omega.{arith}
 use lib.ListN.{length}
-use Rattle.tree_core.proofs.HeldLaws.{unmapped, held-most}
+use Rattle.tree_core.proofs.HeldLaws.{held-most}
 use borrow.Author.Needs.{needs}
+use Rattle.lists.specs.Lengths.{unmapped}
 use Rattle.tree_insert.proofs.insertion.put_inner.Statement.{statement}
 use Rattle.tree_insert.proofs.insertion.put_inner.Tie as tie
 

@@ -1,9 +1,9 @@
 use mathlib.Core.Path.{_≡_, refl}
 use native.Mathlib.Omega.{arith}
 use lib.ListN.{length}
-use Rattle.tree_core.proofs.HeldLaws.{unmapped}
 use Rattle.tree_core.proofs.InsertionLaws.{renewed-is}
 use borrow.Author.Needs.{needs}
+use Rattle.lists.specs.Lengths.{unmapped}
 use Rattle.tree_insert.proofs.insertion.renewed.Statement.{statement}
 use Rattle.tree_insert.proofs.insertion.renewed.Tie as tie
 

@@ -6,9 +6,10 @@ use denote.Ref.{now}
 use Rattle.tree_core.specs.Held.{Held}
 use mathlib.Core.List.{[], _∷_, _++_}
 use Rattle.tree_core.specs.CodeTerms.{grownList}
-use Rattle.tree_core.proofs.HeldLaws.{unmapped, held-then, held-is}
+use Rattle.tree_core.proofs.HeldLaws.{held-then, held-is}
 use Rattle.tree_core.proofs.InsertionLaws.{replaced-is, length-grown}
 use borrow.Author.Needs.{needs}
+use Rattle.lists.specs.Lengths.{unmapped}
 use Rattle.tree_insert.proofs.insertion.replace_grown.Statement.{statement}
 use Rattle.tree_insert.proofs.insertion.replace_grown.Tie as tie
 use Rattle.tree_insert.proofs.insertion.replace_grown.Reads as reads

@@ -6,9 +6,9 @@ use denote.Ref.{now}
 use Rattle.tree_core.specs.Entries.{innerEntry}
 use Rattle.tree_core.specs.Insertion.{writeInner}
 use Rattle.tree_core.specs.Held.{heldEntries}
-use Rattle.tree_core.proofs.HeldLaws.{unmapped}
 use Rattle.tree_core.proofs.InsertionLaws.{put-two, level-is}
 use borrow.Author.Needs.{needs}
+use Rattle.lists.specs.Lengths.{unmapped}
 use Rattle.tree_insert.proofs.insertion.split_inner.Statement.{statement}
 use Rattle.tree_insert.proofs.insertion.split_inner.Tie as tie
 use Rattle.tree_insert.proofs.insertion.split_inner.Reads as reads

@@ -3,9 +3,9 @@ use native.Mathlib.Omega.{arith}
 use lib.ListN.{length, take, length-append, length-take}
 use Prim.Native.Nat.{ℕ}
 use lib.Dec.{leb}
-use Rattle.lists.specs.Basics.{tick}
+use Rattle.lists.specs.Basics.{indicator}
 use denote.Ref.{now}
-use Rattle.tree_core.proofs.RootLaws.{tick-one, tick-none}
+use Rattle.tree_core.proofs.RootLaws.{indicator-one, indicator-none}
 use borrow.Author.Needs.{needs}
 use Rattle.tree_insert.proofs.roots.full_page.Statement.{statement}
 use Rattle.tree_insert.proofs.roots.full_page.Tie as tie
@@ -17,10 +17,10 @@ count-at-requires : tie.Need-count-at-requires
 count-at-requires c κs = search needs
 
 returns : tie.Need-returns
-returns c = (tick-one 16 _ (c .if1 .taken) ∙ ap (λ (n : ℕ). tick (leb 16 n)) (c .before .count-at .ensures), omega arith)
+returns c = (indicator-one 16 _ (c .if1 .taken) ∙ ap (λ (n : ℕ). indicator (leb 16 n)) (c .before .count-at .ensures), omega arith)
 
 returns-2 : tie.Need-returns-2
-returns-2 c = (tick-none 16 _ (c .if1 .left) ∙ ap (λ (n : ℕ). tick (leb 16 n)) (c .before .count-at .ensures), omega arith)
+returns-2 c = (indicator-none 16 _ (c .if1 .left) ∙ ap (λ (n : ℕ). indicator (leb 16 n)) (c .before .count-at .ensures), omega arith)
 
 pub full-page-spec : {M : Type 1} → statement M
 full-page-spec = tie.close (tie.spec count-at-requires returns returns-2)

@@ -3,10 +3,11 @@ use native.Mathlib.Omega.{arith}
 use lib.ListN.{length, take, length-append, length-take}
 use Prim.Native.Nat.{ℕ}
 use lib.Dec.{leb}
-use Rattle.lists.specs.Basics.{tick}
+use Rattle.lists.specs.Basics.{indicator}
+use Rattle.lists.specs.Lengths.{unmapped}
 use denote.Ref.{now}
 use mathlib.Core.List.{List, [], _∷_}
-use Rattle.tree_core.proofs.HeldLaws.{unmapped, held-then, held-is}
+use Rattle.tree_core.proofs.HeldLaws.{held-then, held-is}
 use lib.Seq.{slice}
 use Rattle.pagestore.specs.declared.Entry.{Entry}
 use borrow.Author.Needs.{needs}

@@ -1,0 +1,43 @@
+use mathlib.Core.Path.{_≡_, refl, sym, ap, _∙_}
+use mathlib.Core.List.{List, [], _∷_, _++_, append-assoc}
+use Prim.Native.Nat.{ℕ, _+_, _-_, _≤_, _<_, min}
+use native.Mathlib.Omega.{arith}
+use lib.ListN.{length, take, drop, length-append, length-take, length-drop}
+use lib.Seq.{slice, take-all}
+use denote.Ref.{now}
+use Rattle.tree_core.specs.Held.{Held}
+use Rattle.tree_core.proofs.HeldLaws.{held-then, held-is, held-whole}
+use Rattle.pagestore.specs.Store.{setLeaf}
+use Rattle.tree_core.specs.Entries.{leafEntry, innerEntry}
+use Rattle.tree_core.specs.Insertion.{writeInner}
+use Rattle.tree_core.proofs.DeletionLaws.{put-joined}
+use borrow.Author.Needs.{needs}
+use Rattle.lists.specs.Lengths.{unmapped}
+use Rattle.tree_delete.proofs.rebalancing.put_merged_leaf.Statement.{statement}
+use Rattle.tree_delete.proofs.rebalancing.put_merged_leaf.Tie as tie
+use Rattle.tree_delete.proofs.rebalancing.put_merged_leaf.Reads as reads
+use Rattle.tree_delete.proofs.rebalancing.put_merged_leaf.Lts as lts
+use Rattle.pagestore_free.proofs.free_page.Reads as free-page-reads
+use Rattle.pagestore.proofs.set_leaf.Reads as set-leaf-reads
+use Rattle.tree_core.proofs.leaf_entry.Reads as leaf-entry-reads
+
+set-leaf-requires : tie.Need-set-leaf-requires
+set-leaf-requires c κs = search needs
+
+free-page-requires : tie.Need-free-page-requires
+free-page-requires c κs = search needs
+
+leaf-entry-requires : tie.Need-leaf-entry-requires
+leaf-entry-requires c κs = search needs
+
+same-length : tie.Need-same-length
+same-length c = search needs
+
+returns : tie.Need-returns
+returns c = let a = c .before .before .before .before .before .before .before .before .before .before .args in
+    put-joined setLeaf (leafEntry (a .d)) (now (a .index)) (a .p) (a .q) (c .before .before .before .before .before .before .before .set-leaf .ensures) (c .before .before .before .free-page .ensures) (c .leaf-entry .ensures)
+
+pub put-merged-leaf-spec : {M : Type 1} → statement M
+put-merged-leaf-spec =
+    tie.close
+    (tie.spec set-leaf-requires free-page-requires leaf-entry-requires same-length returns)
