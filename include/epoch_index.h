@@ -2,16 +2,16 @@
  * The epoch index: an exact nearest-neighbour index over bytes that the caller lends.
  *
  * A point is 1 to 16 whole numbers from -1,000 to 1,000 with an identifier. An index is whole pages of 1,024 bytes, and all of it lies in
- * those bytes: they may be stored, sent and mapped as they are. Link target/staticlib/libepoch_index.a (x86-64 Linux), which `rt staticlib epoch_index`
- * writes once every function in it is proved to meet its contract.
+ * those bytes: they may be stored, sent and mapped as they are. Link target/staticlib/libepoch_index.a (x86-64 Linux), which
+ * `rt staticlib epoch_index` writes once every function in it is proved to meet its contract.
  *
  * What holds of every function here:
  * - All memory is the caller's. Nothing is allocated, and no pointer is kept after the return. There is no other state, so threads may work
  *   on different indexes, and ask or check the same index, at the same time; a change wants the index for itself.
  * - A run of memory is a pointer and its length in elements. A pointer is not null, even where the length is 0, is aligned for its type
  *   and leads to that many elements. What a function writes (a pointer without const) overlaps nothing else that the call is handed.
- * - Every value of every parameter has a defined outcome; what cannot be done is refused with a number, and a refusal changes no byte.
- * - The bytes of an index may be anything: an act refuses a damaged index (number 2) and is never led astray by it.
+ * - Every value of every parameter has a defined outcome; what cannot be done is refused with a code, and a refusal changes no byte.
+ * - The bytes of an index may be anything: an act refuses a damaged index (EPOCH_INDEX_UNSOUND) and is never led astray by it.
  * - Stack: up to 1.5 MB for an act, whatever the bytes hold.
  *
  * epoch_index_unchecked.h has the functions without the check, for a caller that takes a duty upon itself.
@@ -25,6 +25,12 @@
 #ifdef __cplusplus
 extern "C" {
 #endif
+
+/* The version of these headers and of the library they declare. */
+#define EPOCH_INDEX_VERSION_MAJOR 0
+#define EPOCH_INDEX_VERSION_MINOR 1
+#define EPOCH_INDEX_VERSION_PATCH 0
+#define EPOCH_INDEX_VERSION "0.1.0"
 
 /* Limits. A length in bytes is a multiple of the page, EPOCH_INDEX_MIN_PAGES to EPOCH_INDEX_MAX_PAGES of them. */
 #define EPOCH_INDEX_PAGE_BYTES 1024
@@ -40,7 +46,7 @@ extern "C" {
 #define EPOCH_INDEX_MAX_K 64
 #define EPOCH_INDEX_MAX_POINTS 65535
 
-/* The number that an act returns: 0, or the first of its numbers that applies, in the order given with the act. */
+/* What an act returns: EPOCH_INDEX_OK, or the first of its refusals that applies, in the order given with the act. */
 enum epoch_index_code {
     EPOCH_INDEX_OK = 0,
     EPOCH_INDEX_BAD_LENGTH = 1,       /* index length isn't a permitted number of whole pages */
@@ -73,31 +79,38 @@ typedef struct epoch_index_tally {
     uint32_t leaves;
 } epoch_index_tally;
 
-/* What a question returns: its number, how many rows it wrote, and how many leaves it read; refused, 0 rows and 0 leaves. */
+/* What a question returns: its code, how many rows it wrote, and how many leaves it read; refused, 0 rows and 0 leaves. */
 typedef struct epoch_index_answer {
     uint32_t code;
     size_t count;
     uint32_t leaves;
 } epoch_index_answer;
 
-/* Makes an empty index of `features` features in the `length` bytes lent, whatever they hold. Page 0 becomes its header and page 1 an empty
- * leaf; the other pages keep their bytes until they are used. Numbers: 1, 3. */
-uint32_t epoch_index_make(uint8_t *index, size_t length, uint8_t features);
+/* Makes an empty index of `features` features in the `index_len` bytes lent, whatever they hold. Page 0 becomes its header and page 1 an
+ * empty leaf; the other pages keep their bytes until they are used.
+ * Refusals: EPOCH_INDEX_BAD_LENGTH, EPOCH_INDEX_BAD_FEATURES. */
+uint32_t epoch_index_make(uint8_t *index, size_t index_len, uint8_t features);
 
-/* Inserts the identifier `id` with the `coordinates` numbers of `point`. Numbers: 1, 2, 3, 4, 5, 6, 8, 9. */
-uint32_t epoch_index_insert(uint8_t *index, size_t length, uint32_t id, const int16_t *point, size_t coordinates);
+/* Inserts the identifier `id` with the `point_len` coordinates of `point`.
+ * Refusals: EPOCH_INDEX_BAD_LENGTH, EPOCH_INDEX_UNSOUND, EPOCH_INDEX_BAD_FEATURES, EPOCH_INDEX_BAD_COORDINATE, EPOCH_INDEX_ZERO_ID,
+ * EPOCH_INDEX_ALREADY_LIVE, EPOCH_INDEX_FULL, EPOCH_INDEX_NO_PAGES. */
+uint32_t epoch_index_insert(uint8_t *index, size_t index_len, uint32_t id, const int16_t *point, size_t point_len);
 
-/* Deletes the identifier `id` with its point. Numbers: 1, 2, 5, 7. */
-uint32_t epoch_index_delete(uint8_t *index, size_t length, uint32_t id);
+/* Deletes the identifier `id` with its point.
+ * Refusals: EPOCH_INDEX_BAD_LENGTH, EPOCH_INDEX_UNSOUND, EPOCH_INDEX_ZERO_ID, EPOCH_INDEX_NOT_LIVE. */
+uint32_t epoch_index_delete(uint8_t *index, size_t index_len, uint32_t id);
 
-/* Asks for the `k` records nearest to `point`. They are written to the first `count` of the `lent` rows, nearest first, equal distances by
- * lower identifier: k of them, or all if fewer are live; rows past those keep their contents. The tally counts the question and the
- * leaves it read. Refused, rows and tally stay as they are. Numbers: 1, 2, 3, 4, 10, 11. */
-epoch_index_answer epoch_index_question(const uint8_t *index, size_t length, const int16_t *point, size_t coordinates, size_t k,
-                                        epoch_index_row *rows, size_t lent, epoch_index_tally *tally);
+/* Asks for the `k` records nearest to `point`. They are written to the first `count` of the `rows_len` rows lent, nearest first, equal
+ * distances by lower identifier: k of them, or all if fewer are live; rows past those keep their contents. The tally counts the question
+ * and the leaves it read. Refused, rows and tally stay as they are.
+ * Refusals: EPOCH_INDEX_BAD_LENGTH, EPOCH_INDEX_UNSOUND, EPOCH_INDEX_BAD_FEATURES, EPOCH_INDEX_BAD_COORDINATE, EPOCH_INDEX_BAD_K,
+ * EPOCH_INDEX_FEW_ROWS. */
+epoch_index_answer epoch_index_question(const uint8_t *index, size_t index_len, const int16_t *point, size_t point_len, size_t k,
+                                        epoch_index_row *rows, size_t rows_len, epoch_index_tally *tally);
 
-/* Checks whether an index is sound: it looks at every page. With 2, `*page` is a page at which soundness fails, else 0. Numbers: 1, 2. */
-uint32_t epoch_index_check(const uint8_t *index, size_t length, uint32_t *page);
+/* Checks whether an index is sound: it looks at every page. With EPOCH_INDEX_UNSOUND `*page` is a page at which soundness fails, else 0.
+ * Refusals: EPOCH_INDEX_BAD_LENGTH, EPOCH_INDEX_UNSOUND. */
+uint32_t epoch_index_check(const uint8_t *index, size_t index_len, uint32_t *page);
 
 #ifdef __cplusplus
 }

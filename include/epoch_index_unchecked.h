@@ -1,6 +1,7 @@
 /*
- * The epoch index: the functions without the check. The five acts of epoch_index.h refuse every index that is not sound; the functions here rest
- * on a duty of the caller, which they do not test. A vouched insert whose duty is broken may return 0 and leave an index that is not sound.
+ * The epoch index: the functions without the check. The five acts of epoch_index.h refuse every index that is not sound; the functions
+ * here rest on a duty of the caller, which they do not test. A vouched insert whose duty is broken may return EPOCH_INDEX_OK and leave an
+ * index that is not sound.
  *
  * What epoch_index.h says of memory, threads, parameters and refusals holds here too. Stack: up to 512 kB, whatever the bytes hold.
  */
@@ -16,47 +17,52 @@ extern "C" {
 /*
  * Three acts without the check, which looks at every page and in a large index costs several times what the act itself does.
  *
- * The caller's duty: the index was checked once with code 0 (epoch_index_check), or made with code 0 (epoch_index_make), and since then
- * has been changed by nothing but the functions of these two headers, each with its duty kept.
+ * The caller's duty: epoch_index_check or epoch_index_make has returned EPOCH_INDEX_OK for the index once, and since then nothing has
+ * changed it but the functions of these two headers, each with its duty kept.
  *
  * Where the duty is kept each returns and leaves exactly what the act of the same name does, and the index stays sound. Where it is broken
  * a call still ends and touches nothing but the memory lent, but its rows, its count and the bytes it leaves mean nothing. Its time stays
  * bounded: it follows no more than 65,536 paths of a damaged tree, and no more freed pages than there are pages. Check an index that comes
  * from elsewhere.
  *
- * The numbers are the act's, in its order. Of soundness the header's level alone is tested: 2 is given where it is above 4, which no sound
- * index has. So a code other than 2 does not say that the index is sound.
+ * The refusals are the act's, in its order. Of soundness the header's level alone is tested: EPOCH_INDEX_UNSOUND is given where it is
+ * above 4, which no sound index has. So any other code does not say that the index is sound.
  */
 
-/* Numbers: 1, 2, 3, 4, 5, 6, 8, 9. */
-uint32_t epoch_index_trusted_insert(uint8_t *index, size_t length, uint32_t id, const int16_t *point, size_t coordinates);
+/* Refusals: EPOCH_INDEX_BAD_LENGTH, EPOCH_INDEX_UNSOUND, EPOCH_INDEX_BAD_FEATURES, EPOCH_INDEX_BAD_COORDINATE, EPOCH_INDEX_ZERO_ID,
+ * EPOCH_INDEX_ALREADY_LIVE, EPOCH_INDEX_FULL, EPOCH_INDEX_NO_PAGES. */
+uint32_t epoch_index_trusted_insert(uint8_t *index, size_t index_len, uint32_t id, const int16_t *point, size_t point_len);
 
-/* Numbers: 1, 2, 5, 7. */
-uint32_t epoch_index_trusted_delete(uint8_t *index, size_t length, uint32_t id);
+/* Refusals: EPOCH_INDEX_BAD_LENGTH, EPOCH_INDEX_UNSOUND, EPOCH_INDEX_ZERO_ID, EPOCH_INDEX_NOT_LIVE. */
+uint32_t epoch_index_trusted_delete(uint8_t *index, size_t index_len, uint32_t id);
 
-/* Numbers: 1, 2, 3, 4, 10, 11. */
-epoch_index_answer epoch_index_trusted_question(const uint8_t *index, size_t length, const int16_t *point, size_t coordinates, size_t k,
-                                                epoch_index_row *rows, size_t lent, epoch_index_tally *tally);
+/* Refusals: EPOCH_INDEX_BAD_LENGTH, EPOCH_INDEX_UNSOUND, EPOCH_INDEX_BAD_FEATURES, EPOCH_INDEX_BAD_COORDINATE, EPOCH_INDEX_BAD_K,
+ * EPOCH_INDEX_FEW_ROWS. */
+epoch_index_answer epoch_index_trusted_question(const uint8_t *index, size_t index_len, const int16_t *point, size_t point_len, size_t k,
+                                                epoch_index_row *rows, size_t rows_len, epoch_index_tally *tally);
 
 /*
- * Insert and delete without the check and without a look through the leaves for the identifier, for a caller that keeps its identifiers with
- * their points: each goes one way down the tree.
+ * Insert and delete without the check and without a look through the leaves for the identifier, for a caller that keeps its identifiers
+ * with their points: each goes one way down the tree.
  *
  * The caller's duty is that above, and one more for each:
  * - insert: `id` is not live. Where that is false nothing refuses the call: the index then holds the identifier twice and is not sound.
- *   Check and the acts tell (2); what the functions without the check return from then on means nothing.
- * - delete: `id` is live with this very point. Where that is false the call is refused (7, or a number before it) and changes nothing.
+ *   Check and the acts tell (EPOCH_INDEX_UNSOUND); what the functions without the check return from then on means nothing.
+ * - delete: `id` is live with this very point. Where that is false the call is refused (EPOCH_INDEX_NOT_LIVE, or a refusal before it)
+ *   and changes nothing.
  *
- * Where the duty is kept each returns and leaves exactly what the act does, and the index stays sound. On any bytes a call ends and touches
- * nothing but the memory lent: it goes one way down at most 5 levels, a delete with a look at a neighbour on each, and an insert that splits
- * a page follows the freed pages where too few have never been used.
+ * Where the duty is kept each returns and leaves exactly what the act does, and the index stays sound. On any bytes a call ends and
+ * touches nothing but the memory lent: it goes one way down at most 5 levels, a delete with a look at a neighbour on each, and an insert
+ * that splits a page follows the freed pages where too few have never been used.
  */
 
-/* Numbers: 1, 2, 3, 4, 5, 8, 9. */
-uint32_t epoch_index_vouched_insert(uint8_t *index, size_t length, uint32_t id, const int16_t *point, size_t coordinates);
+/* Refusals: EPOCH_INDEX_BAD_LENGTH, EPOCH_INDEX_UNSOUND, EPOCH_INDEX_BAD_FEATURES, EPOCH_INDEX_BAD_COORDINATE, EPOCH_INDEX_ZERO_ID,
+ * EPOCH_INDEX_FULL, EPOCH_INDEX_NO_PAGES. */
+uint32_t epoch_index_vouched_insert(uint8_t *index, size_t index_len, uint32_t id, const int16_t *point, size_t point_len);
 
-/* Numbers: 1, 2, 3, 4, 5, 7. */
-uint32_t epoch_index_vouched_delete(uint8_t *index, size_t length, uint32_t id, const int16_t *point, size_t coordinates);
+/* Refusals: EPOCH_INDEX_BAD_LENGTH, EPOCH_INDEX_UNSOUND, EPOCH_INDEX_BAD_FEATURES, EPOCH_INDEX_BAD_COORDINATE, EPOCH_INDEX_ZERO_ID,
+ * EPOCH_INDEX_NOT_LIVE. */
+uint32_t epoch_index_vouched_delete(uint8_t *index, size_t index_len, uint32_t id, const int16_t *point, size_t point_len);
 
 #ifdef __cplusplus
 }

@@ -11,50 +11,50 @@ pub struct Answer {
 }
 
 /// An insert: checked, trusted or vouched.
-pub type Insert = unsafe extern "C" fn(index: *mut u8, length: usize, id: u32, point: *const i16, coordinates: usize) -> u32;
+pub type Insert = unsafe extern "C" fn(index: *mut u8, index_len: usize, id: u32, point: *const i16, point_len: usize) -> u32;
 
 /// A delete: checked or trusted.
-pub type Delete = unsafe extern "C" fn(index: *mut u8, length: usize, id: u32) -> u32;
+pub type Delete = unsafe extern "C" fn(index: *mut u8, index_len: usize, id: u32) -> u32;
 
 /// A question: checked or trusted.
 pub type Question = unsafe extern "C" fn(
     index: *const u8,
-    length: usize,
+    index_len: usize,
     point: *const i16,
-    coordinates: usize,
+    point_len: usize,
     k: usize,
     rows: *mut Row,
-    lent: usize,
+    rows_len: usize,
     tally: *mut Tally,
 ) -> Answer;
 
 extern "C" {
-    pub fn epoch_index_make(index: *mut u8, length: usize, features: u8) -> u32;
-    pub fn epoch_index_check(index: *const u8, length: usize, page: *mut u32) -> u32;
-    pub fn epoch_index_insert(index: *mut u8, length: usize, id: u32, point: *const i16, coordinates: usize) -> u32;
-    pub fn epoch_index_delete(index: *mut u8, length: usize, id: u32) -> u32;
+    pub fn epoch_index_make(index: *mut u8, index_len: usize, features: u8) -> u32;
+    pub fn epoch_index_check(index: *const u8, index_len: usize, page: *mut u32) -> u32;
+    pub fn epoch_index_insert(index: *mut u8, index_len: usize, id: u32, point: *const i16, point_len: usize) -> u32;
+    pub fn epoch_index_delete(index: *mut u8, index_len: usize, id: u32) -> u32;
     pub fn epoch_index_question(
         index: *const u8,
-        length: usize,
+        index_len: usize,
         point: *const i16,
-        coordinates: usize,
+        point_len: usize,
         k: usize,
         rows: *mut Row,
-        lent: usize,
+        rows_len: usize,
         tally: *mut Tally,
     ) -> Answer;
-    pub fn epoch_index_trusted_insert(index: *mut u8, length: usize, id: u32, point: *const i16, coordinates: usize) -> u32;
-    pub fn epoch_index_trusted_delete(index: *mut u8, length: usize, id: u32) -> u32;
+    pub fn epoch_index_trusted_insert(index: *mut u8, index_len: usize, id: u32, point: *const i16, point_len: usize) -> u32;
+    pub fn epoch_index_trusted_delete(index: *mut u8, index_len: usize, id: u32) -> u32;
     pub fn epoch_index_trusted_question(
         index: *const u8,
-        length: usize,
+        index_len: usize,
         point: *const i16,
-        coordinates: usize,
+        point_len: usize,
         k: usize,
         rows: *mut Row,
-        lent: usize,
+        rows_len: usize,
         tally: *mut Tally,
     ) -> Answer;
-    pub fn epoch_index_vouched_insert(index: *mut u8, length: usize, id: u32, point: *const i16, coordinates: usize) -> u32;
-    pub fn epoch_index_vouched_delete(index: *mut u8, length: usize, id: u32, point: *const i16, coordinates: usize) -> u32;
+    pub fn epoch_index_vouched_insert(index: *mut u8, index_len: usize, id: u32, point: *const i16, point_len: usize) -> u32;
+    pub fn epoch_index_vouched_delete(index: *mut u8, index_len: usize, id: u32, point: *const i16, point_len: usize) -> u32;
 }

@@ -29,32 +29,32 @@ type Delete = unsafe extern "C" fn(*mut u8, usize, u32) -> u32;
 type Question = unsafe extern "C" fn(*const u8, usize, *const i16, usize, usize, *mut CRow, usize, *mut CTally) -> CAnswer;
 
 extern "C" {
-    fn epoch_index_make(index: *mut u8, length: usize, features: u8) -> u32;
-    fn epoch_index_insert(index: *mut u8, length: usize, id: u32, point: *const i16, coordinates: usize) -> u32;
-    fn epoch_index_delete(index: *mut u8, length: usize, id: u32) -> u32;
-    fn epoch_index_check(index: *const u8, length: usize, page: *mut u32) -> u32;
+    fn epoch_index_make(index: *mut u8, index_len: usize, features: u8) -> u32;
+    fn epoch_index_insert(index: *mut u8, index_len: usize, id: u32, point: *const i16, point_len: usize) -> u32;
+    fn epoch_index_delete(index: *mut u8, index_len: usize, id: u32) -> u32;
+    fn epoch_index_check(index: *const u8, index_len: usize, page: *mut u32) -> u32;
     fn epoch_index_question(
         index: *const u8,
-        length: usize,
+        index_len: usize,
         point: *const i16,
-        coordinates: usize,
+        point_len: usize,
         k: usize,
         rows: *mut CRow,
-        lent: usize,
+        rows_len: usize,
         tally: *mut CTally,
     ) -> CAnswer;
-    fn epoch_index_trusted_insert(index: *mut u8, length: usize, id: u32, point: *const i16, coordinates: usize) -> u32;
-    fn epoch_index_trusted_delete(index: *mut u8, length: usize, id: u32) -> u32;
-    fn epoch_index_vouched_insert(index: *mut u8, length: usize, id: u32, point: *const i16, coordinates: usize) -> u32;
-    fn epoch_index_vouched_delete(index: *mut u8, length: usize, id: u32, point: *const i16, coordinates: usize) -> u32;
+    fn epoch_index_trusted_insert(index: *mut u8, index_len: usize, id: u32, point: *const i16, point_len: usize) -> u32;
+    fn epoch_index_trusted_delete(index: *mut u8, index_len: usize, id: u32) -> u32;
+    fn epoch_index_vouched_insert(index: *mut u8, index_len: usize, id: u32, point: *const i16, point_len: usize) -> u32;
+    fn epoch_index_vouched_delete(index: *mut u8, index_len: usize, id: u32, point: *const i16, point_len: usize) -> u32;
     fn epoch_index_trusted_question(
         index: *const u8,
-        length: usize,
+        index_len: usize,
         point: *const i16,
-        coordinates: usize,
+        point_len: usize,
         k: usize,
         rows: *mut CRow,
-        lent: usize,
+        rows_len: usize,
         tally: *mut CTally,
     ) -> CAnswer;
 }
