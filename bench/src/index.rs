@@ -75,7 +75,7 @@ pub fn fill(keeper: &mut impl Keeps, points: &[i16], d: usize) {
 /// An index that holds the points, with as many pages as they can need.
 pub fn filled(points: &[i16], d: usize) -> Vec<u8> {
     let pages = (points.len() / d / 7 + 8).min(16_384);
-    let mut bytes = Index::make(vec![0; pages * PAGE_BYTES], d as u8).unwrap().into_bytes();
-    fill(&mut Index::open(&mut bytes[..]).unwrap().with_identifiers(), points, d);
+    let mut bytes = Index::make(vec![0; pages * PAGE_BYTES], d as u8).unwrap().into_inner();
+    fill(&mut SoundIndex::open(&mut bytes[..]).unwrap().into_tabled(), points, d);
     bytes
 }

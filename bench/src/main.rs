@@ -82,7 +82,7 @@ impl Case {
 
     /// The whole act for some of the questions.
     fn act_some(&self, k: usize, some: usize) {
-        let index = Index::over(&self.bytes[..]);
+        let index = Index::new(&self.bytes[..]);
         let mut rows = [Row::default(); 64];
         for q in self.questions.chunks(self.d).take(some) {
             black_box(index.question_into(q, k, &mut rows, &mut Tally::default()).unwrap());
@@ -128,7 +128,7 @@ impl Case {
 
     /// Holds the search's rows to the scan's.
     fn compare(&self, k: usize) {
-        let sound = Index::open(&self.bytes[..]).unwrap();
+        let sound = SoundIndex::open(&self.bytes[..]).unwrap();
         let mut kept = Vec::new();
         for q in self.questions.chunks(self.d) {
             let found = sound.question(q, k, &mut Tally::default()).unwrap();
@@ -140,7 +140,7 @@ impl Case {
     /// A line of the first table; the ratio of the scan timed twice.
     fn line(&self, k: usize) -> f64 {
         self.compare(k);
-        let sound = Index::open(&self.bytes[..]).unwrap();
+        let sound = SoundIndex::open(&self.bytes[..]).unwrap();
         let wide = is_x86_feature_detected!("avx2");
         let times = quickest(
             ROUNDS,
@@ -212,12 +212,12 @@ struct Times {
 
 impl Times {
     fn of(case: &mut Case) -> Times {
-        let sound = Index::open(&case.bytes[..]).unwrap();
+        let sound = SoundIndex::open(&case.bytes[..]).unwrap();
         let read = quickest(
             ROUNDS,
             &mut [
                 &mut || touch(&case.bytes),
-                &mut || Index::over(&case.bytes[..]).check().unwrap(),
+                &mut || Index::new(&case.bytes[..]).check().unwrap(),
                 &mut || {
                     case.search_all(&sound, 10);
                 },
@@ -235,9 +235,9 @@ impl Times {
             check: read[1],
             search: read[2],
             scan: read[3],
-            trusted: upkeep(&mut Index::open(&mut case.bytes[..]).unwrap(), points, d, 200),
-            tabled: upkeep(&mut Index::open(&mut case.bytes[..]).unwrap().with_identifiers(), points, d, 200),
-            acts: upkeep(&mut Index::over(&mut case.bytes[..]), points, d, 5),
+            trusted: upkeep(&mut SoundIndex::open(&mut case.bytes[..]).unwrap(), points, d, 200),
+            tabled: upkeep(&mut SoundIndex::open(&mut case.bytes[..]).unwrap().into_tabled(), points, d, 200),
+            acts: upkeep(&mut Index::new(&mut case.bytes[..]), points, d, 5),
             map: upkeep(&mut map, points, d, 200),
         }
     }

@@ -1,11 +1,11 @@
 //! A review: an index in 64 pages, checked acts, then the bytes opened once for acts without the check.
-use epoch_index::{Found, Index, Refusal, Row, Tally, PAGE_BYTES};
+use epoch_index::{Found, Index, Refusal, Row, SoundIndex, Tally, PAGE_BYTES};
 
 fn print(asked: Result<Found, Refusal>) {
     match asked {
         Ok(found) => {
             println!("question: {} rows, {} leaves", found.rows.len(), found.leaves);
-            for Row { id, distance, position } in found.rows {
+            for Row { id, distance, position, .. } in found.rows {
                 println!("  id {id} at squared distance {distance}, leaf {position}");
             }
         }
@@ -23,16 +23,16 @@ fn main() -> Result<(), Box<dyn std::error::Error>> {
     }
     print(index.question(&[-100, -100], 2, &mut tally));
 
-    let mut sound = Index::open(index.into_bytes())?;
+    let mut sound = SoundIndex::open(index.into_inner())?;
     sound.delete(7)?;
     print(sound.question(&[-100, -100], 2, &mut tally));
     print(sound.question(&[-100, -100], 65, &mut tally));
     println!("tally: {} questions, {} leaves", tally.questions, tally.leaves);
 
-    let mut damaged = sound.into_bytes();
+    let mut damaged = sound.into_inner();
     // page 1 then counts more records than a page can hold
     damaged[PAGE_BYTES + 1] = 0xff;
-    if let Err(fault) = Index::open(damaged) {
+    if let Err(fault) = SoundIndex::open(damaged) {
         println!("open refused: {} ({fault})", fault.refusal.code());
     }
     Ok(())

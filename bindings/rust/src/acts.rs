@@ -1,6 +1,6 @@
 //! The calls: slices in, results out. The only `unsafe` code of the crate.
 use crate::sys;
-use crate::{Fault, Refusal, Row, Tally};
+use crate::{Counts, Fault, Refusal, Row, Tally};
 
 pub fn make(index: &mut [u8], features: u8) -> Result<(), Refusal> {
     // SAFETY: pointer and length are those of one slice, lent for the call alone; any bytes and any number are allowed.
@@ -31,17 +31,9 @@ pub fn delete_point(index: &mut [u8], id: u32, point: &[i16]) -> Result<(), Refu
     Refusal::of(unsafe { sys::epoch_index_vouched_delete(index.as_mut_ptr(), index.len(), id, point.as_ptr(), point.len()) })
 }
 
-/// The number of rows written, and the leaves read.
-pub fn question(
-    act: sys::Question,
-    index: &[u8],
-    point: &[i16],
-    k: usize,
-    rows: &mut [Row],
-    tally: &mut Tally,
-) -> Result<(usize, u32), Refusal> {
+pub fn question(act: sys::Question, index: &[u8], point: &[i16], k: usize, rows: &mut [Row], tally: &mut Tally) -> Result<Counts, Refusal> {
     // SAFETY: pointers and lengths are those of four borrows; `rows` and `tally` are borrowed alone, so they overlap nothing. `Row` and
     // `Tally` have C's layout. Either question ends within them whatever the index holds.
     let answer = unsafe { act(index.as_ptr(), index.len(), point.as_ptr(), point.len(), k, rows.as_mut_ptr(), rows.len(), tally) };
-    Refusal::of(answer.code).map(|()| (answer.count, answer.leaves))
+    Refusal::of(answer.code).map(|()| Counts { rows: answer.count, leaves: answer.leaves })
 }

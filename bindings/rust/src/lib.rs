@@ -1,11 +1,11 @@
 //! The epoch index: an exact nearest-neighbour index over lent bytes.
 //!
 //! A point is 1 to 16 whole numbers from -1,000 to 1,000 with an identifier. An index is whole pages of 1,024 bytes, 2 to 16,384 of them,
-//! and lies in its bytes entirely: they may be stored and read back as they are. The work is done by libepoch_index.a, each function of which is
-//! proved to meet its contract; this crate is a thin safe layer over it.
+//! and lies in its bytes entirely: they may be stored and read back as they are. The work is done by libepoch_index.a, each function of
+//! which is proved to meet its contract; this crate is a thin safe layer over it.
 //!
 //! - [`Index`]: five acts, each of which checks the whole index first and so is right about any bytes.
-//! - [`SoundIndex`]: checked once, by [`Index::open`], and changed by nothing but its own methods, which therefore need no check.
+//! - [`SoundIndex`]: checked once, by [`SoundIndex::open`], and changed by nothing but its own methods, which therefore need no check.
 //! - [`TabledIndex`]: a sound index with a table of its identifiers, so that insert and delete need no look through the leaves either.
 //!
 //! ```
@@ -43,8 +43,9 @@ pub const MAX_FEATURES: usize = 16;
 pub const MAX_POINTS: usize = 65_535;
 
 /// A record that a question found.
-#[repr(C)]
 #[derive(Clone, Copy, Debug, Default, PartialEq, Eq, Hash)]
+#[non_exhaustive]
+#[repr(C)]
 pub struct Row {
     /// Its squared distance from the asked point.
     pub distance: u64,
@@ -55,8 +56,8 @@ pub struct Row {
 }
 
 /// A caller's tally. Each count stays at 4,294,967,295 once it would pass it.
-#[repr(C)]
 #[derive(Clone, Copy, Debug, Default, PartialEq, Eq, Hash)]
+#[repr(C)]
 pub struct Tally {
     /// The questions carried out.
     pub questions: u32,
@@ -65,20 +66,31 @@ pub struct Tally {
 }
 
 /// What a question found.
-#[derive(Clone, Debug, Default, PartialEq, Eq)]
+#[derive(Clone, Debug, Default, PartialEq, Eq, Hash)]
+#[non_exhaustive]
 pub struct Found {
-    /// The leaves that were read.
-    pub leaves: u32,
     /// The nearest records, nearest first, equal distances by lower identifier: k of them, or all if fewer are live.
     pub rows: Vec<Row>,
+    /// The number of leaves read.
+    pub leaves: u32,
+}
+
+/// The counts of a question whose rows are lent: [`Index::question_into`], [`SoundIndex::question_into`].
+#[derive(Clone, Copy, Debug, Default, PartialEq, Eq, Hash)]
+#[non_exhaustive]
+pub struct Counts {
+    /// The number of rows written.
+    pub rows: usize,
+    /// The number of leaves read.
+    pub leaves: u32,
 }
 
 /// Asks with rows of its own. k above [`MAX_K`] is refused before the rows are counted.
 fn found(act: sys::Question, index: &[u8], point: &[i16], k: usize, tally: &mut Tally) -> Result<Found, Refusal> {
     let mut rows = vec![Row::default(); k.min(MAX_K)];
-    let (count, leaves) = acts::question(act, index, point, k, &mut rows, tally)?;
-    rows.truncate(count);
-    Ok(Found { leaves, rows })
+    let counts = acts::question(act, index, point, k, &mut rows, tally)?;
+    rows.truncate(counts.rows);
+    Ok(Found { rows, leaves: counts.leaves })
 }
 
 /// An index in bytes that are owned (`Vec<u8>`) or borrowed (`&[u8]` to ask and check, `&mut [u8]` to change it too).
@@ -92,7 +104,7 @@ pub struct Index<B> {
 
 impl<B: AsRef<[u8]>> Index<B> {
     /// The index that these bytes hold, if they hold one: each act finds out.
-    pub fn over(bytes: B) -> Index<B> {
+    pub fn new(bytes: B) -> Index<B> {
         Index { bytes }
     }
 
@@ -106,8 +118,8 @@ impl<B: AsRef<[u8]>> Index<B> {
         found(sys::epoch_index_question, self.as_bytes(), point, k, tally)
     }
 
-    /// The same in lent rows: how many were written, and the leaves read. Rows past those keep their contents.
-    pub fn question_into(&self, point: &[i16], k: usize, rows: &mut [Row], tally: &mut Tally) -> Result<(usize, u32), Refusal> {
+    /// The same in lent rows, k of them or more. Rows past those written keep their contents.
+    pub fn question_into(&self, point: &[i16], k: usize, rows: &mut [Row], tally: &mut Tally) -> Result<Counts, Refusal> {
         acts::question(sys::epoch_index_question, self.as_bytes(), point, k, rows, tally)
     }
 
@@ -117,16 +129,8 @@ impl<B: AsRef<[u8]>> Index<B> {
     }
 
     /// The bytes, given back.
-    pub fn into_bytes(self) -> B {
+    pub fn into_inner(self) -> B {
         self.bytes
-    }
-}
-
-impl<B: StableBytes> Index<B> {
-    /// Checks the bytes once.
-    pub fn open(bytes: B) -> Result<SoundIndex<B>, Fault> {
-        acts::check(bytes.as_ref())?;
-        Ok(SoundIndex { bytes })
     }
 }
 
@@ -148,15 +152,15 @@ impl<B: AsRef<[u8]> + AsMut<[u8]>> Index<B> {
     }
 }
 
-/// A sound index: [`Index::open`] has checked it, and nothing but the methods here changes its bytes.
+/// A sound index: [`SoundIndex::open`] has checked it, and nothing but the methods here changes its bytes.
 ///
 /// They do what those of [`Index`] do, without checking every page beforehand, and are never refused with [`Refusal::Unsound`].
 /// Bytes that it borrows cannot be changed beside it:
 ///
 /// ```compile_fail
-/// # use epoch_index::{Index, Tally};
-/// let mut bytes = Index::make(vec![0; 2048], 1).unwrap().into_bytes();
-/// let sound = Index::open(&mut bytes[..]).unwrap();
+/// # use epoch_index::{Index, SoundIndex, Tally};
+/// let mut bytes = Index::make(vec![0; 2048], 1).unwrap().into_inner();
+/// let sound = SoundIndex::open(&mut bytes[..]).unwrap();
 /// bytes[4] = 2;
 /// sound.question(&[0], 1, &mut Tally::default()).unwrap();
 /// ```
@@ -165,15 +169,15 @@ impl<B: AsRef<[u8]> + AsMut<[u8]>> Index<B> {
 /// those that were checked, is not taken:
 ///
 /// ```compile_fail
-/// # use epoch_index::Index;
+/// # use epoch_index::{Index, SoundIndex};
 /// struct Own(Vec<u8>);
 /// impl AsRef<[u8]> for Own {
 ///     fn as_ref(&self) -> &[u8] {
 ///         &self.0
 ///     }
 /// }
-/// let _ = Index::over(Own(vec![0; 2048])).check(); // the acts take it
-/// let _ = Index::open(Own(vec![0; 2048]));
+/// let _ = Index::new(Own(vec![0; 2048])).check(); // the acts take it
+/// let _ = SoundIndex::open(Own(vec![0; 2048]));
 /// ```
 #[derive(Clone, Debug)]
 pub struct SoundIndex<B> {
@@ -181,28 +185,46 @@ pub struct SoundIndex<B> {
 }
 
 impl<B: StableBytes> SoundIndex<B> {
+    /// The index that these bytes hold, checked here once.
+    ///
+    /// ```
+    /// # use epoch_index::{Index, Refusal, SoundIndex, PAGE_BYTES};
+    /// let mut bytes = Index::make(vec![0; 2 * PAGE_BYTES], 1)?.into_inner();
+    /// SoundIndex::open(&mut bytes[..]).unwrap().insert(7, &[-300])?;
+    /// bytes[..PAGE_BYTES].fill(0);
+    /// let fault = SoundIndex::open(bytes).unwrap_err();
+    /// assert_eq!((fault.refusal, fault.page), (Refusal::Unsound, 0));
+    /// # Ok::<(), Refusal>(())
+    /// ```
+    pub fn open(bytes: B) -> Result<SoundIndex<B>, Fault> {
+        acts::check(bytes.as_ref())?;
+        Ok(SoundIndex { bytes })
+    }
+
     /// The k records nearest to a point. The tally counts the question and the leaves it read.
     pub fn question(&self, point: &[i16], k: usize, tally: &mut Tally) -> Result<Found, Refusal> {
         found(sys::epoch_index_trusted_question, self.as_bytes(), point, k, tally)
     }
 
-    /// The same in lent rows: how many were written, and the leaves read. Rows past those keep their contents.
-    pub fn question_into(&self, point: &[i16], k: usize, rows: &mut [Row], tally: &mut Tally) -> Result<(usize, u32), Refusal> {
+    /// The same in lent rows, k of them or more. Rows past those written keep their contents.
+    pub fn question_into(&self, point: &[i16], k: usize, rows: &mut [Row], tally: &mut Tally) -> Result<Counts, Refusal> {
         acts::question(sys::epoch_index_trusted_question, self.as_bytes(), point, k, rows, tally)
     }
 
     /// The index with a table of its live identifiers and their points. Every leaf is read once.
     ///
     /// ```
-    /// # use epoch_index::{Index, Refusal};
-    /// let bytes = Index::make(vec![0; 2048], 1)?.into_bytes();
-    /// let mut tabled = Index::open(bytes).unwrap().with_identifiers();
+    /// # use epoch_index::{Index, Refusal, SoundIndex, Tally, PAGE_BYTES};
+    /// let bytes = Index::make(vec![0; 2 * PAGE_BYTES], 1)?.into_inner();
+    /// let mut tabled = SoundIndex::open(bytes).unwrap().into_tabled();
     /// tabled.insert(7, &[-300])?;
     /// assert_eq!(tabled.insert(7, &[5]), Err(Refusal::AlreadyLive));
     /// assert_eq!((tabled.len(), tabled.point(7)), (1, Some(&[-300][..])));
+    /// let found = tabled.sound().question(&[0], 1, &mut Tally::default())?;
+    /// assert_eq!(found.rows[0].distance, 90_000);
     /// # Ok::<(), Refusal>(())
     /// ```
-    pub fn with_identifiers(self) -> TabledIndex<B> {
+    pub fn into_tabled(self) -> TabledIndex<B> {
         TabledIndex::of(self)
     }
 
@@ -212,7 +234,7 @@ impl<B: StableBytes> SoundIndex<B> {
     }
 
     /// The bytes, given back: from here on they are the caller's to change.
-    pub fn into_bytes(self) -> B {
+    pub fn into_inner(self) -> B {
         self.bytes
     }
 }

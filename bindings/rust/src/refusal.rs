@@ -4,6 +4,7 @@ use std::fmt;
 
 /// Why an act was refused. A refusal changes nothing: index, rows and tally are as they were.
 #[derive(Clone, Copy, Debug, PartialEq, Eq, Hash)]
+#[non_exhaustive]
 #[repr(u32)]
 pub enum Refusal {
     /// Index length isn't a permitted number of whole pages.
@@ -35,8 +36,8 @@ pub enum Refusal {
 }
 
 impl Refusal {
-    /// Every refusal, in the order of their numbers from 1 on.
-    pub const ALL: [Refusal; 13] = [
+    /// Every refusal, in the order of their numbers.
+    pub const ALL: &'static [Refusal] = &[
         Refusal::BadLength,
         Refusal::Unsound,
         Refusal::BadFeatures,

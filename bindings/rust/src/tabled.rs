@@ -1,6 +1,6 @@
 //! A sound index with the table of its identifiers.
 use crate::{acts, sys};
-use crate::{Found, Refusal, Row, SoundIndex, StableBytes, StableBytesMut, Tally, MAX_FEATURES, PAGE_BYTES};
+use crate::{Refusal, SoundIndex, StableBytes, StableBytesMut, MAX_FEATURES, PAGE_BYTES};
 use std::collections::hash_map::{Entry, HashMap};
 
 type Point = [i16; MAX_FEATURES];
@@ -26,10 +26,11 @@ const IDENTIFIER_BYTES: usize = 4;
 const STORED_BELOW: u16 = 2048;
 const STORED_MORE: i16 = 1000;
 
-/// A sound index that keeps its live identifiers with their points in a table: [`SoundIndex::with_identifiers`] makes it.
+/// A sound index that keeps its live identifiers with their points in a table: [`SoundIndex::into_tabled`] makes it.
 ///
-/// Its methods do what those of [`SoundIndex`] do, with the same refusals and the same bytes. Insert and delete ask the table whether an
-/// identifier is live, where those of [`SoundIndex`] look through the leaves, and then go one way down the tree.
+/// Insert and delete do what those of [`SoundIndex`] do, with the same refusals and the same bytes. They ask the table whether an identifier
+/// is live, where those look through the leaves, and then go one way down the tree. Questions are those of the [sound](TabledIndex::sound)
+/// index inside.
 #[derive(Clone, Debug)]
 pub struct TabledIndex<B> {
     sound: SoundIndex<B>,
@@ -56,14 +57,9 @@ impl<B: StableBytes> TabledIndex<B> {
         TabledIndex { features: usize::from(bytes[FEATURES]), sound, points }
     }
 
-    /// The k records nearest to a point. The tally counts the question and the leaves it read.
-    pub fn question(&self, point: &[i16], k: usize, tally: &mut Tally) -> Result<Found, Refusal> {
-        self.sound.question(point, k, tally)
-    }
-
-    /// The same in lent rows: how many were written, and the leaves read. Rows past those keep their contents.
-    pub fn question_into(&self, point: &[i16], k: usize, rows: &mut [Row], tally: &mut Tally) -> Result<(usize, u32), Refusal> {
-        self.sound.question_into(point, k, rows, tally)
+    /// The index itself, to ask, to read or to store.
+    pub fn sound(&self) -> &SoundIndex<B> {
+        &self.sound
     }
 
     /// Whether an identifier is live.
@@ -86,19 +82,9 @@ impl<B: StableBytes> TabledIndex<B> {
         self.points.is_empty()
     }
 
-    /// The bytes, to read or store.
-    pub fn as_bytes(&self) -> &[u8] {
-        self.sound.as_bytes()
-    }
-
     /// The index without the table.
     pub fn into_sound(self) -> SoundIndex<B> {
         self.sound
-    }
-
-    /// The bytes, given back: from here on they are the caller's to change.
-    pub fn into_bytes(self) -> B {
-        self.sound.into_bytes()
     }
 }
 

@@ -1,0 +1,80 @@
+//! Series of acts: with the check and without it they give the same answers and bytes, and questions give a full scan's rows.
+use super::{bytes, Random};
+use crate::*;
+use std::collections::BTreeMap;
+
+/// An index in two ways, the live points, and a tally for each.
+struct Series {
+    checked: Index<Vec<u8>>,
+    sound: SoundIndex<Vec<u8>>,
+    points: BTreeMap<u32, Vec<i16>>,
+    tallies: [Tally; 2],
+}
+
+impl Series {
+    fn new(d: usize) -> Series {
+        let checked = Index::make(bytes(40), d as u8).unwrap();
+        let sound = SoundIndex::open(checked.as_bytes().to_vec()).unwrap();
+        Series { checked, sound, points: BTreeMap::new(), tallies: [Tally::default(); 2] }
+    }
+
+    fn insert(&mut self, id: u32, point: Vec<i16>) {
+        let done = self.checked.insert(id, &point);
+        assert_eq!(self.sound.insert(id, &point), done);
+        match done {
+            Err(Refusal::NoPages) => (),
+            Err(refusal) if id == 0 => assert_eq!(refusal, Refusal::ZeroIdentifier),
+            Err(refusal) => assert_eq!((refusal, self.points.contains_key(&id)), (Refusal::AlreadyLive, true)),
+            Ok(()) => {
+                assert_ne!(id, 0);
+                assert_eq!(self.points.insert(id, point), None);
+            }
+        }
+    }
+
+    fn delete(&mut self, id: u32) {
+        let done = self.checked.delete(id);
+        assert_eq!(self.sound.delete(id), done);
+        assert_eq!(done.is_ok(), self.points.remove(&id).is_some());
+    }
+
+    fn question(&mut self, point: &[i16], k: usize) {
+        let found = self.checked.question(point, k, &mut self.tallies[0]).unwrap();
+        let rows: Vec<(u64, u32)> = found.rows.iter().map(|row| (row.distance, row.id)).collect();
+        assert_eq!(self.sound.question(point, k, &mut self.tallies[1]), Ok(found));
+        assert_eq!(rows, self.full_scan(point, k));
+    }
+
+    /// The nearest by a look at every point.
+    fn full_scan(&self, asked: &[i16], k: usize) -> Vec<(u64, u32)> {
+        let squared = |p: &[i16]| p.iter().zip(asked).map(|(a, b)| (i64::from(*a) - i64::from(*b)).pow(2) as u64).sum();
+        let mut rows: Vec<(u64, u32)> = self.points.iter().map(|(id, p)| (squared(p), *id)).collect();
+        rows.sort_unstable();
+        rows.truncate(k);
+        rows
+    }
+}
+
+fn series(d: usize, reach: u64, seed: u64) {
+    let mut random = Random(seed);
+    let mut series = Series::new(d);
+    for _ in 0..600 {
+        let id = random.below(400) as u32;
+        let point = random.point(d, reach);
+        match random.below(4) {
+            0 | 1 => series.insert(id, point),
+            2 => series.delete(id),
+            _ => series.question(&point, 1 + random.below(MAX_K as u64) as usize),
+        }
+        assert_eq!(series.sound.as_bytes(), series.checked.as_bytes());
+    }
+    assert_eq!(series.tallies[0], series.tallies[1]);
+    series.checked.check().unwrap();
+}
+
+#[test]
+fn series_agree_with_a_full_scan() {
+    for (d, reach) in [(1, 20), (2, 3), (2, 1000), (5, 1000), (16, 1000)] {
+        series(d, reach, 1 + d as u64 * reach);
+    }
+}
