@@ -28,9 +28,9 @@ const STORED_MORE: i16 = 1000;
 
 /// A sound index that keeps its live identifiers with their points in a table: [`SoundIndex::into_tabled`] makes it.
 ///
-/// Insert and delete do what those of [`SoundIndex`] do, with the same refusals and the same bytes. They ask the table whether an identifier
-/// is live, where those look through the leaves, and then go one way down the tree. Questions are those of the [sound](TabledIndex::sound)
-/// index inside.
+/// Insert and delete do what those of [`SoundIndex`] do, with the same refusals and the same bytes. They ask the table whether an
+/// identifier is live, where those look through the leaves, and then go one way down the tree. Questions are asked of the sound index
+/// inside ([`TabledIndex::sound`]).
 #[derive(Clone, Debug)]
 pub struct TabledIndex<B> {
     sound: SoundIndex<B>,

@@ -76,20 +76,22 @@ fn filled(run: &mut Run, s: &mut Series, name: &str, part: Part) {
     run.trusted = false;
 }
 
-pub fn all(run: &mut Run) {
+/// One part of the leaves, in indexes of several sizes.
+fn each_plan(run: &mut Run, name: &str, part: Part) {
+    let mut rng = Rng(12);
     let times = if run.long { 40 } else { 4 };
+    let sizes = [(2, 0), (4, 11), (8, 40), (64, 300)];
+    for (pages, points, d) in sizes.into_iter().flat_map(|(pages, points)| [1, 2, 5, 16].map(|d| (pages, points, d))) {
+        for i in 0..times {
+            let plan = Plan { pages, d, kind: KINDS[i % 4], points, shape: Shape::Any, junk: false };
+            let mut s = Series::over(built(&mut rng, plan), plan.kind, Ids::Any, rng.next());
+            filled(run, &mut s, name, part);
+        }
+    }
+}
+
+pub fn all(run: &mut Run) {
     for (name, part) in PARTS {
-        run.case(&format!("unused: {name}"), |run| {
-            let mut rng = Rng(12);
-            for (pages, points) in [(2, 0), (4, 11), (8, 40), (64, 300)] {
-                for d in [1, 2, 5, 16] {
-                    for i in 0..times {
-                        let plan = Plan { pages, d, kind: KINDS[i % 4], points, shape: Shape::Any, junk: false };
-                        let mut s = Series::over(built(&mut rng, plan), plan.kind, Ids::Any, rng.next());
-                        filled(run, &mut s, name, part);
-                    }
-                }
-            }
-        });
+        run.case(&format!("unused: {name}"), |run| each_plan(run, name, part));
     }
 }

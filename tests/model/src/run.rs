@@ -139,7 +139,7 @@ impl Run {
         println!("damaged indexes: {} (not sound: {}, of these failing at the header: {})", c.damaged, c.unsound, c.header);
         println!("acts without the check on damaged indexes: at most {:?} each; {} of a level above 4, refused", c.longest, c.high);
         println!("searches by themselves: {}, with {} pages of unread leaves overwritten or exchanged", c.searches, c.unread);
-        println!("damage: {} passed, {} failed", self.passed, self.failed);
+        println!("model: {} passed, {} failed", self.passed, self.failed);
         self.failed == 0
     }
 }
@@ -151,7 +151,7 @@ fn watch() {
         std::thread::sleep(Duration::from_secs(60));
         let now = BEATS.load(Ordering::Relaxed);
         if now == seen {
-            println!("damage: an act does not end");
+            println!("model: an act does not end");
             std::process::abort();
         }
         seen = now;

@@ -1,4 +1,4 @@
-//! The proved library against an implementation of its own, from the specification's words: acts, soundness, damage.
+//! The proved library against a model: an implementation of its own, from the specification's words. Acts, soundness, damage.
 
 mod acts;
 mod bounds;

@@ -1,5 +1,5 @@
-//! Leaves left unread: whatever their pages hold, the search by itself gives the sound index's rows and count; so does the question after an
-//! exchange of their records.
+//! Leaves left unread: whatever their pages hold, the search by itself gives the sound index's rows and count; so does the question after
+//! an exchange of their records.
 
 use crate::acts::{Act, ROWS};
 use crate::data::{Kind, Rng, KINDS};
@@ -28,21 +28,22 @@ fn overwrite(rng: &mut Rng, b: &mut [u8], unread: &[u32]) {
     }
 }
 
-/// Records of the same keys with other coordinates beside the greatest.
+/// Other coordinates beside the greatest: the key stays.
+fn exchange_record(rng: &mut Rng, r: &mut Record, d: usize) {
+    let key = r.key(d);
+    let (j, h) = (key.pyramid as usize % d, key.height as i64);
+    for i in (0..d).filter(|&i| i != j) {
+        let reach = if i < j { h - 1 } else { h };
+        r.slots[i] = (1000 + rng.range(-reach, reach)) as u16;
+    }
+    assert_eq!(key, r.key(d));
+}
+
+/// Records of the same keys with other coordinates.
 fn exchange(rng: &mut Rng, b: &mut [u8], d: usize, unread: &[u32]) {
     for &p in unread {
         let mut all = records(b, p);
-        for r in all.iter_mut() {
-            let key = r.key(d);
-            let (j, h) = (key.pyramid as usize % d, key.height as i64);
-            for i in 0..d {
-                let reach = if i < j { h - 1 } else { h };
-                if i != j {
-                    r.slots[i] = (1000 + rng.range(-reach, reach)) as u16;
-                }
-            }
-            assert_eq!(key, r.key(d));
-        }
+        all.iter_mut().for_each(|r| exchange_record(rng, r, d));
         put_leaf(b, p, &all);
     }
 }

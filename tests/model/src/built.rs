@@ -106,6 +106,27 @@ fn put_header(b: &mut [u8], plan: Plan, root: u32, level: usize, chain: &[u32]) 
     }
 }
 
+/// Consecutive parts of these sizes.
+fn parts<'a, T>(of: &'a [T], sizes: &[usize]) -> Vec<&'a [T]> {
+    let mut rest = of;
+    let mut part = |&size: &usize| {
+        let (part, behind) = rest.split_at(size);
+        rest = behind;
+        part
+    };
+    sizes.iter().map(&mut part).collect()
+}
+
+/// An inner page over these children, which are written already.
+fn put_over(b: &mut [u8], p: u32, level: u8, children: &[u32], d: usize) {
+    let entry = |&child: &u32| {
+        let (first, last) = ends(b, child, d);
+        Entry { child, first, last }
+    };
+    let entries: Vec<Entry> = children.iter().map(entry).collect();
+    put_inner(b, p, level, &entries);
+}
+
 /// The bytes of an index by plan.
 pub fn built(rng: &mut Rng, plan: Plan) -> Vec<u8> {
     let levels = levels(rng, plan.points, plan.shape);
@@ -116,26 +137,15 @@ pub fn built(rng: &mut Rng, plan: Plan) -> Vec<u8> {
     let chain = numbers.split_off(in_tree);
     let mut b = rng.bytes(plan.pages * PAGE);
     let records = sorted_records(rng, plan);
-    let mut below: Vec<u32> = Vec::new();
+    let mut below = Vec::new();
     for (level, sizes) in levels.iter().enumerate() {
-        let mut from = 0;
-        let mut row = Vec::new();
-        for &size in sizes {
-            let p = numbers.pop().unwrap();
-            if level == 0 {
-                put_leaf(&mut b, p, &records[from..from + size]);
-            } else {
-                let entry = |&child: &u32| {
-                    let (first, last) = ends(&b, child, plan.d);
-                    Entry { child, first, last }
-                };
-                let entries: Vec<Entry> = below[from..from + size].iter().map(entry).collect();
-                put_inner(&mut b, p, level as u8, &entries);
-            }
-            row.push(p);
-            from += size;
+        let pages: Vec<u32> = sizes.iter().map(|_| numbers.pop().unwrap()).collect();
+        if level == 0 {
+            pages.iter().zip(parts(&records, sizes)).for_each(|(&p, records)| put_leaf(&mut b, p, records));
+        } else {
+            pages.iter().zip(parts(&below, sizes)).for_each(|(&p, children)| put_over(&mut b, p, level as u8, children, plan.d));
         }
-        below = row;
+        below = pages;
     }
     put_header(&mut b, plan, below[0], levels.len() - 1, &chain);
     put_u32(&mut b, FRESH, (1 + in_tree + freed) as u32);
@@ -228,57 +238,51 @@ fn too_many(run: &mut Run, rng: &mut Rng, points: usize, shape: Shape) {
     ffi::delete(&mut lib, 1, true);
 }
 
+/// Plans of every shape, for some d and kind of points.
+fn each_shape(run: &mut Run, rng: &mut Rng, pages: usize, points: usize, d: usize, kind: Kind) {
+    let tallest = if pages > 2 { Shape::Tall } else { Shape::Any };
+    for i in 0..if run.long { 40 } else { 4 } {
+        let shape = [tallest, Shape::Any, Shape::Dense, Shape::Any][i % 4];
+        acted(run, rng, Plan { pages, d, kind, points, shape, junk: i % 2 == 1 }, 40);
+    }
+}
+
+fn level_four(run: &mut Run) {
+    let mut rng = Rng(4);
+    for (d, points) in [(1, 8192), (3, 8200), (16, 9000)] {
+        let plan = Plan { pages: 3000, d, kind: Kind::Uniform, points, shape: Shape::Tall, junk: d == 3 };
+        let bytes = built(&mut rng, plan);
+        run.expect(bytes[LEVEL] == 4, || format!("level {}", bytes[LEVEL]));
+        acted(run, &mut rng, plan, if run.long { 2000 } else { 60 });
+    }
+}
+
+fn no_page_free(run: &mut Run) {
+    let plan = Plan { pages: 4370, d: 4, kind: Kind::Uniform, points: 65_535, shape: Shape::Dense, junk: false };
+    let mut s = Series::over(built(&mut Rng(6), plan), plan.kind, Ids::Any, 6);
+    let mut codes = std::collections::BTreeSet::new();
+    for i in 0..12 {
+        let (new, old, x) = (s.new_id(), s.live[s.live.len() / 2], s.point());
+        codes.insert(s.act(run, &Act::Insert(new, x)));
+        if i > 2 {
+            s.act(run, &Act::Delete(old));
+        }
+    }
+    run.expect(codes.contains(&8) && codes.contains(&9), || format!("codes of inserts: {codes:?}"));
+}
+
 pub fn all(run: &mut Run) {
-    let times = if run.long { 40 } else { 4 };
     for (pages, points) in [(2, 0), (2, 16), (4, 16), (8, 40), (40, 128), (64, 300), (256, 1500)] {
         run.case(&format!("built: {points} points in {pages} pages"), |run| {
             let mut rng = Rng(pages as u64);
-            for d in [1, 2, 5, 16] {
-                for kind in KINDS {
-                    let tallest = if pages > 2 { Shape::Tall } else { Shape::Any };
-                    for i in 0..times {
-                        let plan = Plan {
-                            pages,
-                            d,
-                            kind,
-                            points,
-                            shape: [tallest, Shape::Any, Shape::Dense, Shape::Any][i % 4],
-                            junk: i % 2 == 1,
-                        };
-                        acted(run, &mut rng, plan, 40);
-                    }
-                }
-            }
+            [1, 2, 5, 16].iter().for_each(|&d| KINDS.iter().for_each(|&kind| each_shape(run, &mut rng, pages, points, d, kind)));
         });
     }
-    run.case("built: a root of level 4", |run| {
-        let mut rng = Rng(4);
-        for (d, points) in [(1, 8192), (3, 8200), (16, 9000)] {
-            let plan = Plan { pages: 3000, d, kind: Kind::Uniform, points, shape: Shape::Tall, junk: d == 3 };
-            let bytes = built(&mut rng, plan);
-            run.expect(bytes[LEVEL] == 4, || format!("level {}", bytes[LEVEL]));
-            acted(run, &mut rng, plan, if run.long { 2000 } else { 60 });
-        }
-    });
-    run.case("built: 65,535 points and no page free", |run| {
-        let plan = Plan { pages: 4370, d: 4, kind: Kind::Uniform, points: 65_535, shape: Shape::Dense, junk: false };
-        let mut s = Series::over(built(&mut Rng(6), plan), plan.kind, Ids::Any, 6);
-        let mut codes = std::collections::BTreeSet::new();
-        for i in 0..12 {
-            let (new, old, x) = (s.new_id(), s.live[s.live.len() / 2], s.point());
-            codes.insert(s.act(run, &Act::Insert(new, x)));
-            if i > 2 {
-                s.act(run, &Act::Delete(old));
-            }
-        }
-        run.expect(codes.contains(&8) && codes.contains(&9), || format!("codes of inserts: {codes:?}"));
-    });
+    run.case("built: a root of level 4", level_four);
+    run.case("built: 65,535 points and no page free", no_page_free);
     run.case("built: more than 65,535 points", |run| {
         let mut rng = Rng(5);
-        for (points, shape) in
-            [(65_536, Shape::Any), (65_536, Shape::Tall), (100_000, Shape::Any), (131_072, Shape::Dense), (240_000, Shape::Dense)]
-        {
-            too_many(run, &mut rng, points, shape);
-        }
+        let shapes = [(65_536, Shape::Any), (65_536, Shape::Tall), (100_000, Shape::Any), (131_072, Shape::Dense), (240_000, Shape::Dense)];
+        shapes.into_iter().for_each(|(points, shape)| too_many(run, &mut rng, points, shape));
     });
 }

@@ -33,8 +33,9 @@ fn small(k: usize) -> u32 {
 }
 
 impl Run {
-    /// Both carry out the act, the library without the check where `trusted` is set and the index is sound; codes, rows, tally and every byte are
-    /// compared. With `exact` false, what no rule names is left out where the act was carried out, but for the pages that it changed: 0 there.
+    /// Both carry out the act, the library without the check where `trusted` is set and the index is sound; codes, rows, tally and every
+    /// byte are compared. With `exact` false, what no rule names is left out where the act was carried out, but for the pages that it
+    /// changed: 0 there.
     pub fn act(&mut self, lib: &mut [u8], model: &mut Model, act: &Act, exact: bool) -> u32 {
         let trusted = self.trusted && (!permitted(model.b.len()) || matches!(act, Act::Make(_)) || model.sound());
         self.counts.trusted += trusted as u64;

@@ -122,8 +122,8 @@ fn thorough(old: u8) -> [u8; 5] {
     [old ^ 1, old ^ 0x80, 0, 255, old.wrapping_add(1)]
 }
 
-/// Every byte of the used pages, and of the first never used, to every other value, or to those of `thorough` alone. The bytes are shared out
-/// among threads, each with an index of its own.
+/// Every byte of the used pages, and of the first never used, to every other value, or to those of `thorough` alone. The bytes are shared
+/// out among threads, each with an index of its own.
 fn each_byte(run: &mut Run, mut s: Series, all: bool) {
     let given = given(&mut s);
     let sound = &s.model.b;
@@ -214,7 +214,21 @@ fn struck(run: &mut Run, mut s: Series, times: usize, seed: u64) {
     }
 }
 
-/// Bytes of no meaning at all, with and without a header.
+/// Some meaning for bytes of none: a header in part, pages of a tree's levels and counts, and entries that lead to pages.
+fn mean(rng: &mut Rng, bytes: &mut [u8], header: &[u8]) {
+    let pages = bytes.len() / PAGE;
+    bytes[..header.len()].copy_from_slice(header);
+    put_u32(bytes, FRESH, rng.range(1, pages as i64) as u32);
+    put_u32(bytes, TOTAL, rng.below(200) as u32);
+    bytes[LEVEL] = rng.below(4) as u8;
+    for page in bytes.chunks_mut(PAGE).skip(1) {
+        page[0] = rng.below(4) as u8;
+        page[1] = 8 + rng.below(9) as u8;
+        (0..16).for_each(|e| put_u32(page, 4 + 20 * e, rng.below(pages) as u32));
+    }
+}
+
+/// Bytes of no meaning at all, and of some.
 fn meaningless(run: &mut Run, pages: usize, times: usize, seed: u64) {
     let mut rng = Rng(seed);
     let mut s = Series::new(run, pages, 2, Kind::Uniform, Ids::Any, seed);
@@ -222,24 +236,19 @@ fn meaningless(run: &mut Run, pages: usize, times: usize, seed: u64) {
     for i in 0..times {
         let mut bytes = rng.bytes(pages * PAGE);
         if i % 2 == 1 {
-            bytes[..32].copy_from_slice(&s.model.b[..32]);
-            put_u32(&mut bytes, FRESH, rng.range(1, pages as i64) as u32);
-            put_u32(&mut bytes, TOTAL, rng.below(200) as u32);
-            bytes[LEVEL] = rng.below(4) as u8;
-            for p in 1..pages {
-                bytes[p * PAGE] = rng.below(4) as u8;
-                bytes[p * PAGE + 1] = 8 + rng.below(9) as u8;
-                for e in 0..16 {
-                    put_u32(&mut bytes, p * PAGE + 4 + 20 * e, rng.below(pages) as u32);
-                }
-            }
+            mean(&mut rng, &mut bytes, &s.model.b[..32]);
         }
         s.lib.copy_from_slice(&bytes);
         judged(run, &mut s.lib, &mut Model::over(bytes), &given);
     }
 }
 
-pub fn all(run: &mut Run) {
+fn each_byte_of(run: &mut Run, pages: usize, d: usize, points: usize) {
+    let s = grown(run, pages, d, Kind::Uniform, points, 0);
+    each_byte(run, s, true);
+}
+
+fn all_bytes(run: &mut Run) {
     run.case("each byte: empty index of 2 pages", |run| each_byte_of(run, 2, 1, 0));
     run.case("each byte: one leaf of 5, d 2", |run| each_byte_of(run, 3, 2, 5));
     run.case("each byte: one full leaf, d 16", |run| each_byte_of(run, 2, 16, 16));
@@ -260,7 +269,9 @@ pub fn all(run: &mut Run) {
         let all = run.long;
         each_byte(run, s, all);
     });
-    let times = if run.long { 60_000 } else { 8_000 };
+}
+
+fn all_struck(run: &mut Run, times: usize) {
     for (pages, d, points, drop) in [(16, 2, 60, 3), (40, 1, 200, 0), (64, 3, 350, 4), (64, 16, 350, 2), (256, 8, 1800, 5)] {
         run.case(&format!("struck: {pages} pages, d {d}"), |run| {
             let s = grown(run, pages, d, Kind::Uniform, points, drop);
@@ -276,14 +287,15 @@ pub fn all(run: &mut Run) {
         let s = Series::over(built(&mut Rng(10), plan), plan.kind, Ids::Any, 10);
         struck(run, s, if run.long { 400 } else { 20 }, 10);
     });
+}
+
+pub fn all(run: &mut Run) {
+    let times = if run.long { 60_000 } else { 8_000 };
+    all_bytes(run);
+    all_struck(run, times);
     for pages in [2, 3, 5, 24, 200, 1000, MOST_PAGES] {
         run.case(&format!("bytes of no meaning, {pages} pages"), |run| {
             meaningless(run, pages, (times / 4).min(200_000 / pages), pages as u64)
         });
     }
-}
-
-fn each_byte_of(run: &mut Run, pages: usize, d: usize, points: usize) {
-    let s = grown(run, pages, d, Kind::Uniform, points, 0);
-    each_byte(run, s, true);
 }

@@ -34,25 +34,29 @@ fn slices(run: &mut Run, asked: &[i64], reach: i64) {
     }
 }
 
+fn of_the_specification(run: &mut Run) {
+    for (x, want) in [([400, 400], (2, 400)), ([0, 0], (2, 0)), ([0, -1], (1, 1)), ([0, 1], (3, 1)), ([-400, 400], (0, 400))] {
+        run.expect(pair(&x) == want, || format!("pair of {x:?}: {:?}", pair(&x)));
+    }
+    let slices = Slices::new(&[500, 0]);
+    for (p, low, high, want) in [(3, 1, 1000, 125_501), (3, 1, 100, 170_801), (0, 1, 1000, 251_001), (2, 600, 700, 10_000)] {
+        let got = slices.bound((p, low), (p, high));
+        run.expect(got == want, || format!("pyramid {p}, heights {low}..{high}: {got}"));
+    }
+}
+
+fn by_the_grid(run: &mut Run) {
+    let mut rng = Rng(17);
+    for (d, reach, times) in [(1, 1000, 20), (2, 1000, 3), (3, 14, 12), (4, 6, 12), (6, 2, 12)] {
+        for i in 0..times {
+            let far = if i % 2 == 0 { reach } else { 1000 };
+            let asked: Vec<i64> = (0..d).map(|_| rng.range(-far, far)).collect();
+            slices(run, &asked, reach);
+        }
+    }
+}
+
 pub fn all(run: &mut Run) {
-    run.case("pairs and bounds of the specification", |run| {
-        for (x, want) in [([400, 400], (2, 400)), ([0, 0], (2, 0)), ([0, -1], (1, 1)), ([0, 1], (3, 1)), ([-400, 400], (0, 400))] {
-            run.expect(pair(&x) == want, || format!("pair of {x:?}: {:?}", pair(&x)));
-        }
-        let slices = Slices::new(&[500, 0]);
-        for (p, low, high, want) in [(3, 1, 1000, 125_501), (3, 1, 100, 170_801), (0, 1, 1000, 251_001), (2, 600, 700, 10_000)] {
-            let got = slices.bound((p, low), (p, high));
-            run.expect(got == want, || format!("pyramid {p}, heights {low}..{high}: {got}"));
-        }
-    });
-    run.case("the model's bounds by every grid point", |run| {
-        let mut rng = Rng(17);
-        for (d, reach, times) in [(1, 1000, 20), (2, 1000, 3), (3, 14, 12), (4, 6, 12), (6, 2, 12)] {
-            for i in 0..times {
-                let far = if i % 2 == 0 { reach } else { 1000 };
-                let asked: Vec<i64> = (0..d).map(|_| rng.range(-far, far)).collect();
-                slices(run, &asked, reach);
-            }
-        }
-    });
+    run.case("pairs and bounds of the specification", of_the_specification);
+    run.case("the model's bounds by every grid point", by_the_grid);
 }

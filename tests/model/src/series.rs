@@ -178,20 +178,20 @@ fn series(run: &mut Run, pages: usize, d: usize, kind: Kind, ids: Ids, steps: us
     s.act(run, &Act::Question(x, 1, 1, Tally::default()));
 }
 
+/// A series for each kind of points, or for one of them where the index is large.
+fn each_kind(run: &mut Run, pages: usize, d: usize, steps: usize) {
+    let one = pages > 64 && !run.long;
+    for (i, kind) in KINDS.into_iter().enumerate().filter(|(i, _)| !one || *i == d % 4) {
+        let ids = [Ids::Upward, Ids::Any, Ids::SameLowBits, Ids::Few][(i + d) % 4];
+        let ids = if pages > 16 && ids == Ids::Few { Ids::Any } else { ids };
+        series(run, pages, d, kind, ids, if run.long { 3 * steps } else { steps });
+    }
+}
+
 pub fn all(run: &mut Run) {
-    let scale = if run.long { 3 } else { 1 };
     for (pages, steps) in [(2, 400), (3, 600), (4, 700), (5, 800), (16, 1500), (64, 2500), (256, 6000)] {
         for d in [1, 2, 3, 8, 16] {
-            run.case(&format!("series of acts, {pages} pages, d {d}"), |run| {
-                for (i, kind) in KINDS.into_iter().enumerate() {
-                    if pages > 64 && !run.long && i != d % 4 {
-                        continue;
-                    }
-                    let ids = [Ids::Upward, Ids::Any, Ids::SameLowBits, Ids::Few][(i + d) % 4];
-                    let ids = if pages > 16 && ids == Ids::Few { Ids::Any } else { ids };
-                    series(run, pages, d, kind, ids, steps * scale);
-                }
-            });
+            run.case(&format!("series of acts, {pages} pages, d {d}"), |run| each_kind(run, pages, d, steps));
         }
     }
 }
