@@ -6,7 +6,7 @@ use Prim.Native.Nat.{ℕ, _+_, _-_, _*_, _%_, _≤_, _<_, min}
 use native.Mathlib.Numerals.{add-one}
 use native.Mathlib.Omega.{arith}
 use lib.Dec.{leb}
-use lib.ListN.{length, getD, take, drop, replicate, length-append, length-take, length-drop, length-map, drop-of-length-le}
+use lib.ListN.{length, getD, take, drop, replicate, length-append, length-take, length-drop, length-map, drop-of-length-le, List·getD-eq-default}
 use lib.Seq.{take-take, take-all, drop-cons, getD-take}
 use borrow.Author.Tests.{leb-true, leb-false}
 use borrow.Rule.Slice.PartMut.{putMid, postOf, post-is}
@@ -20,11 +20,10 @@ use Rattle.pagestore.specs.declared.Entry.{Entry}
 use Rattle.pagestore.specs.declared.Inner.{Inner}
 use Rattle.pagestore.specs.Bytes.{byteAt, leAt, leBytes, put}
 use Rattle.pagestore.specs.ByteLaws.{length-le, length-put, put-next, put-front}
-use Rattle.pagestore.specs.Layout.{keyAt, keyBytes, entryAt, entryBytes, coordRoom, coordAt, identAt, recordAt, leafOf, putCoords, putRecord, putRecords, blankLeaf, leafBytes, innerOf, entriesBytes, innerBytes, freedBytes}
-use Rattle.pagestore.specs.LayoutLaws.{length-key, length-entry, leaf-fits, leaf-slots, noRecord, noEntry}
+use Rattle.pagestore.specs.Layout.{keyAt, keyBytes, entryAt, entryBytes, coordRoom, coordAt, identAt, recordAt, leafOf, putCoords, putRecord, putRecords, blankLeaf, leafBytes, innerOf, entriesBytes, innerBytes, freedBytes, noRecord, noEntry}
+use Rattle.pagestore.specs.LayoutLaws.{length-key, length-entry, leaf-fits, leaf-slots}
 use Rattle.pagestore.specs.Store.{pagesIn, inRange, stretch, setStretch, recordsIn, entriesIn, setLeaf, setField, size, features, root, fresh, clearHeader, setFields, newIndex}
-use Rattle.pagestore.specs.Store.RangeLaws.{range-whole}
-use Rattle.pagestore.specs.Store.StretchLaws.{stretch-in, set-in, set-out, clear-long}
+use Rattle.pagestore.specs.Store.StretchLaws.{stretch-in, stretch-short, stretch-whole, set-in, set-out, clear-long}
 
 -- ---- what the readers return
 
@@ -51,6 +50,10 @@ pub coord-read : (s : List ℕ) (m i : ℕ) → m < 16 → i < 16 → leAt 2 s (
 unfolding recordAt
 coord-read s m i h k =
     sym (getD-tabulate 16 (λ j. leAt 2 s (coordAt j i) % coordRoom) m 0 h) ∙ ap (λ (r : Record). getD (r .coords) m 0) (record-read s i k)
+
+-- past its end a page reads as 0
+pub byte-past : (s t : List ℕ) (i : ℕ) → s ≡ t → length s ≤ i → 0 ≡ byteAt t i
+byte-past s t i e h = rw (sym e, List·getD-eq-default s 0 {n = i} h) refl
 
 pub entry-read : (s : List ℕ) (i : ℕ) → i < 16 → entryAt s (4 + 20 * i) ≡ getD (innerOf s .entries) i noEntry
 unfolding innerOf
@@ -205,8 +208,12 @@ held t u v e f = sym e ∙ f
 pub part-is : (b : List ℕ) (p : ℕ) → inRange b p ≡ true → take (p * 1024 + 1024 - p * 1024) (drop (p * 1024) b) ≡ stretch b p
 part-is b p h = let k : p * 1024 + 1024 - p * 1024 ≡ 1024 = omega arith in rw k (sym (stretch-in b p h))
 
-pub part-whole : (b : List ℕ) (p : ℕ) → inRange b p ≡ true → p * 1024 + 1024 ≤ length b
-part-whole b p h = range-whole b p h
+-- what is handed over is a whole page, or nothing
+pub whole-page : (b : List ℕ) (p : ℕ) (s : List ℕ) → s ≡ stretch b p → 1024 ≤ length s → length s ≡ 1024
+whole-page b p s e h = ap length e ∙ stretch-whole b p (rw (sym e) h)
+
+pub no-page : (b : List ℕ) (p : ℕ) (s : List ℕ) → s ≡ stretch b p → length s < 1024 → stretch b p ≡ []
+no-page b p s e h = stretch-short b p (rw (sym e) h)
 
 -- and the index when the part is back
 pub part-set : (b : List ℕ) (p : ℕ) (xs ys : List ℕ) → inRange b p ≡ true → ys ≡ xs → putMid (p * 1024) (p * 1024 + 1024 - p * 1024) b ys ≡ setStretch b p xs

@@ -89,3 +89,10 @@ innerBytes level es = entriesBytes level (take 16 es)
 -- a freed page reads as an empty leaf
 unfoldable pub freedBytes : ℕ → List ℕ
 freedBytes next = (0 ∷ 0 ∷ 0 ∷ 0 ∷ []) ++ (leBytes 4 next ++ replicate 1016 0)
+
+-- what stands where there is no item
+abbrev pub noRecord : Record
+noRecord = record { id = 0; coords = [] }
+
+abbrev pub noEntry : Entry
+noEntry = record { child = 0; first = record { pyramid = record { 0 = 0 }; height = record { 0 = 0 }; id = 0 }; last = record { pyramid = record { 0 = 0 }; height = record { 0 = 0 }; id = 0 } }

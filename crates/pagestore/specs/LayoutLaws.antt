@@ -14,16 +14,8 @@ use Rattle.pagestore.specs.declared.Record.{Record}
 use Rattle.pagestore.specs.declared.Entry.{Entry}
 use Rattle.pagestore.specs.Bytes.{byteAt, leAt, leBytes, put}
 use Rattle.pagestore.specs.ByteLaws.{le-fits, length-le, le-at, byte-at, next-at, length-put, put-other, le-put, le-other}
-use Rattle.pagestore.specs.Layout.{keyAt, keyBytes, entryAt, entryBytes, columns, coordRoom, coordAt, identAt, recordAt, leafOf, putCoords, putRecord, putRecords, blankLeaf, innerOf, linkOf, leafBytes, entriesBytes, innerBytes, freedBytes}
+use Rattle.pagestore.specs.Layout.{noRecord, noEntry, keyAt, keyBytes, entryAt, entryBytes, columns, coordRoom, coordAt, identAt, recordAt, leafOf, putCoords, putRecord, putRecords, blankLeaf, innerOf, linkOf, leafBytes, entriesBytes, innerBytes, freedBytes}
 use Rattle.pagestore.specs.Fits.{RecordFits, KeyFits, EntryFits}
-
--- ---- what stands where there is no item
-
-abbrev pub noRecord : Record
-noRecord = record { id = 0; coords = [] }
-
-abbrev pub noEntry : Entry
-noEntry = record { child = 0; first = record { pyramid = record { 0 = 0 }; height = record { 0 = 0 }; id = 0 }; last = record { pyramid = record { 0 = 0 }; height = record { 0 = 0 }; id = 0 } }
 
 -- ---- lengths
 

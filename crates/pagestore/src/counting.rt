@@ -26,7 +26,7 @@ fn freed_count(index: &[u8]) -> u32
 }
 
 // The pages never used.
-fn fresh_count(index: &[u8]) -> u32
+pub fn fresh_count(index: &[u8]) -> u32
     ensures { λ r. ⌜ r ≡ length (freshAt (now (index .entry))) ⌝ }
 {
     let fresh = fresh_page(index);

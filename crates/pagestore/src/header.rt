@@ -2,16 +2,33 @@
 ghost use mathlib.Core.Path.{_≡_};
 ghost use Prim.Native.Nat.{_+_, _≤_};
 ghost use Rattle.pagestore.specs.Store.{numberAt, setNumber, fieldAt, setField, size, features, root, level, total, freed, fresh};
+use crate::PAGE_SIZE;
 use crate::numbers::get_u8;
 use crate::numbers::get_u32;
 use crate::numbers::put_u8;
 use crate::numbers::put_u32;
 
+// Where the fields stand: the length in pages, the number of features, the root's page and level, the total of records, the page freed last, the lowest
+// page never used.
+const SIZE: usize = 0;
+
+const FEATURES: usize = 4;
+
+const ROOT: usize = 8;
+
+const LEVEL: usize = 12;
+
+const TOTAL: usize = 16;
+
+const FREED: usize = 20;
+
+const FRESH: usize = 24;
+
 fn get_byte(index: &[u8], at: usize) -> u8
     requires { ⌜ at + 4 ≤ 1024 ⌝ }
     ensures { λ r. ⌜ r ≡ numberAt 1 at (now (index .entry)) ⌝ }
 {
-    if 1024 <= index.len() {
+    if PAGE_SIZE <= index.len() {
         get_u8(index, at)
     } else {
         0
@@ -22,7 +39,7 @@ fn get_word(index: &[u8], at: usize) -> u32
     requires { ⌜ at + 4 ≤ 1024 ⌝ }
     ensures { λ r. ⌜ r ≡ numberAt 4 at (now (index .entry)) ⌝ }
 {
-    if 1024 <= index.len() {
+    if PAGE_SIZE <= index.len() {
         get_u32(index, at)
     } else {
         0
@@ -33,7 +50,7 @@ fn set_byte(index: &mut [u8], at: usize, v: u8)
     requires { ⌜ at + 4 ≤ 1024 ⌝ }
     ensures { λ _. ⌜ now (index .exit) ≡ setNumber 1 at (now (index .entry)) v ⌝ }
 {
-    if 1024 <= index.len() {
+    if PAGE_SIZE <= index.len() {
         put_u8(index, at, v);
     }
 }
@@ -42,7 +59,7 @@ fn set_word(index: &mut [u8], at: usize, v: u32)
     requires { ⌜ at + 4 ≤ 1024 ⌝ }
     ensures { λ _. ⌜ now (index .exit) ≡ setNumber 4 at (now (index .entry)) v ⌝ }
 {
-    if 1024 <= index.len() {
+    if PAGE_SIZE <= index.len() {
         put_u32(index, at, v);
     }
 }
@@ -51,87 +68,87 @@ fn set_word(index: &mut [u8], at: usize, v: u32)
 pub fn index_size(index: &[u8]) -> u32
     ensures { λ r. ⌜ r ≡ fieldAt size (now (index .entry)) ⌝ }
 {
-    get_word(index, 0)
+    get_word(index, SIZE)
 }
 
 pub fn set_index_size(index: &mut [u8], v: u32)
     ensures { λ _. ⌜ now (index .exit) ≡ setField size (now (index .entry)) v ⌝ }
 {
-    set_word(index, 0, v);
+    set_word(index, SIZE, v);
 }
 
 // The number of features, d.
 pub fn features_of(index: &[u8]) -> u8
     ensures { λ r. ⌜ r ≡ fieldAt features (now (index .entry)) ⌝ }
 {
-    get_byte(index, 4)
+    get_byte(index, FEATURES)
 }
 
 pub fn set_features(index: &mut [u8], v: u8)
     ensures { λ _. ⌜ now (index .exit) ≡ setField features (now (index .entry)) v ⌝ }
 {
-    set_byte(index, 4, v);
+    set_byte(index, FEATURES, v);
 }
 
 pub fn root_page(index: &[u8]) -> u32
     ensures { λ r. ⌜ r ≡ fieldAt root (now (index .entry)) ⌝ }
 {
-    get_word(index, 8)
+    get_word(index, ROOT)
 }
 
 pub fn set_root_page(index: &mut [u8], v: u32)
     ensures { λ _. ⌜ now (index .exit) ≡ setField root (now (index .entry)) v ⌝ }
 {
-    set_word(index, 8, v);
+    set_word(index, ROOT, v);
 }
 
 pub fn root_level(index: &[u8]) -> u8
     ensures { λ r. ⌜ r ≡ fieldAt level (now (index .entry)) ⌝ }
 {
-    get_byte(index, 12)
+    get_byte(index, LEVEL)
 }
 
 pub fn set_root_level(index: &mut [u8], v: u8)
     ensures { λ _. ⌜ now (index .exit) ≡ setField level (now (index .entry)) v ⌝ }
 {
-    set_byte(index, 12, v);
+    set_byte(index, LEVEL, v);
 }
 
 // The number of records in all leaves.
 pub fn total_records(index: &[u8]) -> u32
     ensures { λ r. ⌜ r ≡ fieldAt total (now (index .entry)) ⌝ }
 {
-    get_word(index, 16)
+    get_word(index, TOTAL)
 }
 
 pub fn set_total_records(index: &mut [u8], v: u32)
     ensures { λ _. ⌜ now (index .exit) ≡ setField total (now (index .entry)) v ⌝ }
 {
-    set_word(index, 16, v);
+    set_word(index, TOTAL, v);
 }
 
 // The page freed last, or 0.
 pub fn freed_head(index: &[u8]) -> u32
     ensures { λ r. ⌜ r ≡ fieldAt freed (now (index .entry)) ⌝ }
 {
-    get_word(index, 20)
+    get_word(index, FREED)
 }
 
 pub fn set_freed_head(index: &mut [u8], v: u32)
     ensures { λ _. ⌜ now (index .exit) ≡ setField freed (now (index .entry)) v ⌝ }
 {
-    set_word(index, 20, v);
+    set_word(index, FREED, v);
 }
 
 // The lowest page never used.
 pub fn fresh_page(index: &[u8]) -> u32
     ensures { λ r. ⌜ r ≡ fieldAt fresh (now (index .entry)) ⌝ }
 {
-    get_word(index, 24)
+    get_word(index, FRESH)
 }
 
 pub fn set_fresh_page(index: &mut [u8], v: u32)
     ensures { λ _. ⌜ now (index .exit) ≡ setField fresh (now (index .entry)) v ⌝ }
 {
-    set_word(index, 24, v);
+    set_word(index, FRESH, v);
 }

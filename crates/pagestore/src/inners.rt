@@ -1,28 +1,64 @@
-// Inner pages written.
+// Inner pages: an entry read, a page written.
 ghost use mathlib.Core.Path.{_≡_};
-ghost use lib.ListN.{length};
-ghost use Rattle.pagestore.specs.Layout.{innerBytes};
+ghost use mathlib.Core.List.{[]};
+ghost use Prim.Native.Nat.{_<_};
+ghost use lib.ListN.{length, getD};
+ghost use Rattle.pagestore.specs.Layout.{noEntry, entryAt, innerOf, innerBytes};
 ghost use Rattle.pagestore.specs.Store.{entriesIn, setInner};
+use crate::Entry;
 use crate::Inner;
-use crate::items::fill;
+use crate::PAGE_SIZE;
+use crate::items::filled;
+use crate::items::get_entry;
 use crate::items::put_entry;
 use crate::items::put_head;
 use crate::numbers::clear;
 use crate::pages::in_range;
+use geometry::Height;
+use geometry::Key;
+use geometry::Pyramid;
+
+// Where the entries begin.
+const ENTRIES: usize = 4;
+// The size of an entry.
+const ENTRY: usize = 20;
+
+pub fn no_entry() -> Entry
+    ensures { λ r. ⌜ r ≡ entryAt [] 0 ⌝ }
+{
+    let key = Key {
+        pyramid: Pyramid(0),
+        height: Height(0),
+        id: 0,
+    };
+    Entry {
+        child: 0,
+        first: key,
+        last: key,
+    }
+}
+
+// One entry of an inner page, read from its page.
+pub fn read_entry(page: &[u8], i: usize) -> Entry
+    requires { ⌜ (length (now page) ≡ 1024) × (i < 16) ⌝ }
+    ensures { λ r. ⌜ r ≡ getD (innerOf (now (page .entry)) .entries) i noEntry ⌝ }
+{
+    get_entry(page, ENTRIES + ENTRY * i)
+}
 
 // Writes an inner page into its page's own stretch, all 1,024 bytes.
 pub fn write_inner(page: &mut [u8], inner: Inner)
     requires { ⌜ length (now page) ≡ 1024 ⌝ }
     ensures { λ _. ⌜ now (page .exit) ≡ innerBytes (inner .level) (entriesIn inner) ⌝ }
 {
-    let n = fill(inner.count);
+    let n = filled(inner.count);
     put_head(page, inner.level, n);
     let mut i = 0;
     while i < n {
-        put_entry(page, 4 + 20 * i, inner.entries[i]);
+        put_entry(page, ENTRIES + ENTRY * i, inner.entries[i]);
         i += 1;
     }
-    let at = 4 + 20 * n;
+    let at = ENTRIES + ENTRY * n;
     clear(&mut page[at..]);
 }
 
@@ -31,8 +67,8 @@ pub fn set_inner(index: &mut [u8], page: u32, inner: Inner)
     ensures { λ _. ⌜ now (index .exit) ≡ setInner (now (index .entry)) page (inner .level) (entriesIn inner) ⌝ }
 {
     if in_range(index, page) {
-        let at = page as usize * 1024;
-        let end = at + 1024;
+        let at = page as usize * PAGE_SIZE;
+        let end = at + PAGE_SIZE;
         write_inner(&mut index[at..end], inner);
     }
 }

@@ -6,6 +6,7 @@ ghost use lib.ListN.{length};
 ghost use Rattle.pagestore.specs.Bytes.{put};
 ghost use Rattle.pagestore.specs.Layout.{keyAt, keyBytes, entryAt, entryBytes};
 use crate::Entry;
+use crate::MAX_ITEMS;
 use crate::numbers::get_u8;
 use crate::numbers::get_u16;
 use crate::numbers::get_u32;
@@ -60,11 +61,11 @@ pub fn put_entry(s: &mut [u8], at: usize, e: Entry)
     put_key(s, at + 12, e.last);
 }
 
-// How many items are written for a count: a page has room for 16.
-pub fn fill(count: usize) -> usize
+// How many items there are of a count as stored: a page has room for 16.
+pub fn filled(count: usize) -> usize
     ensures { λ r. ⌜ r ≡ min 16 count ⌝ }
 {
-    if count < 16 { count } else { 16 }
+    if count < MAX_ITEMS { count } else { MAX_ITEMS }
 }
 
 pub fn put_head(page: &mut [u8], level: u8, count: usize)

@@ -4,12 +4,14 @@ ghost use mathlib.Core.List.{[]};
 ghost use Prim.Native.Nat.{_<_, _≤_};
 ghost use lib.ListN.{length, getD};
 ghost use Rattle.pagestore.specs.Bytes.{leAt};
-ghost use Rattle.pagestore.specs.Layout.{coordRoom, coordAt, recordAt, leafOf, putCoords, putRecord, leafBytes};
-ghost use Rattle.pagestore.specs.LayoutLaws.{noRecord};
+ghost use Rattle.pagestore.specs.Layout.{coordRoom, coordAt, recordAt, leafOf, putCoords, putRecord, leafBytes, noRecord};
 ghost use Rattle.pagestore.specs.Store.{recordsIn, setLeaf};
 use crate::Leaf;
+use crate::MAX_FEATURES;
+use crate::MAX_ITEMS;
+use crate::PAGE_SIZE;
 use crate::Record;
-use crate::items::fill;
+use crate::items::filled;
 use crate::items::put_head;
 use crate::numbers::clear;
 use crate::numbers::get_u8;
@@ -33,14 +35,14 @@ pub fn no_record() -> Record
 {
     Record {
         id: 0,
-        coords: [0u16; 16],
+        coords: [0u16; MAX_FEATURES],
     }
 }
 
 pub fn empty_leaf() -> Leaf
     ensures { λ r. ⌜ r ≡ leafOf [] ⌝ }
 {
-    let records = [no_record(); 16];
+    let records = [no_record(); MAX_ITEMS];
     Leaf {
         count: 0,
         records: records,
@@ -84,7 +86,11 @@ pub fn lanes(count: usize) -> usize
     requires { ⌜ count ≤ 16 ⌝ }
     ensures { λ r. ⌜ (count ≤ r) × (r ≤ 16) ⌝ }
 {
-    if count <= 8 { 8 } else { 16 }
+    if count <= MAX_ITEMS / 2 {
+        MAX_ITEMS / 2
+    } else {
+        MAX_ITEMS
+    }
 }
 
 // One record of a leaf, read from its page by itself.
@@ -93,9 +99,9 @@ pub fn read_record(page: &[u8], i: usize) -> Record
     ensures { λ r. ⌜ r ≡ getD (leafOf (now (page .entry)) .records) i noRecord ⌝ }
 {
     let id = read_ident(page, i);
-    let mut coords = [0u16; 16];
+    let mut coords = [0u16; MAX_FEATURES];
     let mut m = 0;
-    while m < 16 {
+    while m < MAX_FEATURES {
         coords[m] = read_coord(page, m, i);
         m += 1;
     }
@@ -111,9 +117,9 @@ pub fn read_leaf(page: &[u8]) -> Leaf
     ensures { λ r. ⌜ r ≡ leafOf (now (page .entry)) ⌝ }
 {
     let count = read_count(page);
-    let mut records = [no_record(); 16];
+    let mut records = [no_record(); MAX_ITEMS];
     let mut i = 0;
-    while i < 16 {
+    while i < MAX_ITEMS {
         records[i] = read_record(page, i);
         i += 1;
     }
@@ -123,12 +129,12 @@ pub fn read_leaf(page: &[u8]) -> Leaf
     }
 }
 
-fn put_coords(page: &mut [u8], i: usize, coords: [u16; 16])
+fn put_coords(page: &mut [u8], i: usize, coords: [u16; MAX_FEATURES])
     requires { ⌜ (length (now page) ≡ 1024) × (i < 16) ⌝ }
     ensures { λ _. ⌜ now (page .exit) ≡ putCoords 16 (now (page .entry)) i coords ⌝ }
 {
     let mut m = 0;
-    while m < 16 {
+    while m < MAX_FEATURES {
         put_u16(page, COLUMNS + WIDTH * m + 2 * i, coords[m] % ROOM);
         m += 1;
     }
@@ -148,7 +154,7 @@ pub fn write_leaf(page: &mut [u8], leaf: Leaf)
     requires { ⌜ length (now page) ≡ 1024 ⌝ }
     ensures { λ _. ⌜ now (page .exit) ≡ leafBytes (recordsIn leaf) ⌝ }
 {
-    let n = fill(leaf.count);
+    let n = filled(leaf.count);
     clear(page);
     put_head(page, 0, n);
     let mut i = 0;
@@ -163,8 +169,8 @@ pub fn set_leaf(index: &mut [u8], page: u32, leaf: Leaf)
     ensures { λ _. ⌜ now (index .exit) ≡ setLeaf (now (index .entry)) page (recordsIn leaf) ⌝ }
 {
     if in_range(index, page) {
-        let at = page as usize * 1024;
-        let end = at + 1024;
+        let at = page as usize * PAGE_SIZE;
+        let end = at + PAGE_SIZE;
         write_leaf(&mut index[at..end], leaf);
     }
 }

@@ -13,8 +13,22 @@ mod numbers;
 mod pages;
 mod shift;
 
+// The bytes of a page, and the pages of the longest index.
+pub const PAGE_SIZE: usize = 1024;
+
+pub const MAX_PAGES: u32 = 16384;
+// The items of a page, records or entries: for how many there is room, and how many a page other than the root has at least.
+pub const MAX_ITEMS: usize = 16;
+
+pub const MIN_ITEMS: usize = 8;
+// The points of the fullest index.
+pub const MAX_POINTS: u32 = 65535;
+// The coordinates of a point at most.
+pub const MAX_FEATURES: usize = 16;
+
 // One page, handed over as a part of the index.
 pub use inners::write_inner;
+pub use items::filled;
 pub use leaves::lanes;
 pub use leaves::read_coord;
 pub use leaves::read_count;
@@ -37,6 +51,7 @@ pub use pages::level_at;
 pub use pages::link_at;
 pub use pages::page_count;
 pub use pages::record_at;
+pub use pages::stretch;
 
 // The header's fields.
 pub use header::features_of;
@@ -56,6 +71,7 @@ pub use header::total_records;
 
 // How many pages are free, and a new index.
 pub use counting::free_count;
+pub use counting::fresh_count;
 pub use making::make;
 
 // A record put into a leaf held by value.
@@ -64,13 +80,13 @@ pub use shift::insert_record;
 // A record as it is stored: its identifier, and 16 coordinate slots, each a coordinate with 1,000 added. A page keeps 11 bits of each.
 pub struct Record {
     pub id: u32,
-    pub coords: [u16; 16],
+    pub coords: [u16; MAX_FEATURES],
 }
 
 // A leaf page. The count is as stored and may be above 16; there are 16 slots.
 pub struct Leaf {
     pub count: usize,
-    pub records: [Record; 16],
+    pub records: [Record; MAX_ITEMS],
 }
 
 // An inner entry: a child with its first and last key.
@@ -84,5 +100,5 @@ pub struct Entry {
 pub struct Inner {
     pub level: u8,
     pub count: usize,
-    pub entries: [Entry; 16],
+    pub entries: [Entry; MAX_ITEMS],
 }

@@ -1,6 +1,7 @@
 // A new index.
 ghost use mathlib.Core.Path.{_≡_};
 ghost use Rattle.pagestore.specs.Store.{clearHeader, newIndex};
+use crate::PAGE_SIZE;
 use crate::header::set_features;
 use crate::header::set_fresh_page;
 use crate::header::set_index_size;
@@ -13,8 +14,8 @@ use crate::pages::page_count;
 fn clear_header(index: &mut [u8])
     ensures { λ _. ⌜ now (index .exit) ≡ clearHeader (now (index .entry)) ⌝ }
 {
-    if 1024 <= index.len() {
-        clear(&mut index[0..1024]);
+    if PAGE_SIZE <= index.len() {
+        clear(&mut index[0..PAGE_SIZE]);
     }
 }
 

@@ -26,6 +26,20 @@ pub stretch-out : (b : List ℕ) (p : ℕ) → inRange b p ≡ false → stretch
 unfolding stretch
 stretch-out b p h = rw h
 
+-- a stretch is a whole page, or nothing
+pub stretch-short : (b : List ℕ) (p : ℕ) → length (stretch b p) < 1024 → stretch b p ≡ []
+stretch-short b p h =
+    by-cases (inRange b p)
+    (λ t. absurd (let g : p * 1024 + 1024 ≤ length b = range-whole b p t in
+    let n : length (stretch b p) ≡ 1024 = rw (stretch-in b p t) (simp (length-take, length-drop) (omega arith)) in omega arith))
+    (λ t. stretch-out b p t)
+
+pub stretch-whole : (b : List ℕ) (p : ℕ) → 1024 ≤ length (stretch b p) → length (stretch b p) ≡ 1024
+stretch-whole b p h =
+    by-cases (inRange b p)
+    (λ t. let g : p * 1024 + 1024 ≤ length b = range-whole b p t in rw (stretch-in b p t) (simp (length-take, length-drop) (omega arith)))
+    (λ t. absurd (let n : length (stretch b p) ≡ 0 = rw (stretch-out b p t) in omega arith))
+
 pub set-in : (b : List ℕ) (p : ℕ) (xs : List ℕ) → inRange b p ≡ true → setStretch b p xs ≡ take (p * 1024) b ++ (xs ++ drop (p * 1024 + 1024) b)
 unfolding setStretch
 set-in b p xs h = rw h

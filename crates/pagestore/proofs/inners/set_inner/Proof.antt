@@ -1,7 +1,8 @@
 use mathlib.Core.Path.{sym, _∙_}
 use native.Mathlib.Omega.{arith}
 use Rattle.pagestore.specs.Store.StretchLaws.{set-inner-opens}
-use Rattle.pagestore.proofs.CodeLaws.{held, part-whole, part-set, part-none}
+use Rattle.pagestore.specs.Store.RangeLaws.{range-whole}
+use Rattle.pagestore.proofs.CodeLaws.{held, part-set, part-none}
 use borrow.Author.Needs.{needs}
 use Rattle.pagestore.proofs.inners.set_inner.Statement.{statement}
 use Rattle.pagestore.proofs.inners.set_inner.Tie as tie
@@ -22,7 +23,7 @@ part-write-inner-start : tie.Need-part-write-inner-start
 part-write-inner-start c = search needs
 
 part-write-inner-end : tie.Need-part-write-inner-end
-part-write-inner-end c = omega (arith, part-whole _ _ (held _ _ _ (c .before .in-range .ensures) (c .if1 .taken)))
+part-write-inner-end c = omega (arith, range-whole _ _ (held _ _ _ (c .before .in-range .ensures) (c .if1 .taken)))
 
 write-inner-requires : tie.Need-write-inner-requires
 write-inner-requires c κs = search needs

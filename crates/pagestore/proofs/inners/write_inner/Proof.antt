@@ -7,8 +7,8 @@ use Rattle.lists.specs.Basics.{tabulate, concatMap}
 use Rattle.lists.specs.Lengths.{unmapped}
 use Rattle.pagestore.specs.Bytes.{put}
 use Rattle.pagestore.specs.ByteLaws.{concatMap-next}
-use Rattle.pagestore.specs.Layout.{entryBytes}
-use Rattle.pagestore.specs.LayoutLaws.{length-entry, noEntry}
+use Rattle.pagestore.specs.Layout.{entryBytes, noEntry}
+use Rattle.pagestore.specs.LayoutLaws.{length-entry}
 use borrow.Author.Needs.{needs}
 use Rattle.pagestore.proofs.inners.write_inner.Statement.{statement}
 use Rattle.pagestore.proofs.inners.write_inner.Tie as tie
@@ -19,8 +19,8 @@ Inv-loop page₀ inner n i₀ page i = (i ≤ n) × (length page ≡ 1024) × (p
 abbrev μ-loop : tie.MeasureT-loop
 μ-loop page₀ inner n i₀ page i = n - i
 
-fill-requires : tie.Need-fill-requires Inv-loop μ-loop
-fill-requires c κs = search needs
+filled-requires : tie.Need-filled-requires Inv-loop μ-loop
+filled-requires c κs = search needs
 
 put-head-requires : tie.Need-put-head-requires Inv-loop μ-loop
 put-head-requires c κs = search needs
@@ -80,7 +80,7 @@ returns : tie.Need-returns Inv-loop μ-loop
 returns c =
     let L = c .before .before .before .before .before .loop in
     let S = (c .before .before .before .before .before .before .before .before .before .before .before .before) in
-    let F = c .before .before .before .before .before .before .before .before .before .before .fill in
+    let F = c .before .before .before .before .before .before .before .before .before .before .filled in
     let slots : length (S .args .t2 .entries) ≡ 16 = search (unmapped, needs) in
     inner-put _ (S .args .t2) (F .result) slots (F .ensures)
     (entries-put (S .args .page .now) _ (L .page) _ (L .i) (S .args .t2 .level) (F .result) _ (S .pre) (omega arith) (omega arith)
@@ -92,7 +92,7 @@ write-inner-spec =
     (tie.spec
     Inv-loop
     μ-loop
-    fill-requires
+    filled-requires
     put-head-requires
     loop-holds
     mul-put-entry

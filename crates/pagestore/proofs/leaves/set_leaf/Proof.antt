@@ -1,7 +1,8 @@
 use mathlib.Core.Path.{sym, _∙_}
 use native.Mathlib.Omega.{arith}
 use Rattle.pagestore.specs.Store.StretchLaws.{set-leaf-opens}
-use Rattle.pagestore.proofs.CodeLaws.{held, part-whole, part-set, part-none}
+use Rattle.pagestore.specs.Store.RangeLaws.{range-whole}
+use Rattle.pagestore.proofs.CodeLaws.{held, part-set, part-none}
 use borrow.Author.Needs.{needs}
 use Rattle.pagestore.proofs.leaves.set_leaf.Statement.{statement}
 use Rattle.pagestore.proofs.leaves.set_leaf.Tie as tie
@@ -22,7 +23,7 @@ part-write-leaf-start : tie.Need-part-write-leaf-start
 part-write-leaf-start c = search needs
 
 part-write-leaf-end : tie.Need-part-write-leaf-end
-part-write-leaf-end c = omega (arith, part-whole _ _ (held _ _ _ (c .before .in-range .ensures) (c .if1 .taken)))
+part-write-leaf-end c = omega (arith, range-whole _ _ (held _ _ _ (c .before .in-range .ensures) (c .if1 .taken)))
 
 write-leaf-requires : tie.Need-write-leaf-requires
 write-leaf-requires c κs = search needs

@@ -15,8 +15,8 @@ Inv-loop page₀ leaf n i₀ page i = (i ≤ n) × (length page ≡ 1024) × (pu
 abbrev μ-loop : tie.MeasureT-loop
 μ-loop page₀ leaf n i₀ page i = n - i
 
-fill-requires : tie.Need-fill-requires Inv-loop μ-loop
-fill-requires c κs = search needs
+filled-requires : tie.Need-filled-requires Inv-loop μ-loop
+filled-requires c κs = search needs
 
 clear-requires : tie.Need-clear-requires Inv-loop μ-loop
 clear-requires c κs = search needs
@@ -45,7 +45,7 @@ loop-less c = search needs
 loop-again : tie.Need-loop-again Inv-loop μ-loop
 loop-again c =
     let L = c .before .before .before .before .before .before .loop in
-    let F = c .before .before .before .before .before .before .before .before .before .before .before .before .before .before .before .fill in
+    let F = c .before .before .before .before .before .before .before .before .before .before .before .before .before .before .before .filled in
     let slots : length (c .before .before .before .before .before .before .before .before .before .before .before .before .before .before .before .before .before .args .t2 .records) ≡ 16 = search (unmapped, needs) in
     let few : F .result ≤ length (c .before .before .before .before .before .before .before .before .before .before .before .before .before .before .before .before .before .args .t2 .records) = omega arith in
     (search needs, search needs, records-next _ _ _ (L .i) (F .result) _ (c .before .before .before .before .before .loop-test .taken) few (c .before .before .put-record .ensures) (L .inv .2))
@@ -57,7 +57,7 @@ returns : tie.Need-returns Inv-loop μ-loop
 returns c =
     let L = c .before .loop in
     let S = (c .before .before .before .before .before .before .before .before .before .before .before .before) in
-    let F = c .before .before .before .before .before .before .before .before .before .before .fill in
+    let F = c .before .before .before .before .before .before .before .before .before .before .filled in
     let slots : length (S .args .t2 .records) ≡ 16 = search (unmapped, needs) in
     leaf-put (S .args .page .now) _ _ _ (L .i) (F .result) (S .args .t2) (S .pre) slots (F .ensures) (c .before .before .before .before .before .before .before .before .clear .ensures) (c .before .before .before .before .put-head .ensures) (omega arith) (L .inv .2)
 
@@ -67,7 +67,7 @@ write-leaf-spec =
     (tie.spec
     Inv-loop
     μ-loop
-    fill-requires
+    filled-requires
     clear-requires
     put-head-requires
     loop-holds

@@ -1,7 +1,8 @@
 use mathlib.Core.Path.{sym, _∙_}
 use native.Mathlib.Omega.{arith}
 use Rattle.pagestore.specs.Store.StretchLaws.{set-link-opens}
-use Rattle.pagestore.proofs.CodeLaws.{held, part-whole, part-set, part-none}
+use Rattle.pagestore.specs.Store.RangeLaws.{range-whole}
+use Rattle.pagestore.proofs.CodeLaws.{held, part-set, part-none}
 use borrow.Author.Needs.{needs}
 use Rattle.pagestore.proofs.links.set_link.Statement.{statement}
 use Rattle.pagestore.proofs.links.set_link.Tie as tie
@@ -22,7 +23,7 @@ part-write-freed-start : tie.Need-part-write-freed-start
 part-write-freed-start c = search needs
 
 part-write-freed-end : tie.Need-part-write-freed-end
-part-write-freed-end c = omega (arith, part-whole _ _ (held _ _ _ (c .before .in-range .ensures) (c .if1 .taken)))
+part-write-freed-end c = omega (arith, range-whole _ _ (held _ _ _ (c .before .in-range .ensures) (c .if1 .taken)))
 
 write-freed-requires : tie.Need-write-freed-requires
 write-freed-requires c κs = search needs

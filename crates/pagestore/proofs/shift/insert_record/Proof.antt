@@ -4,7 +4,7 @@ use Prim.Native.Nat.{suc, _≤_, _+_, _-_}
 use mathlib.Core.List.{List}
 use lib.ListN.{length, take, set, getD}
 use Rattle.pagestore.specs.declared.Record.{Record}
-use Rattle.pagestore.specs.LayoutLaws.{noRecord}
+use Rattle.pagestore.specs.Layout.{noRecord}
 use Rattle.lists.specs.Shift.{raised, raised-none, raised-more, raised-filled}
 use Rattle.lists.specs.Lengths.{unmapped}
 use borrow.Author.Needs.{needs}

@@ -1,8 +1,8 @@
 use mathlib.Core.Path.{refl}
 use Rattle.pagestore.specs.Layout.{entryAt, keyAt}
 use Rattle.pagestore.specs.Bytes.{leAt}
-use Rattle.pagestore.proofs.pages.no_entry.Statement.{statement}
-use Rattle.pagestore.proofs.pages.no_entry.Tie as tie
+use Rattle.pagestore.proofs.inners.no_entry.Statement.{statement}
+use Rattle.pagestore.proofs.inners.no_entry.Tie as tie
 
 returns : tie.Need-returns
 unfolding entryAt keyAt leAt
