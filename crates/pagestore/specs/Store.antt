@@ -17,7 +17,9 @@ use Rattle.pagestore.specs.declared.Inner.{Inner}
 pub mod RangeLaws
 pub mod StretchLaws
 pub mod PageLaws
+pub mod ChainLaws
 pub mod FreeLaws
+pub mod TakeLaws
 pub mod NewLaws
 pub mod CountLaws
 

@@ -2,12 +2,14 @@
 use mathlib.Core.Path.{_≡_, refl, sym, ap, _∙_}
 use mathlib.Core.Bool.{true, false}
 use mathlib.Core.List.{List, [], _∷_, _++_}
-use Prim.Native.Nat.{ℕ, zero, suc, _+_, _-_, _≤_, _<_}
+use Prim.Native.Nat.{ℕ, suc, _+_, _-_, _≤_, _<_}
 use native.Mathlib.Omega.{arith}
 use lib.ListN.{length, length-append}
 use Rattle.lists.specs.Basics.{length-rangeFrom}
 use Rattle.lists.specs.Tests.{by-cases}
 use Rattle.pagestore.specs.Store.{Field, freed, fresh, fieldAt, inRange, pagesIn, linkAt, chain, freedAt, freshAt, freeAt}
+use Rattle.pagestore.specs.Store.RangeLaws.{pages-few}
+use Rattle.pagestore.specs.Store.ChainLaws.{chain-out, chain-in, chain-most}
 
 -- how many pages the chain still has from page p on, once n links have been followed
 unfoldable pub chainLeft : List ℕ → ℕ → ℕ → ℕ
@@ -17,23 +19,14 @@ pub left-first : (b : List ℕ) → chainLeft b 0 (fieldAt freed b) ≡ length (
 unfolding chainLeft freedAt
 left-first b = ap (λ (m : ℕ). length (chain m b (fieldAt freed b))) (let e : pagesIn b - 0 ≡ pagesIn b = omega arith in e)
 
-chain-none : (m : ℕ) (b : List ℕ) (p : ℕ) → inRange b p ≡ false → length (chain m b p) ≡ 0
-unfolding chain
-chain-none zero b p e = refl
-chain-none (suc m) b p e = rw e
-
 pub left-none : (b : List ℕ) (n p : ℕ) → inRange b p ≡ false → chainLeft b n p ≡ 0
 unfolding chainLeft
-left-none b n p e = chain-none (pagesIn b - n) b p e
-
-chain-next : (m : ℕ) (b : List ℕ) (p : ℕ) → inRange b p ≡ true → length (chain (suc m) b p) ≡ suc (length (chain m b (linkAt b p)))
-unfolding chain
-chain-next m b p e = rw e
+left-none b n p e = ap length (chain-out (pagesIn b - n) b p e)
 
 pub left-next : (b : List ℕ) (n p : ℕ) → n < pagesIn b → inRange b p ≡ true → chainLeft b n p ≡ suc (chainLeft b (n + 1) (linkAt b p))
 unfolding chainLeft
 left-next b n p h e =
-    ap (λ (m : ℕ). length (chain m b p)) (let s : pagesIn b - n ≡ suc (pagesIn b - (n + 1)) = omega arith in s) ∙ chain-next (pagesIn b - (n + 1)) b p e
+    ap (λ (m : ℕ). length (chain m b p)) (let s : pagesIn b - n ≡ suc (pagesIn b - (n + 1)) = omega arith in s) ∙ ap length (chain-in (pagesIn b - (n + 1)) b p e)
 
 pub left-end : (b : List ℕ) (n p : ℕ) → pagesIn b ≤ n → chainLeft b n p ≡ 0
 unfolding chainLeft chain
@@ -51,25 +44,13 @@ pub free-both : (b : List ℕ) → length (freeAt b) ≡ length (freedAt b) + le
 unfolding freeAt
 free-both b = length-append (freedAt b) (freshAt b)
 
-pub pages-most : (b : List ℕ) → pagesIn b ≤ 16384
-unfolding pagesIn
-pages-most b = omega arith
-
 -- each number fits
-chain-most : (m : ℕ) (b : List ℕ) (p : ℕ) → length (chain m b p) ≤ m
-unfolding chain
-chain-most zero b p = omega arith
-chain-most (suc m) b p =
-    by-cases (inRange b p)
-    (λ e. let r = chain-most m b (linkAt b p) in omega (arith, chain-next m b p e))
-    (λ e. omega (arith, chain-none (suc m) b p e))
-
 pub freed-most : (b : List ℕ) → length (freedAt b) ≤ 16384
 unfolding freedAt
-freed-most b = omega (arith, chain-most (pagesIn b) b (fieldAt freed b), pages-most b)
+freed-most b = omega (arith, chain-most (pagesIn b) b (fieldAt freed b), pages-few b)
 
 pub fresh-most : (b : List ℕ) → length (freshAt b) ≤ 16384
-fresh-most b = by-cases (inRange b (fieldAt fresh b)) (λ e. omega (arith, fresh-some b e, pages-most b)) (λ e. omega (arith, fresh-none b e))
+fresh-most b = by-cases (inRange b (fieldAt fresh b)) (λ e. omega (arith, fresh-some b e, pages-few b)) (λ e. omega (arith, fresh-none b e))
 
 -- ---- THE WALK ALONG THE CHAIN, over the values of the code
 

@@ -30,10 +30,6 @@ pub set-leaf-is : (b : List ℕ) (p n : ℕ) (rs : List Record) → setLeaf b p 
 unfolding setPage
 set-leaf-is b p n rs = refl
 
-pub set-inner-is : (b : List ℕ) (p l n : ℕ) (es : List Entry) → setInner b p (suc l) es ≡ setPage b p (inner l n es)
-unfolding setPage
-set-inner-is b p l n es = refl
-
 -- ---- LENGTHS ARE KEPT
 
 pub length-set-page : (b : List ℕ) (p : ℕ) (x : Page) → length (setPage b p x) ≡ length b
@@ -236,10 +232,6 @@ inner-levels b p = refl
 pub leaf-part : (b : List ℕ) (p n : ℕ) → n ≡ 1024 → inRange b p ≡ true → leafOf (take n (drop (p * 1024) b)) ≡ leafAt b p
 unfolding leafAt
 leaf-part b p n e h = rw (e, stretch-in b p h)
-
-pub inner-part : (b : List ℕ) (p n : ℕ) → n ≡ 1024 → inRange b p ≡ true → innerOf (take n (drop (p * 1024) b)) ≡ innerAt b p
-unfolding innerAt
-inner-part b p n e h = rw (e, stretch-in b p h)
 
 by-level : (v : ℕ) (m : Leaf) (k : Inner) → levelOf (pageBy v m k) ≡ v
 unfolding pageBy

@@ -9,11 +9,6 @@ use lib.ListN.{length}
 use borrow.Author.Tests.{ltb-true, ltb-false, lt-ltb}
 use Rattle.pagestore.specs.Store.{pagesIn, inRange}
 
--- the pages of an index of n whole pages
-pub pages-are : (b : List ℕ) (n : ℕ) → length b ≡ n * 1024 → n ≤ 16384 → pagesIn b ≡ n
-unfolding pagesIn
-pages-are b n e h = omega arith
-
 pub pages-few : (b : List ℕ) → pagesIn b ≤ 16384
 unfolding pagesIn
 pages-few b = omega arith

@@ -6,7 +6,8 @@ use lib.ListN.{length}
 use borrow.Author.Needs.{needs}
 use borrow.Author.Tests.{not-true, not-false}
 use Rattle.pagestore.specs.Store.{pagesIn, freedAt}
-use Rattle.pagestore.specs.Store.CountLaws.{chainLeft, pages-most, walk-first, walk-stops, walk-next, walk-ends}
+use Rattle.pagestore.specs.Store.RangeLaws.{pages-few}
+use Rattle.pagestore.specs.Store.CountLaws.{chainLeft, walk-first, walk-stops, walk-next, walk-ends}
 use Rattle.pagestore.proofs.counting.freed_count.Statement.{statement}
 use Rattle.pagestore.proofs.counting.freed_count.Tie as tie
 
@@ -35,7 +36,7 @@ link-at-requires : tie.Need-link-at-requires Inv-loop μ-loop
 link-at-requires c κs = search needs
 
 add-n : tie.Need-add-n Inv-loop μ-loop
-add-n c = omega (arith, pages-most (c .before .before .before .before .before .before .before .before .args .index .now), c .before .before .before .before .loop .inv .1)
+add-n c = omega (arith, pages-few (c .before .before .before .before .before .before .before .before .args .index .now), c .before .before .before .before .loop .inv .1)
 
 loop-less : tie.Need-loop-less Inv-loop μ-loop
 loop-less c = omega arith
