@@ -8,12 +8,13 @@ use Prim.Native.Nat.{ℕ, zero, suc, _+_, _-_, _*_, _/_, min}
 use lib.Dec.{ltb, leb, eqb}
 use lib.ListN.{length, take, drop, replicate}
 use Rattle.lists.specs.Basics.{if, rangeFrom}
-use Rattle.pagestore.specs.Bytes.{byteAt, leAt, leBytes, put}
-use Rattle.pagestore.specs.Layout.{leafOf, innerOf, linkOf, leafBytes, innerBytes, freedBytes}
-use Rattle.pagestore.specs.declared.Record.{Record}
-use Rattle.pagestore.specs.declared.Leaf.{Leaf}
-use Rattle.pagestore.specs.declared.Entry.{Entry}
-use Rattle.pagestore.specs.declared.Inner.{Inner}
+use Rattle.pagestore_bytes.specs.Bytes.{byteAt, leAt, leBytes, put}
+use Rattle.pagestore_page.specs.Layout.{pageSize, leafOf, innerOf, linkOf, leafBytes, innerBytes, freedBytes}
+pub use Rattle.pagestore_page.specs.Layout.{recordsIn, entriesIn}
+use Rattle.pagestore_page.specs.declared.Record.{Record}
+use Rattle.pagestore_page.specs.declared.Leaf.{Leaf}
+use Rattle.pagestore_page.specs.declared.Entry.{Entry}
+use Rattle.pagestore_page.specs.declared.Inner.{Inner}
 pub mod RangeLaws
 pub mod StretchLaws
 pub mod PageLaws
@@ -25,9 +26,13 @@ pub mod CountLaws
 
 -- ---- PAGES
 
--- the whole pages lent; no index has more than 16,384
+-- the pages of the longest index
+abbrev pub maxPages : ℕ
+maxPages = 16384
+
+-- the whole pages lent
 unfoldable pub pagesIn : List ℕ → ℕ
-pagesIn b = min (length b / 1024) 16384
+pagesIn b = min (length b / pageSize) maxPages
 
 -- is p a page of the index other than the header
 unfoldable pub inRange : List ℕ → ℕ → Bool
@@ -35,11 +40,11 @@ inRange b p = ltb 0 p && ltb p (pagesIn b)
 
 -- the bytes of page p: its own stretch of the index; none if p is out of range
 pub stretch : List ℕ → ℕ → List ℕ
-stretch b p = if (inRange b p) (take 1024 (drop (p * 1024) b)) []
+stretch b p = if (inRange b p) (take pageSize (drop (p * pageSize) b)) []
 
 -- the index with 1,024 bytes written into the stretch of page p; as it was if p is out of range
 pub setStretch : List ℕ → ℕ → List ℕ → List ℕ
-setStretch b p xs = if (inRange b p) (take (p * 1024) b ++ (xs ++ drop (p * 1024 + 1024) b)) b
+setStretch b p xs = if (inRange b p) (take (p * pageSize) b ++ (xs ++ drop (p * pageSize + pageSize) b)) b
 
 -- what page p holds: as a leaf, as an inner page, its level byte and its count byte, and its link if it is freed
 pub leafAt : List ℕ → ℕ → Leaf
@@ -56,13 +61,6 @@ countAt b p = byteAt (stretch b p) 1
 
 pub linkAt : List ℕ → ℕ → ℕ
 linkAt b p = linkOf (stretch b p)
-
--- the items of a page: as many as its count says, but at most the 16 that there are
-abbrev pub recordsIn : Leaf → List Record
-recordsIn l = take (l .count) (l .records)
-
-abbrev pub entriesIn : Inner → List Entry
-entriesIn n = take (n .count) (n .entries)
 
 -- the index with a leaf of the records rs at page p, and with an inner page; the first 16 items are written
 pub setLeaf : List ℕ → ℕ → List Record → List ℕ
@@ -142,10 +140,10 @@ Apart f g = eqb (offset f) (offset g) ≡ false
 
 -- the number of w bytes at an offset of the header, and the index with another one there; in fewer than 1,024 bytes 0, and no change
 pub numberAt : ℕ → ℕ → List ℕ → ℕ
-numberAt w at b = if (leb 1024 (length b)) (leAt w b at) 0
+numberAt w at b = if (leb pageSize (length b)) (leAt w b at) 0
 
 pub setNumber : ℕ → ℕ → List ℕ → ℕ → List ℕ
-setNumber w at b v = if (leb 1024 (length b)) (put b at (leBytes w v)) b
+setNumber w at b v = if (leb pageSize (length b)) (put b at (leBytes w v)) b
 
 abbrev pub fieldAt : Field → List ℕ → ℕ
 fieldAt f b = numberAt (width f) (offset f) b
@@ -204,7 +202,7 @@ freePage b p = if (inRange b p) (setField freed (setLink b p (fieldAt freed b)) 
 -- ---- A NEW INDEX
 
 pub clearHeader : List ℕ → List ℕ
-clearHeader b = if (leb 1024 (length b)) (replicate 1024 0 ++ drop 1024 b) b
+clearHeader b = if (leb pageSize (length b)) (replicate pageSize 0 ++ drop pageSize b) b
 
 unfoldable pub setFields : List ℕ → List (Field × ℕ) → List ℕ
 setFields b [] = b

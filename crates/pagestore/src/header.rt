@@ -2,11 +2,11 @@
 ghost use mathlib.Core.Path.{_≡_};
 ghost use Prim.Native.Nat.{_+_, _≤_};
 ghost use Rattle.pagestore.specs.Store.{numberAt, setNumber, fieldAt, setField, size, features, root, level, total, freed, fresh};
-use crate::PAGE_SIZE;
-use crate::numbers::get_u8;
-use crate::numbers::get_u32;
-use crate::numbers::put_u8;
-use crate::numbers::put_u32;
+use pagestore_bytes::get_u8;
+use pagestore_bytes::get_u32;
+use pagestore_bytes::put_u8;
+use pagestore_bytes::put_u32;
+use pagestore_page::PAGE_SIZE;
 
 // Where the fields stand: the length in pages, the number of features, the root's page and level, the total of records, the page freed last, the lowest
 // page never used.

@@ -1,15 +1,15 @@
 // A new index.
 ghost use mathlib.Core.Path.{_≡_};
 ghost use Rattle.pagestore.specs.Store.{clearHeader, newIndex};
-use crate::PAGE_SIZE;
 use crate::header::set_features;
 use crate::header::set_fresh_page;
 use crate::header::set_index_size;
 use crate::header::set_root_page;
-use crate::leaves::empty_leaf;
 use crate::leaves::set_leaf;
-use crate::numbers::clear;
 use crate::pages::page_count;
+use pagestore_bytes::clear;
+use pagestore_page::PAGE_SIZE;
+use pagestore_page::empty_leaf;
 
 fn clear_header(index: &mut [u8])
     ensures { λ _. ⌜ now (index .exit) ≡ clearHeader (now (index .entry)) ⌝ }

@@ -2,25 +2,25 @@
 ghost use mathlib.Core.Path.{_≡_};
 ghost use Prim.Native.Nat.{_<_};
 ghost use lib.ListN.{getD};
-ghost use Rattle.pagestore.specs.Bytes.{byteAt};
-ghost use Rattle.pagestore.specs.Layout.{noRecord, noEntry};
+ghost use Rattle.pagestore_bytes.specs.Bytes.{byteAt};
+ghost use Rattle.pagestore_page.specs.Layout.{noRecord, noEntry};
 ghost use Rattle.pagestore.specs.Store.{pagesIn, inRange, stretch, leafAt, innerAt, levelAt, countAt, linkAt};
-use crate::Entry;
-use crate::Inner;
-use crate::Leaf;
-use crate::MAX_ITEMS;
-use crate::MAX_PAGES;
-use crate::PAGE_SIZE;
-use crate::Record;
-use crate::inners::no_entry;
-use crate::inners::read_entry;
-use crate::leaves::empty_leaf;
-use crate::leaves::no_record;
-use crate::leaves::read_ident;
-use crate::leaves::read_leaf;
-use crate::leaves::read_record;
-use crate::links::read_link;
-use crate::numbers::get_u8;
+use pagestore_bytes::get_u8;
+use pagestore_page::Entry;
+use pagestore_page::Inner;
+use pagestore_page::Leaf;
+use pagestore_page::MAX_ITEMS;
+use pagestore_page::MAX_PAGES;
+use pagestore_page::PAGE_SIZE;
+use pagestore_page::Record;
+use pagestore_page::empty_leaf;
+use pagestore_page::no_entry;
+use pagestore_page::no_record;
+use pagestore_page::read_entry;
+use pagestore_page::read_ident;
+use pagestore_page::read_leaf;
+use pagestore_page::read_link;
+use pagestore_page::read_record;
 
 // The number of whole pages lent; no index has more than 16,384.
 pub fn page_count(index: &[u8]) -> u32

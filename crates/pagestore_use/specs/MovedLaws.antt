@@ -8,12 +8,13 @@ use native.Mathlib.Omega.{arith}
 use lib.ListN.{length, drop, getD}
 use Rattle.lists.specs.Basics.{All, all-head}
 use Rattle.lists.specs.Counts.{mult, mult-more, absent}
-use Rattle.pagestore.specs.declared.Record.{Record}
-use Rattle.pagestore.specs.declared.Leaf.{Leaf}
+use Rattle.pagestore_page.specs.declared.Record.{Record}
+use Rattle.pagestore_page.specs.declared.Leaf.{Leaf}
 use Rattle.pagestore.specs.Store.{leaf, Field, Apart, fieldAt, freed, fresh, inRange, pageAt, setPage, leafAt, recordsIn, setLeaf, restAt, freedAt, freeAt, pageTaken, takePage, freePage}
 use Rattle.pagestore.specs.Store.RangeLaws.{range-same}
 use Rattle.pagestore.specs.Store.PageLaws.{PageFits, SamePage, set-leaf-is, same-trans, page-same, page-other, field-page, leaf-view, page-fits, page-fill, length-set-page}
-use Rattle.pagestore.specs.Store.FreeLaws.{free-range, freed-part, taken-first, taken-gone, length-take-page, page-take, field-take, rest-take, free-take, page-free, field-free, free-free, free-page, rest-page}
+use Rattle.pagestore.specs.Store.FreeLaws.{free-range, freed-part, free-page, rest-page}
+use Rattle.pagestore.specs.Store.TakeLaws.{taken-first, taken-gone, length-take-page, page-take, field-take, rest-take, free-take, page-free, field-free, free-free}
 use Rattle.pagestore_use.specs.Moved.{movedTo}
 
 -- c is b with the leaf of page p at the page that is taken

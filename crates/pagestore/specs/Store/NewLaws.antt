@@ -12,10 +12,10 @@ use borrow.Author.Tests.{leb-true}
 use Rattle.lists.specs.Basics.{none, rangeFrom, indicator}
 use Rattle.lists.specs.Counts.{mult, mult-self, mult-not, rangeFrom-below, rangeFrom-past, rangeFrom-within}
 use Rattle.lists.specs.Tests.{by-cases}
-use Rattle.pagestore.specs.Bytes.{leAt, leBytes}
-use Rattle.pagestore.specs.ByteLaws.{length-le, put-drop}
-use Rattle.pagestore.specs.Layout.{leafBytes}
-use Rattle.pagestore.specs.LayoutLaws.{length-leaf}
+use Rattle.pagestore_bytes.specs.Bytes.{leAt, leBytes}
+use Rattle.pagestore_bytes.specs.ByteLaws.{length-le, put-drop}
+use Rattle.pagestore_page.specs.Layout.{leafBytes}
+use Rattle.pagestore_page.specs.LayoutLaws.{length-leaf}
 use Rattle.pagestore.specs.Store.{pagesIn, inRange, setStretch, leaf, pageAt, setPage, setLeaf, Field, offset, width, Apart, size, features, root, level, total, freed, fresh, fieldAt, setField, numberAt, setNumber, chain, chainEnd, freedAt, restAt, freshAt, freeAt, clearHeader, setFields, newIndex}
 use Rattle.pagestore.specs.Store.RangeLaws.{range-high, range-past, range-is, range-zero, range-same, range-whole, pages-same, pages-few}
 use Rattle.pagestore.specs.Store.StretchLaws.{set-in, set-out, agree, field-room}

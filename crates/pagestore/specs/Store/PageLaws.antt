@@ -12,16 +12,16 @@ use borrow.Author.Tests.{le-leb, eqb-false}
 use Rattle.lists.specs.Basics.{All}
 use Rattle.lists.specs.Tabulated.{all-take}
 use Rattle.lists.specs.Tests.{by-cases}
-use Rattle.pagestore.specs.Bytes.{byteAt, leBytes, put}
-use Rattle.pagestore.specs.ByteLaws.{le-fits, length-le, le-ext, le-at, length-put, put-other, put-there}
-use Rattle.pagestore.specs.Layout.{leafOf, innerOf, linkOf, leafBytes, innerBytes, freedBytes}
-use Rattle.pagestore.specs.LayoutLaws.{length-leaf, length-inner, length-freed, leaf-level, leaf-count, leaf-round, inner-level, inner-count, inner-round, link-round, leaf-fits, inner-fits, leaf-slots, inner-slots}
-use Rattle.pagestore.specs.Fits.{RecordFits, EntryFits}
-use Rattle.pagestore.specs.declared.Record.{Record}
-use Rattle.pagestore.specs.declared.Leaf.{Leaf}
-use Rattle.pagestore.specs.declared.Entry.{Entry}
-use Rattle.pagestore.specs.declared.Inner.{Inner}
-use Rattle.pagestore.specs.Store.{inRange, stretch, setStretch, leafAt, innerAt, levelAt, countAt, linkAt, recordsIn, entriesIn, levelOf, fillOf, setLeaf, setInner, setLink, Page, leaf, inner, pageBy, pageAt, setPage, Field, offset, width, Apart, fieldAt, setField, numberAt, setNumber}
+use Rattle.pagestore_bytes.specs.Bytes.{byteAt, leBytes, put}
+use Rattle.pagestore_bytes.specs.ByteLaws.{le-fits, length-le, le-ext, le-at, length-put, put-other, put-there}
+use Rattle.pagestore_page.specs.Layout.{leafOf, innerOf, linkOf, leafBytes, innerBytes, freedBytes, recordsIn, entriesIn}
+use Rattle.pagestore_page.specs.LayoutLaws.{length-leaf, length-inner, length-freed, leaf-level, leaf-count, leaf-round, inner-level, inner-count, inner-round, link-round, leaf-fits, inner-fits, leaf-slots, inner-slots}
+use Rattle.pagestore_page.specs.Fits.{RecordFits, EntryFits}
+use Rattle.pagestore_page.specs.declared.Record.{Record}
+use Rattle.pagestore_page.specs.declared.Leaf.{Leaf}
+use Rattle.pagestore_page.specs.declared.Entry.{Entry}
+use Rattle.pagestore_page.specs.declared.Inner.{Inner}
+use Rattle.pagestore.specs.Store.{inRange, stretch, setStretch, leafAt, innerAt, levelAt, countAt, linkAt, levelOf, fillOf, setLeaf, setInner, setLink, Page, leaf, inner, pageBy, pageAt, setPage, Field, offset, width, Apart, fieldAt, setField, numberAt, setNumber}
 use Rattle.pagestore.specs.Store.StretchLaws.{stretch-in, stretch-out, set-out, agree, length-stretch, stretch-same, stretch-other, field-stretch, field-room}
 
 -- ---- WRITES OF PAGES, AS ONE

@@ -10,11 +10,11 @@ use lib.ListN.{length, getD, take, drop, replicate, length-append, length-take, 
 use lib.Seq.{take-at, drop-at, length-take-le, getD-take, getD-drop, getD-append-add, ext-getD}
 use borrow.Author.Tests.{leb-true, leb-false, le-leb, lt-leb}
 use Rattle.lists.specs.Tests.{by-cases}
-use Rattle.pagestore.specs.Bytes.{byteAt, leAt, leBytes, put}
-use Rattle.pagestore.specs.ByteLaws.{le-ext}
-use Rattle.pagestore.specs.Layout.{leafOf, innerOf, linkOf, leafBytes, innerBytes, freedBytes}
-use Rattle.pagestore.specs.declared.Record.{Record}
-use Rattle.pagestore.specs.declared.Entry.{Entry}
+use Rattle.pagestore_bytes.specs.Bytes.{byteAt, leAt, leBytes, put}
+use Rattle.pagestore_bytes.specs.ByteLaws.{le-ext}
+use Rattle.pagestore_page.specs.Layout.{leafOf, innerOf, linkOf, leafBytes, innerBytes, freedBytes}
+use Rattle.pagestore_page.specs.declared.Record.{Record}
+use Rattle.pagestore_page.specs.declared.Entry.{Entry}
 use Rattle.pagestore.specs.Store.{inRange, stretch, setStretch, leafAt, innerAt, levelAt, countAt, linkAt, setLeaf, setInner, setLink, Field, offset, width, fieldAt, numberAt, setNumber, clearHeader, size, features, root, level, total, freed, fresh}
 use Rattle.pagestore.specs.Store.RangeLaws.{range-low, range-same, range-whole}
 

@@ -1,7 +1,7 @@
 use mathlib.Core.Path.{ap, _∙_}
 use mathlib.Core.List.{List}
 use Prim.Native.Nat.{ℕ}
-use Rattle.pagestore.specs.Bytes.{byteAt}
+use Rattle.pagestore_bytes.specs.Bytes.{byteAt}
 use Rattle.pagestore.proofs.CodeLaws.{byte-past}
 use borrow.Author.Needs.{needs}
 use Rattle.pagestore.proofs.pages.byte_of.Statement.{statement}

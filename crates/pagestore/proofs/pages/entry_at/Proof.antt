@@ -2,10 +2,11 @@ use mathlib.Core.Path.{sym, ap, _∙_}
 use mathlib.Core.List.{List}
 use Prim.Native.Nat.{ℕ}
 use lib.ListN.{getD}
-use Rattle.pagestore.specs.Layout.{innerOf, noEntry}
-use Rattle.pagestore.specs.declared.Inner.{Inner}
+use Rattle.pagestore_page.specs.Layout.{innerOf, noEntry}
+use Rattle.pagestore_page.specs.declared.Inner.{Inner}
 use Rattle.pagestore.specs.Store.StretchLaws.{inner-opens}
-use Rattle.pagestore.proofs.CodeLaws.{whole-page, no-page, entry-none}
+use Rattle.pagestore_page.proofs.ReadLaws.{entry-none}
+use Rattle.pagestore.proofs.CodeLaws.{whole-page, no-page}
 use borrow.Author.Needs.{needs}
 use Rattle.pagestore.proofs.pages.entry_at.Statement.{statement}
 use Rattle.pagestore.proofs.pages.entry_at.Tie as tie

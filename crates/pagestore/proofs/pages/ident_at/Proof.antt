@@ -2,10 +2,11 @@ use mathlib.Core.Path.{sym, ap, _∙_}
 use mathlib.Core.List.{List}
 use Prim.Native.Nat.{ℕ}
 use lib.ListN.{getD}
-use Rattle.pagestore.specs.Layout.{leafOf, noRecord}
-use Rattle.pagestore.specs.declared.Leaf.{Leaf}
+use Rattle.pagestore_page.specs.Layout.{leafOf, noRecord}
+use Rattle.pagestore_page.specs.declared.Leaf.{Leaf}
 use Rattle.pagestore.specs.Store.StretchLaws.{leaf-opens}
-use Rattle.pagestore.proofs.CodeLaws.{whole-page, no-page, ident-none}
+use Rattle.pagestore_page.proofs.ReadLaws.{ident-none}
+use Rattle.pagestore.proofs.CodeLaws.{whole-page, no-page}
 use borrow.Author.Needs.{needs}
 use Rattle.pagestore.proofs.pages.ident_at.Statement.{statement}
 use Rattle.pagestore.proofs.pages.ident_at.Tie as tie

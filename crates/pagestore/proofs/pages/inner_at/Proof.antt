@@ -3,7 +3,7 @@ use Prim.Native.Nat.{_≤_, _<_, _-_}
 use lib.ListN.{length, getD, take}
 use Rattle.lists.specs.Basics.{tabulate}
 use Rattle.lists.specs.Tabulated.{tabulate-more, tabulate-done}
-use Rattle.pagestore.specs.Layout.{noEntry}
+use Rattle.pagestore_page.specs.Layout.{noEntry}
 use Rattle.pagestore.specs.Store.{innerAt}
 use Rattle.pagestore.specs.Store.PageLaws.{inner-levels, inner-counts, entries-slots}
 use Rattle.pagestore.proofs.CodeLaws.{inner-whole}

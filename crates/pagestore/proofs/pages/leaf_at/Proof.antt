@@ -1,5 +1,5 @@
 use mathlib.Core.Path.{sym, ap, _∙_}
-use Rattle.pagestore.specs.Layout.{leafOf}
+use Rattle.pagestore_page.specs.Layout.{leafOf}
 use Rattle.pagestore.specs.Store.StretchLaws.{leaf-opens}
 use Rattle.pagestore.proofs.CodeLaws.{whole-page, no-page}
 use borrow.Author.Needs.{needs}

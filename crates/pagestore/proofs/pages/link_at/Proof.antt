@@ -1,6 +1,6 @@
 use mathlib.Core.Path.{sym, ap, _∙_}
-use Rattle.pagestore.specs.Bytes.{leAt}
-use Rattle.pagestore.specs.Layout.{linkOf}
+use Rattle.pagestore_bytes.specs.Bytes.{leAt}
+use Rattle.pagestore_page.specs.Layout.{linkOf}
 use Rattle.pagestore.specs.Store.StretchLaws.{link-opens}
 use Rattle.pagestore.proofs.CodeLaws.{whole-page, no-page}
 use borrow.Author.Needs.{needs}
