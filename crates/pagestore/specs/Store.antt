@@ -1,6 +1,6 @@
 -- The page store: what an index holds, whatever its bytes are, and what each operation leaves. Nothing above this crate sees a byte:
--- the definitions without a mark open only to the modules below this one. Of these, RangeLaws, PageLaws, FreeLaws, NewLaws and CountLaws say all that is
--- used of them above; StretchLaws is for the proofs of this crate.
+-- the definitions without a mark open only to the modules below this one. Of these, RangeLaws, PageLaws, ChainLaws, FreeLaws, TakeLaws, NewLaws and
+-- CountLaws say all that is used of them above; StretchLaws is for the proofs of this crate, and for a caller of `stretch`.
 use mathlib.Core.Path.{_≡_}
 use mathlib.Core.Bool.{Bool, false, _&&_}
 use mathlib.Core.List.{List, [], _∷_, _++_}

@@ -8,8 +8,7 @@ use pagestore_bytes::put_u8;
 use pagestore_bytes::put_u32;
 use pagestore_page::PAGE_SIZE;
 
-// Where the fields stand: the length in pages, the number of features, the root's page and level, the total of records, the page freed last, the lowest
-// page never used.
+// Where the fields stand: length in pages, number of features, the root's page and level, total of records, page freed last, lowest page never used.
 const SIZE: usize = 0;
 
 const FEATURES: usize = 4;

@@ -110,8 +110,11 @@ freedBytes next = (0 ∷ 0 ∷ 0 ∷ 0 ∷ []) ++ (leBytes 4 next ++ replicate (
 abbrev pub noRecord : Record
 noRecord = record { id = 0; coords = [] }
 
+abbrev pub noKey : Key
+noKey = record { pyramid = record { 0 = 0 }; height = record { 0 = 0 }; id = 0 }
+
 abbrev pub noEntry : Entry
-noEntry = record { child = 0; first = record { pyramid = record { 0 = 0 }; height = record { 0 = 0 }; id = 0 }; last = record { pyramid = record { 0 = 0 }; height = record { 0 = 0 }; id = 0 } }
+noEntry = record { child = 0; first = noKey; last = noKey }
 
 -- the items of a page: as many as its count says, but at most the 16 that there are
 abbrev pub recordsIn : Leaf → List Record

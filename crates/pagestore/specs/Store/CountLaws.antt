@@ -1,13 +1,13 @@
 -- How many pages are free, along the chain of freed pages.
-use mathlib.Core.Path.{_≡_, refl, sym, ap, _∙_}
+use mathlib.Core.Path.{_≡_, sym, ap, _∙_}
 use mathlib.Core.Bool.{true, false}
-use mathlib.Core.List.{List, [], _∷_, _++_}
+use mathlib.Core.List.{List}
 use Prim.Native.Nat.{ℕ, suc, _+_, _-_, _≤_, _<_}
 use native.Mathlib.Omega.{arith}
 use lib.ListN.{length, length-append}
 use Rattle.lists.specs.Basics.{length-rangeFrom}
 use Rattle.lists.specs.Tests.{by-cases}
-use Rattle.pagestore.specs.Store.{Field, freed, fresh, fieldAt, inRange, pagesIn, linkAt, chain, freedAt, freshAt, freeAt}
+use Rattle.pagestore.specs.Store.{freed, fresh, fieldAt, inRange, pagesIn, linkAt, chain, freedAt, freshAt, freeAt}
 use Rattle.pagestore.specs.Store.RangeLaws.{pages-few}
 use Rattle.pagestore.specs.Store.ChainLaws.{chain-out, chain-in, chain-most}
 

@@ -1,5 +1,5 @@
 -- `pagestore::fresh_count` meets its contract. Assumes nothing.
-use mathlib.Core.Path.{sym, ap, _∙_}
+use mathlib.Core.Path.{sym, _∙_}
 use native.Mathlib.Omega.{arith}
 use borrow.Author.Needs.{needs}
 use Rattle.pagestore.specs.Store.RangeLaws.{range-high}
