@@ -8,19 +8,19 @@ use pagestore_bytes::put_u8;
 use pagestore_bytes::put_u32;
 use pagestore_page::PAGE_SIZE;
 
-// Where the fields stand: length in pages, number of features, the root's page and level, total of records, page freed last, lowest page never used.
+// Where the fields stand. The length of the index in pages:
 const SIZE: usize = 0;
-
+// the number of features, d:
 const FEATURES: usize = 4;
-
+// the root's page:
 const ROOT: usize = 8;
-
+// the root's level:
 const LEVEL: usize = 12;
-
+// the number of records in all leaves:
 const TOTAL: usize = 16;
-
+// the page freed last:
 const FREED: usize = 20;
-
+// the lowest page never used:
 const FRESH: usize = 24;
 
 fn get_byte(index: &[u8], at: usize) -> u8

@@ -8,16 +8,16 @@ mod leaves;
 mod links;
 mod shift;
 
-// The bytes of a page, and the pages of the longest index.
+// The bytes of a page.
 pub const PAGE_SIZE: usize = 1024;
-
+// The pages of the longest index.
 pub const MAX_PAGES: u32 = 16384;
-// The items of a page, records or entries: for how many there is room, and how many a page other than the root has at least.
-pub const MAX_ITEMS: usize = 16;
-
-pub const MIN_ITEMS: usize = 8;
 // The points of the fullest index.
 pub const MAX_POINTS: u32 = 65535;
+// The items of a page, records or entries: for how many there is room.
+pub const MAX_ITEMS: usize = 16;
+// The items that a page other than the root has at least.
+pub const MIN_ITEMS: usize = 8;
 // The coordinates of a point at most.
 pub const MAX_FEATURES: usize = 16;
 
