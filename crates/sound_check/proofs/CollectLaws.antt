@@ -28,14 +28,14 @@ use Rattle.sound_faults.specs.Assembled.{reached-page, live-idents}
 use Rattle.sound_faults.specs.Repeated.{repeated-fails}
 use Rattle.sound_repeats.specs.Repeats.{lowestRepeat, Repeated}
 use Rattle.sound_repeats.proofs.RepeatsLaws.{lowest-repeat}
-use Rattle.sound_pages.specs.Judged.{Found, nowhere, at}
-use Rattle.sound_pages.specs.Marks.{Seen, MarksAre, markedTo}
+use Rattle.sound_faults.specs.Judges.{Found, nowhere, at}
+use Rattle.sound_links.specs.Marks.{Seen, MarksAre, markedTo}
 use Rattle.sound_check.specs.Collect.{identOn, holderOf, pairsOn, pairsIf, pairsTo, Joined, Collected, Gathered}
 use Rattle.sound_check.specs.Outcome.{Counted}
-use Rattle.sound_pages.proofs.JudgeLaws.{take-more}
-use Rattle.sound_pages.proofs.ViewLaws.{leaf-is, view-level}
-use Rattle.sound_pages.proofs.EntryLaws.{inner-points}
-use Rattle.sound_pages.proofs.TurnLaws.{marked-yes, marked-no, marked-none, marked-followed}
+use Rattle.sound_faults.specs.Prefixes.{take-more}
+use Rattle.sound_faults.specs.ViewLaws.{leaf-is, view-level}
+use Rattle.sound_faults.specs.ViewLaws.{inner-points}
+use Rattle.sound_links.proofs.MarkedLaws.{marked-yes, marked-no, marked-none, marked-followed}
 
 -- ---- ONE LEAF
 

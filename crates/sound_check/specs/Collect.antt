@@ -7,8 +7,8 @@ use lib.ListN.{length, getD, take}
 use Rattle.lists.specs.Basics.{if}
 use Rattle.pagestore.specs.Store.{recordsOf, View}
 use Rattle.sound_faults.specs.Faults.{FailsAt}
-use Rattle.sound_pages.specs.Judged.{Found}
-use Rattle.sound_pages.specs.Marks.{PagesFine}
+use Rattle.sound_faults.specs.Judges.{Found}
+use Rattle.sound_pages.specs.Pages.{PagesFine}
 use Rattle.sound_check.specs.declared.Visit.{Visit}
 
 abbrev pub identOn : ℕ × ℕ → ℕ

@@ -8,7 +8,7 @@ use Rattle.tree_model.specs.Sound.{Permitted, SoundIndex}
 use Rattle.tree_model.specs.Trees.{live}
 use Rattle.sound_faults.specs.Faults.{IsPage, RootFill, Reached, FailsAt}
 use Rattle.sound_faults.specs.Linked.{HeaderFine, Linked, PageFine, InState}
-use Rattle.sound_pages.specs.Marks.{Marked, Clear, MarksAre, FreedOk}
+use Rattle.sound_links.specs.Marks.{Marked, Clear, MarksAre, FreedOk}
 use Rattle.sound_check.specs.Collect.{Gathered}
 use Rattle.sound_check.specs.declared.Checked.{Checked}
 

@@ -6,14 +6,14 @@ ghost use Prim.Native.Nat.{_+_, _<_, _≤_};
 ghost use lib.ListN.{length};
 ghost use Rattle.pagestore.specs.Store.{viewOf, leafAt, recordsIn};
 ghost use Rattle.tree_model.specs.Trees.{identOf};
-ghost use Rattle.sound_pages.specs.Marks.{MarksAre};
+ghost use Rattle.sound_links.specs.Marks.{MarksAre};
 ghost use Rattle.sound_check.specs.Collect.{Joined, Gathered, Visited};
 use crate::Visit;
 use pagestore::ident_at;
 use pagestore::page_count;
-use sound_pages::item_count;
+use sound_keys::item_count;
+use sound_links::place;
 use sound_pages::keep_page;
-use sound_pages::place;
 
 // A page number as it is kept beside an identifier.
 fn narrow(page: u32) -> u16

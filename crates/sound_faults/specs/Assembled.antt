@@ -4,9 +4,9 @@ use mathlib.Core.Logic.{_≢_, _⊎_, ⊎-elim}
 use mathlib.Core.List.{List, [], _∷_, _++_, map}
 use Prim.Native.Nat.{ℕ, zero, suc, _+_, _-_, _≤_, _<_}
 use native.Mathlib.Omega.{arith}
-use lib.Dec.{eqb, ltb}
+use lib.Dec.{ltb}
 use lib.ListN.{length, length-append, length-map}
-use borrow.Author.Tests.{ltb-true, ltb-false, lt-ltb, le-ltb, eq-eqb, ne-eqb}
+use borrow.Author.Tests.{ltb-true, ltb-false, lt-ltb, le-ltb, ne-eqb}
 use Rattle.lists.specs.Basics.{All, none, also, all-append, concatMap, indicator}
 use Rattle.lists.specs.Ascending.{Ascending}
 use Rattle.lists.specs.Counts.{mult, mult-append, mult-not, rangeFrom-below, rangeFrom-past, rangeFrom-within, mult-none}
@@ -21,10 +21,10 @@ use Rattle.pagestore.specs.Store.{Page, leaf, inner, levelOf, fillOf, recordsOf
 use Rattle.tree_model.specs.Trees.{Item, records, pages, rankOf, identOf, entryOf, node, Rep, treeAt, treeOf, live}
 use Rattle.tree_model.specs.TreeLaws.{fill-node}
 use Rattle.tree_model.specs.Sound.{Permitted, isPage, freshPages, Filled, RootFilled, RecordOk, Sound}
-use Rattle.sound_faults.specs.Faults.{IsPage, Freed, RootFill, firstOf, lastOf, ends, ranksIn, Rooted, Reached, EntryAt}
+use Rattle.sound_faults.specs.Faults.{IsPage, Freed, RootFill, firstKeyIn, lastKeyIn, ends, ranksIn, Rooted, Reached, EntryAt}
 use Rattle.sound_faults.specs.Stored.{Counted, Stored}
 use Rattle.sound_faults.specs.Linked.{Linked, PageFine, InState, Followed}
-use Rattle.sound_faults.specs.Shapes.{childOf, kids, idents, itemRanks, pages-named, records-held, first-node, last-node, kids-asc, own-records, no-pages}
+use Rattle.sound_faults.specs.Shapes.{childOf, kids, idents, itemRanks, named-once, indicator-same, page-tree, root-is, records-held, first-node, last-node, kids-asc, own-records, no-pages}
 
 -- ---- PAGES BY THEIR ITEMS
 
@@ -56,11 +56,6 @@ all-zero : (v : View) (rs : List Record) → All (Rep 0 v) rs × All (Filled 0) 
 unfolding Rep Filled
 all-zero v [] = (none, none)
 all-zero v (r ∷ rs) = let h = all-zero v rs in (also tt (h .0), also tt (h .1))
-
-pub page-tree : (l : ℕ) (v : View) (p : ℕ) → treeAt l v p .0 ≡ p
-unfolding treeAt
-page-tree zero v p = refl
-page-tree (suc l) v p = refl
 
 pub is-page : (v : View) (q : ℕ) → IsPage v q → indicator (isPage v q) ≡ 1
 is-page v q h = rw (lt-ltb 0 q (h .0), lt-ltb q (v .count) (h .1))
@@ -103,8 +98,8 @@ module _ (v : View) (st : Stored v) (c : Linked v) where
       let some : 0 < length (t .1) = omega (arith, ok .fill .0) in
       record {
         is = entry-eq e (entryOf (v .d) l t) (sym z)
-            (ok .first ∙ ap (firstOf (v .d)) pg ∙ first-node (v .d) l (t .1) some (b .fills))
-            (ok .last ∙ ap (lastOf (v .d)) pg ∙ last-node (v .d) l (t .1) some (b .fills));
+            (ok .first ∙ ap (firstKeyIn (v .d)) pg ∙ first-node (v .d) l (t .1) some (b .fills))
+            (ok .last ∙ ap (lastKeyIn (v .d)) pg ∙ last-node (v .d) l (t .1) some (b .fills));
         filled = (omega (arith, ok .fill .0), omega (arith, ok .fill .1), b .fills);
         reached = re;
         level = lv;
@@ -194,18 +189,10 @@ module _ (v : View) (st : Stored v) (c : Linked v) where
   unfolding treeOf
   inside q h = whole .inside q h
 
-  named : (q : ℕ) → mult q ps ≡ indicator (eqb q (v .root)) + sum (λ p. mult q (kids v p)) ps
-  unfolding treeOf
-  named q =
-      pages-named v q (v .level) (treeOf v) whole-rep ∙ ap (λ (z : ℕ). indicator (eqb q z) + sum (λ p. mult q (kids v p)) ps) (page-tree (v .level) v (v .root))
-
-  indicator-same : (a : ℕ) → indicator (eqb a a) ≡ 1
-  indicator-same a = ap indicator (eq-eqb a a refl)
-
   in-tree : (q : ℕ) → Reached v q → 0 < mult q ps
-  in-tree q (Reached.root g f) = omega (arith, named (v .root), indicator-same (v .root))
+  in-tree q (Reached.root g f) = omega (arith, named-once v whole-rep (v .root), indicator-same (v .root))
   in-tree q (Reached.entry {p = p} {e = e} h a g l f) =
-      omega (arith, named (e .child), sum-one (λ z. mult (e .child) (kids v z)) ps p (in-tree p h), mult-spot (spot-map childOf a))
+      omega (arith, named-once v whole-rep (e .child), sum-one (λ z. mult (e .child) (kids v z)) ps p (in-tree p h), mult-spot (spot-map childOf a))
 
   below-top : (q : ℕ) → Reached v q → levelOf (v .page q) ≤ levelOf (v .page (v .root))
   below-top q (Reached.root g f) = omega arith
@@ -243,16 +230,16 @@ module _ (v : View) (st : Stored v) (c : Linked v) where
   once-step : (q : ℕ) → ((p : ℕ) → 0 < mult p ps → 0 < mult q (kids v p) → mult p ps ≤ 1) → mult q ps ≤ 1
   once-step q by =
       decide q (v .root)
-      (λ e. subst (λ (z : ℕ). mult z ps ≤ 1) (sym e) (omega (arith, named (v .root), indicator-same (v .root), sum-zero (λ p. mult (v .root) (kids v p)) ps no-root)))
+      (λ e. subst (λ (z : ℕ). mult z ps ≤ 1) (sym e) (omega (arith, named-once v whole-rep (v .root), indicator-same (v .root), sum-zero (λ p. mult (v .root) (kids v p)) ps no-root)))
       (λ n. ⊎-elim
       (λ x. omega (
         arith,
-        named q,
+        named-once v whole-rep q,
         ap indicator (ne-eqb q (v .root) n),
         by (x .0) (x .1) (x .2),
         sum-only (λ p. mult q (kids v p)) (x .0) ps (one-kid (x .0) q (x .1)) (λ r g d. no-other (x .0) q r (x .1) (x .2) g d),
       ))
-      (λ z. omega (arith, named q, ap indicator (ne-eqb q (v .root) n), sum-zero (λ p. mult q (kids v p)) ps z))
+      (λ z. omega (arith, named-once v whole-rep q, ap indicator (ne-eqb q (v .root) n), sum-zero (λ p. mult q (kids v p)) ps z))
       (sum-some (λ p. mult q (kids v p)) ps))
 
   level-up : (p q : ℕ) → 0 < mult p ps → 0 < mult q (kids v p) → suc (levelOf (v .page q)) ≡ levelOf (v .page p)
@@ -334,7 +321,7 @@ module _ (v : View) (st : Stored v) (c : Linked v) where
   unfolding treeOf Rep
   root-fill =
       filled-root (v .d) (v .level) (treeOf v)
-      (subst RootFill (ap (v .page) (sym (page-tree (v .level) v (v .root))) ∙ whole-rep .0) (c .ground .rootFill))
+      (subst RootFill (ap (v .page) (sym (root-is v)) ∙ whole-rep .0) (c .ground .rootFill))
 
   pub linked-sound : Permitted (v .lent) → ((p : ℕ) → Reached v p → PageFine v p) → ((p : ℕ) → IsPage v p → InState v p)
       → ((i : ℕ) → mult i (map identOf (live v)) ≤ 1) → v .total ≡ length (live v) → v .total ≤ 65535 → Sound v

@@ -18,7 +18,7 @@ use Rattle.pagestore.specs.declared.Entry.{Entry}
 use Rattle.pagestore.specs.Store.{Page, leaf, inner, levelOf, fillOf, recordsOf, View, viewOf}
 use Rattle.tree_model.specs.Trees.{identOf, live, pages, treeOf}
 use Rattle.tree_model.specs.Sound.{Permitted, RecordOk, Sound, SoundIndex}
-use Rattle.sound_faults.specs.Faults.{IsPage, Features, Freed, RootFill, firstOf, lastOf, ranksIn, Rooted, Reached, EntryAt, EntryFault, NoFault, FailsAt}
+use Rattle.sound_faults.specs.Faults.{IsPage, Features, Freed, RootFill, firstKeyIn, lastKeyIn, ranksIn, Rooted, Reached, EntryAt, EntryFault, NoFault, FailsAt}
 use Rattle.sound_faults.specs.Stored.{Stored, view-stored}
 use Rattle.sound_faults.specs.Linked.{HeaderFine, FreedFine, Grounded, EntryFine, Linked, PageFine, InState}
 use Rattle.sound_faults.specs.Assembled.{linked-sound, tree-followed, live-idents}
@@ -111,8 +111,8 @@ module _ (v : View) (st : Stored v) (nf : (p : ℕ) → ¬ FailsAt v p) where
         range = range;
         level = eq-not-not (suc (levelOf (v .page (e .child)))) (levelOf (v .page p)) (λ n. no (EntryFault.level a n));
         fill = both-not-not (le-not-not 8 (fillOf (v .page (e .child)))) (le-not-not (fillOf (v .page (e .child))) 16) (λ n. no (EntryFault.fill a n));
-        first = key-not-not (e .first) (firstOf (v .d) (v .page (e .child))) (λ n. no (EntryFault.first a n));
-        last = key-not-not (e .last) (lastOf (v .d) (v .page (e .child))) (λ n. no (EntryFault.last a n));
+        first = key-not-not (e .first) (firstKeyIn (v .d) (v .page (e .child))) (λ n. no (EntryFault.first a n));
+        last = key-not-not (e .last) (lastKeyIn (v .d) (v .page (e .child))) (λ n. no (EntryFault.last a n));
         root = λ n. no (EntryFault.root a n);
         freed = unfreed (e .child) (λ f. no (EntryFault.freed a f));
         fresh = lt-not-le (e .child) (v .fresh) (λ l. no (EntryFault.fresh a (range, l)));

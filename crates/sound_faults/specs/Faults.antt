@@ -11,8 +11,9 @@ use Rattle.geometry.specs.declared.Key.{Key}
 use Rattle.geometry.specs.Keys.{keyNumber}
 use Rattle.pagestore.specs.declared.Record.{Record}
 use Rattle.pagestore.specs.declared.Entry.{Entry}
+use Rattle.pagestore.specs.LayoutLaws.{noEntry}
 use Rattle.pagestore.specs.Store.{Page, leaf, inner, levelOf, fillOf, recordsOf, entriesOf, View}
-use Rattle.tree_model.specs.Trees.{keyOf, rankOf, noRecord, firstKey, lastKey, live}
+use Rattle.tree_model.specs.Trees.{rankOf, firstKey, lastKey, live}
 use Rattle.tree_model.specs.Sound.{RecordOk}
 
 -- ---- PAGES
@@ -42,16 +43,13 @@ abbrev pub NodeFill : Page → Type 0
 NodeFill x = (8 ≤ fillOf x) × (fillOf x ≤ 16)
 
 -- the first and the last key that a page holds: its records' or its entries'
-pub noEntry : Entry
-noEntry = record { child = 0; first = keyOf 0 noRecord; last = keyOf 0 noRecord }
+abbrev pub firstKeyIn : ℕ → Page → Key
+firstKeyIn d (leaf n rs) = firstKey d rs
+firstKeyIn d (inner l n es) = headOr noEntry es .first
 
-abbrev pub firstOf : ℕ → Page → Key
-firstOf d (leaf n rs) = firstKey d rs
-firstOf d (inner l n es) = headOr noEntry es .first
-
-abbrev pub lastOf : ℕ → Page → Key
-lastOf d (leaf n rs) = lastKey d rs
-lastOf d (inner l n es) = lastOr noEntry es .last
+abbrev pub lastKeyIn : ℕ → Page → Key
+lastKeyIn d (leaf n rs) = lastKey d rs
+lastKeyIn d (inner l n es) = lastOr noEntry es .last
 
 -- the keys in a page, as numbers, in the order in which they stand: of an inner page each entry's first and last
 abbrev pub ends : Entry → List ℕ
@@ -90,8 +88,8 @@ pub record RecordAt (v : View) (p i : ℕ) (r : Record) : Type 0 where
 -- page p is a parent with an entry whose child has another first or last key, a level not one lower or a wrong fill, or that leads out of range or to
 -- a page also named by another entry, the root link, the freed or the never used
 pub data EntryFault (v : View) (p : ℕ) : Type 0 where
-  first : {i : ℕ} {e : Entry} → EntryAt v p i e → ¬ (e .first ≡ firstOf (v .d) (v .page (e .child))) → EntryFault v p
-  last : {i : ℕ} {e : Entry} → EntryAt v p i e → ¬ (e .last ≡ lastOf (v .d) (v .page (e .child))) → EntryFault v p
+  first : {i : ℕ} {e : Entry} → EntryAt v p i e → ¬ (e .first ≡ firstKeyIn (v .d) (v .page (e .child))) → EntryFault v p
+  last : {i : ℕ} {e : Entry} → EntryAt v p i e → ¬ (e .last ≡ lastKeyIn (v .d) (v .page (e .child))) → EntryFault v p
   level : {i : ℕ} {e : Entry} → EntryAt v p i e → ¬ (suc (levelOf (v .page (e .child))) ≡ levelOf (v .page p)) → EntryFault v p
   fill : {i : ℕ} {e : Entry} → EntryAt v p i e → ¬ NodeFill (v .page (e .child)) → EntryFault v p
   range : {i : ℕ} {e : Entry} → EntryAt v p i e → ¬ IsPage v (e .child) → EntryFault v p

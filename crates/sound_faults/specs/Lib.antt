@@ -1,8 +1,11 @@
+pub mod Judges
+pub mod Prefixes
 pub mod Faults
 pub mod Stored
 pub mod Shapes
 pub mod Linked
 pub mod Assembled
+pub mod ViewLaws
 pub mod Refuted
 pub mod Repeated
 pub mod Decided

@@ -9,7 +9,7 @@ use Rattle.lists.specs.Ascending.{Ascending}
 use Rattle.pagestore.specs.declared.Entry.{Entry}
 use Rattle.pagestore.specs.Store.{levelOf, recordsOf, View}
 use Rattle.tree_model.specs.Sound.{RecordOk}
-use Rattle.sound_faults.specs.Faults.{IsPage, Features, Freed, RootFill, NodeFill, firstOf, lastOf, ranksIn, Reached, EntryAt}
+use Rattle.sound_faults.specs.Faults.{IsPage, Features, Freed, RootFill, NodeFill, firstKeyIn, lastKeyIn, ranksIn, Reached, EntryAt}
 
 -- the header's fields, each by itself
 pub record HeaderFine (v : View) : Type 0 where
@@ -38,8 +38,8 @@ pub record EntryFine (v : View) (p : ℕ) (e : Entry) : Type 0 where
   pub range : IsPage v (e .child)
   pub level : suc (levelOf (v .page (e .child))) ≡ levelOf (v .page p)
   pub fill : NodeFill (v .page (e .child))
-  pub first : e .first ≡ firstOf (v .d) (v .page (e .child))
-  pub last : e .last ≡ lastOf (v .d) (v .page (e .child))
+  pub first : e .first ≡ firstKeyIn (v .d) (v .page (e .child))
+  pub last : e .last ≡ lastKeyIn (v .d) (v .page (e .child))
   pub root : ¬ (e .child ≡ v .root)
   pub freed : mult (e .child) (v .freed) ≡ 0
   pub fresh : e .child < v .fresh

@@ -1,13 +1,12 @@
 -- A sound index fails at no page.
 use mathlib.Core.Path.{_≡_, refl, sym, ap, _∙_, subst}
-use mathlib.Core.Bool.{Bool, true, false}
 use mathlib.Core.List.{List, [], _∷_, _++_, map}
 use Prim.Native.Nat.{ℕ, zero, suc, _+_, _-_, _≤_, _<_}
 use native.Mathlib.Omega.{arith}
 use native.Mathlib.Nat.{lt-of-not-le}
-use lib.Dec.{eqb, ltb}
+use lib.Dec.{ltb}
 use lib.ListN.{length}
-use borrow.Author.Tests.{ltb-true, eq-eqb}
+use borrow.Author.Tests.{ltb-true}
 use Rattle.lists.specs.Basics.{All, none, concatMap, indicator}
 use Rattle.lists.specs.Ascending.{Ascending, asc-left, asc-right}
 use Rattle.lists.specs.Counts.{mult, mult-append, mult-self, mult-not, rangeFrom-below, rangeFrom-within, mult-none}
@@ -23,9 +22,9 @@ use Rattle.pagestore.specs.Store.{Page, levelOf, fillOf, recordsOf, entriesOf, 
 use Rattle.tree_model.specs.Trees.{Item, records, pages, rankOf, identOf, entryOf, node, Rep, treeOf, live}
 use Rattle.tree_model.specs.TreeLaws.{fill-node, rep-level}
 use Rattle.tree_model.specs.Sound.{isPage, freshPages, Filled, RootFilled, RecordOk, Sound}
-use Rattle.sound_faults.specs.Faults.{IsPage, Freed, Fresh, RootFill, firstOf, lastOf, ranksIn, Reached, EntryAt, RecordAt, EntryFault, FailsAt}
-use Rattle.sound_faults.specs.Shapes.{childOf, kids, idents, ranks, itemRanks, pages-named, records-held, no-pages, own-records, first-node, last-node, asc-node}
-use Rattle.sound_faults.specs.Assembled.{page-tree, is-page}
+use Rattle.sound_faults.specs.Faults.{IsPage, Freed, Fresh, RootFill, firstKeyIn, lastKeyIn, ranksIn, Reached, EntryAt, RecordAt, EntryFault, FailsAt}
+use Rattle.sound_faults.specs.Shapes.{childOf, kids, idents, ranks, itemRanks, named-once, indicator-same, root-is, records-held, no-pages, own-records, first-node, last-node, asc-node}
+use Rattle.sound_faults.specs.Assembled.{is-page}
 
 page-is : (v : View) (q : ℕ) → 0 < indicator (isPage v q) → IsPage v q
 page-is v q h =
@@ -104,27 +103,17 @@ module _ (v : View) (s : Sound v) where
   abbrev ps : List ℕ
   ps = pages (suc (v .level)) (treeOf v)
 
-  root-is : treeOf v .0 ≡ v .root
-  unfolding treeOf
-  root-is = page-tree (v .level) v (v .root)
-
   once : (q : ℕ) → mult q ps + (mult q (v .freed) + mult q (freshPages v)) ≡ indicator (isPage v q)
   once q = omega (arith, s .once q, mult-append q ps (v .freed ++ freshPages v), mult-append q (v .freed) (freshPages v))
-
-  named : (c : ℕ) → mult c ps ≡ indicator (eqb c (v .root)) + sum (λ p. mult c (kids v p)) ps
-  named c = pages-named v c (v .level) (treeOf v) (s .rep) ∙ ap (λ (z : ℕ). indicator (eqb c z) + sum (λ p. mult c (kids v p)) ps) root-is
 
   most-once : (c : ℕ) → mult c ps ≤ 1
   most-once c = omega (arith, once c, indicator-le (isPage v c))
 
-  indicator-same : (a : ℕ) → indicator (eqb a a) ≡ 1
-  indicator-same a = ap indicator (eq-eqb a a refl)
-
   root-in : 0 < mult (v .root) ps
-  root-in = omega (arith, named (v .root), indicator-same (v .root))
+  root-in = omega (arith, named-once v (s .rep) (v .root), indicator-same (v .root))
 
   kid-in : (p c : ℕ) → 0 < mult p ps → 0 < mult c (kids v p) → 0 < mult c ps
-  kid-in p c h k = omega (arith, named c, sum-one (λ q. mult c (kids v q)) ps p h)
+  kid-in p c h k = omega (arith, named-once v (s .rep) c, sum-one (λ q. mult c (kids v q)) ps p h)
 
   under : (p i : ℕ) (e : Entry) → Sits v ps p → At (entriesOf (v .page p)) i e → Below v ps p i e
   unfolding node records Rep Filled entryOf
@@ -165,7 +154,7 @@ module _ (v : View) (s : Sound v) where
       record {
         level = v .level;
         items = treeOf v .1;
-        page = ap (v .page) (sym root-is) ∙ s .rep .0;
+        page = ap (v .page) (sym (root-is v)) ∙ s .rep .0;
         reps = s .rep .1;
         fills = s .fills;
         ranges = s .ranges;
@@ -188,8 +177,8 @@ module _ (v : View) (s : Sound v) where
       let iq : 0 < mult q ps = sits q (b .reached) .inTree in
       decide p q
       (λ g. let w : 2 ≤ mult c (kids v p) = mult-two pa (subst (λ (z : ℕ). At (kids v z) j c) (sym g) qb) (λ h. n (g, h)) in
-      omega (arith, named c, sum-one (λ z. mult c (kids v z)) ps p ip))
-      (λ g. omega (arith, named c, sum-two (λ z. mult c (kids v z)) ps p q ip iq g, mult-spot pa, mult-spot qb))
+      omega (arith, named-once v (s .rep) c, sum-one (λ z. mult c (kids v z)) ps p ip))
+      (λ g. omega (arith, named-once v (s .rep) c, sum-two (λ z. mult c (kids v z)) ps p q ip iq g, mult-spot pa, mult-spot qb))
 
   -- the child of an entry is the tree below it
   child-is : {p i : ℕ} {e : Entry} (b : Below v ps p i e) → e .child ≡ b .tree .0
@@ -216,14 +205,14 @@ module _ (v : View) (s : Sound v) where
   no-entry p (EntryFault.first {i = i} {e = e} a n) =
       let b = below p i e a in
       n (ap (λ (z : Entry). z .first) (b .entry)
-      ∙ sym (ap (λ (z : ℕ). firstOf (v .d) (v .page z)) (child-is b) ∙ ap (firstOf (v .d)) (b .rep .0) ∙ first-node (v .d) (b .level) (b .tree .1) (some-below b) (b .filled .2)))
+      ∙ sym (ap (λ (z : ℕ). firstKeyIn (v .d) (v .page z)) (child-is b) ∙ ap (firstKeyIn (v .d)) (b .rep .0) ∙ first-node (v .d) (b .level) (b .tree .1) (some-below b) (b .filled .2)))
   no-entry p (EntryFault.last {i = i} {e = e} a n) =
       let b = below p i e a in
       n (ap (λ (z : Entry). z .last) (b .entry)
-      ∙ sym (ap (λ (z : ℕ). lastOf (v .d) (v .page z)) (child-is b) ∙ ap (lastOf (v .d)) (b .rep .0) ∙ last-node (v .d) (b .level) (b .tree .1) (some-below b) (b .filled .2)))
+      ∙ sym (ap (λ (z : ℕ). lastKeyIn (v .d) (v .page z)) (child-is b) ∙ ap (lastKeyIn (v .d)) (b .rep .0) ∙ last-node (v .d) (b .level) (b .tree .1) (some-below b) (b .filled .2)))
   no-entry p (EntryFault.root {i = i} {e = e} a n) =
       let c : At (kids v p) i (v .root) = subst (λ (z : ℕ). At (kids v p) i z) n (spot-map childOf (a .at)) in
-      omega (arith, most-once (v .root), named (v .root), indicator-same (v .root), sum-one (λ z. mult (v .root) (kids v z)) ps p (sits p (a .reached) .inTree), mult-spot c)
+      omega (arith, most-once (v .root), named-once v (s .rep) (v .root), indicator-same (v .root), sum-one (λ z. mult (v .root) (kids v z)) ps p (sits p (a .reached) .inTree), mult-spot c)
   no-entry p (EntryFault.freed {i = i} {e = e} a n) = omega (arith, n, once (e .child), indicator-le (isPage v (e .child)), entry-in a)
   no-entry p (EntryFault.fresh {i = i} {e = e} a n) = omega (arith, fresh-in v (e .child) n, once (e .child), indicator-le (isPage v (e .child)), entry-in a)
   no-entry p (EntryFault.named {i = i} {q = q} {j = j} {e = e} {f = f} a b n c) = omega (arith, most-once (f .child), two-names (f .child) p i q j a b c refl n)
@@ -233,12 +222,12 @@ module _ (v : View) (s : Sound v) where
 
   root-fill : RootFill (v .page (v .root))
   unfolding Rep
-  root-fill = subst RootFill (sym (ap (v .page) (sym root-is) ∙ s .rep .0)) (root-filled (v .d) (v .level) (treeOf v) (s .rootFill))
+  root-fill = subst RootFill (sym (ap (v .page) (sym (root-is v)) ∙ s .rep .0)) (root-filled (v .d) (v .level) (treeOf v) (s .rootFill))
 
   reached : (q : ℕ) → 0 < mult q ps → Reached v q
   reached q h =
       tree-reached v (v .level) (treeOf v) (s .rep) (s .fills)
-      (subst (Reached v) (sym root-is) (Reached.root (record { features = s .d; range = root-page }) root-fill))
+      (subst (Reached v) (sym (root-is v)) (Reached.root (record { features = s .d; range = root-page }) root-fill))
       (λ c k. page-is v c (omega (arith, once c, k))) q h
 
   -- a followed leaf's records are the tree's
@@ -272,7 +261,7 @@ module _ (v : View) (s : Sound v) where
   sound-fails p (FailsAt.size n) = n (s .size)
   sound-fails p (FailsAt.features n) = n (s .d)
   sound-fails p (FailsAt.rootRange n) = n root-page
-  sound-fails p (FailsAt.rootLevel n) = n (ap (λ (z : ℕ). levelOf (v .page z)) (sym root-is) ∙ rep-level (v .level) v (treeOf v) (s .rep))
+  sound-fails p (FailsAt.rootLevel n) = n (ap (λ (z : ℕ). levelOf (v .page z)) (sym (root-is v)) ∙ rep-level (v .level) v (treeOf v) (s .rep))
   sound-fails p (FailsAt.rootFreed n) = omega (arith, n, once (v .root), indicator-le (isPage v (v .root)), root-in)
   sound-fails p (FailsAt.rootFresh n) = omega (arith, fresh-in v (v .root) n, once (v .root), indicator-le (isPage v (v .root)), root-in)
   sound-fails p (FailsAt.total f n) = n (s .total)

@@ -5,6 +5,7 @@ use Prim.Native.Nat.{ℕ, zero, suc, _+_, _≤_, _<_}
 use native.Mathlib.Omega.{arith}
 use lib.Dec.{eqb}
 use lib.ListN.{length, length-append, length-map}
+use borrow.Author.Tests.{eq-eqb}
 use Rattle.lists.specs.Basics.{All, none, also, concatMap, indicator}
 use Rattle.lists.specs.Ascending.{headOr, lastOr, Ascending, one, more, head-append, last-append, last-any, last-map, asc-left, asc-right}
 use Rattle.lists.specs.AscendingLaws.{headNo, lastNo, asc-append, asc-cross, asc-ends}
@@ -14,10 +15,11 @@ use Rattle.lists.specs.ConcatMapLaws.{sum-append, map-append}
 use Rattle.geometry.specs.Keys.{keyNumber}
 use Rattle.pagestore.specs.declared.Record.{Record}
 use Rattle.pagestore.specs.declared.Entry.{Entry}
+use Rattle.pagestore.specs.LayoutLaws.{noEntry}
 use Rattle.pagestore.specs.Store.{Page, recordsOf, entriesOf, View}
-use Rattle.tree_model.specs.Trees.{Item, records, pages, keyOf, rankOf, identOf, noRecord, firstKey, lastKey, entryOf, node, Rep}
+use Rattle.tree_model.specs.Trees.{Item, records, pages, keyOf, rankOf, identOf, noRecord, firstKey, lastKey, entryOf, node, Rep, treeAt, treeOf}
 use Rattle.tree_model.specs.Sound.{Filled}
-use Rattle.sound_faults.specs.Faults.{firstOf, lastOf, ends, ranksIn, noEntry}
+use Rattle.sound_faults.specs.Faults.{firstKeyIn, lastKeyIn, ends, ranksIn}
 
 abbrev pub childOf : Entry → ℕ
 childOf e = e .child
@@ -68,6 +70,26 @@ module _ (v : View) (c : ℕ) where
       let m : mult c (kids v (t .0)) ≡ mult c (map (λ u. u .0) (t .1)) = ap (mult c) k in
       let ih = named-kids l (pages-named l) (t .1) (r .1) in
       omega arith
+
+pub page-tree : (l : ℕ) (v : View) (p : ℕ) → treeAt l v p .0 ≡ p
+unfolding treeAt
+page-tree zero v p = refl
+page-tree (suc l) v p = refl
+
+-- the same of the whole tree
+pub root-is : (v : View) → treeOf v .0 ≡ v .root
+unfolding treeOf
+root-is v = page-tree (v .level) v (v .root)
+
+module _ (v : View) (r : Rep (suc (v .level)) v (treeOf v)) where
+  abbrev ps : List ℕ
+  ps = pages (suc (v .level)) (treeOf v)
+
+  pub named-once : (c : ℕ) → mult c ps ≡ indicator (eqb c (v .root)) + sum (λ p. mult c (kids v p)) ps
+  named-once c = pages-named v c (v .level) (treeOf v) r ∙ ap (λ (z : ℕ). indicator (eqb c z) + sum (λ p. mult c (kids v p)) ps) (root-is v)
+
+pub indicator-same : (a : ℕ) → indicator (eqb a a) ≡ 1
+indicator-same a = ap indicator (eq-eqb a a refl)
 
 -- ---- RECORDS: what a tree's records weigh is what those of its pages do
 
@@ -141,12 +163,12 @@ module _ (d : ℕ) where
       (ap (λ (z : Record). lastOr z (concatMap (records (suc l)) ts)) (last-any noRecord r (records (suc l) t) (omega (arith, two-records l t h)))
       ∙ sym (last-append r (records (suc l) t) (concatMap (records (suc l)) ts)))
 
-  pub first-node : (l : ℕ) (ts : List (Item l)) → 0 < length ts → All (Filled l) ts → firstOf d (node d l ts) ≡ firstKey d (concatMap (records l) ts)
+  pub first-node : (l : ℕ) (ts : List (Item l)) → 0 < length ts → All (Filled l) ts → firstKeyIn d (node d l ts) ≡ firstKey d (concatMap (records l) ts)
   unfolding node
   first-node zero ts n a = ap (firstKey d) (sym (own-records ts))
   first-node (suc l) ts n a = first-kids l ts n a
 
-  pub last-node : (l : ℕ) (ts : List (Item l)) → 0 < length ts → All (Filled l) ts → lastOf d (node d l ts) ≡ lastKey d (concatMap (records l) ts)
+  pub last-node : (l : ℕ) (ts : List (Item l)) → 0 < length ts → All (Filled l) ts → lastKeyIn d (node d l ts) ≡ lastKey d (concatMap (records l) ts)
   unfolding node lastKey concatMap lastOr entryOf
   last-node zero ts n a = ap (lastKey d) (sym (own-records ts))
   last-node (suc l) [] n a = absurd (omega arith)

@@ -5,7 +5,7 @@ use mathlib.Core.List.{List}
 use Prim.Native.Nat.{ℕ, zero, suc, _≤_}
 use native.Mathlib.Omega.{arith}
 use lib.ListN.{length, length-take}
-use Rattle.lists.specs.Counts.{mult, mult-of-all}
+use Rattle.lists.specs.Counts.{mult-of-all}
 use Rattle.pagestore.specs.Store.{Page, leaf, inner, View, viewOf, pageAt, levelAt, leafAt, innerAt, inRange}
 use Rattle.pagestore.specs.Store.PageLaws.{leaf-page, inner-page, records-slots, entries-slots}
 use Rattle.pagestore.specs.Store.RangeLaws.{range-low, range-high}

@@ -15,18 +15,19 @@ use Rattle.geometry.proofs.KeyLaws.{KeyFits}
 use Rattle.pagestore.specs.Fits
 use Rattle.pagestore.specs.Fits.{EntryFits}
 use Rattle.pagestore.specs.declared.Entry.{Entry}
+use Rattle.pagestore.specs.LayoutLaws.{noEntry}
 use Rattle.pagestore.specs.Store.{Page, fillOf, recordsOf, entriesOf, viewOf}
 use Rattle.pagestore.specs.Store.PageLaws.{PageFits, leafFits, innerFits, page-fits}
 use Rattle.tree_model.specs.Trees.{firstKey, lastKey}
 use Rattle.tree_model.specs.Trees
 use Rattle.tree_model.specs.Sound.{RecordOk}
-use Rattle.sound_faults.specs.Faults.{noEntry, ends, firstOf, lastOf, ranksIn, NodeFill, EntryAt, EntryFault}
+use Rattle.sound_faults.specs.Faults.{ends, firstKeyIn, lastKeyIn, ranksIn, NodeFill, EntryAt, EntryFault}
 use Rattle.sound_faults.specs.Linked.{PageFine}
 use Rattle.sound_faults.specs.Shapes.{first-rank, last-rank}
 use Rattle.sound_faults.specs.Assembled.{fill-most}
-use Rattle.sound_pages.specs.Marks.{EndsKept}
-use Rattle.sound_pages.proofs.KeyLaws.{key-same, key-fits}
-use Rattle.sound_pages.proofs.ViewLaws.{view-fill}
+use Rattle.sound_pages.specs.Pages.{EndsKept}
+use Rattle.sound_keys.proofs.KeyLaws.{key-same, key-fits}
+use Rattle.sound_faults.specs.ViewLaws.{view-fill}
 
 -- ---- NUMBERS OF THE ENDS
 
@@ -46,11 +47,11 @@ last-ends [] h = absurd (omega arith)
 last-ends (e ∷ es) h = last-number (keyNumber (e .last)) e es refl
 
 module _ (d : ℕ) where
-  pub page-first : {x : Page} → PageFits x → 0 < fillOf x → headNo (ranksIn d x) ≡ keyNumber (firstOf d x)
+  pub page-first : {x : Page} → PageFits x → 0 < fillOf x → headNo (ranksIn d x) ≡ keyNumber (firstKeyIn d x)
   page-first (leafFits {rs = rs} n a) h = sym (first-rank d rs h)
   page-first (innerFits {es = es} v n a) h = first-number es h
 
-  pub page-last : {x : Page} → PageFits x → 0 < fillOf x → lastNo (ranksIn d x) ≡ keyNumber (lastOf d x)
+  pub page-last : {x : Page} → PageFits x → 0 < fillOf x → lastNo (ranksIn d x) ≡ keyNumber (lastKeyIn d x)
   page-last (leafFits {rs = rs} n a) h = sym (last-rank d rs h)
   page-last (innerFits {es = es} v n a) h = last-ends es h
 
@@ -75,12 +76,12 @@ last-all d h none = absurd (omega arith)
 last-all d h (also {x = x} p a) = last-from x p a
 
 module _ (d : ℕ) where
-  pub first-fits : {x : Page} → PageFits x → 0 < fillOf x → All (RecordOk d) (recordsOf x) → KeyFits (firstOf d x)
+  pub first-fits : {x : Page} → PageFits x → 0 < fillOf x → All (RecordOk d) (recordsOf x) → KeyFits (firstKeyIn d x)
   unfolding firstKey
   first-fits (leafFits {rs = rs} n a) h o = key-fits d (headOr Trees.noRecord rs) (head-all Trees.noRecord h a) (head-all Trees.noRecord h o)
   first-fits (innerFits {es = es} v n a) h o = narrow (head-all noEntry h a .first)
 
-  pub last-fits : {x : Page} → PageFits x → 0 < fillOf x → All (RecordOk d) (recordsOf x) → KeyFits (lastOf d x)
+  pub last-fits : {x : Page} → PageFits x → 0 < fillOf x → All (RecordOk d) (recordsOf x) → KeyFits (lastKeyIn d x)
   unfolding lastKey
   last-fits (leafFits {rs = rs} n a) h o = key-fits d (lastOr Trees.noRecord rs) (last-all Trees.noRecord h a) (last-all Trees.noRecord h o)
   last-fits (innerFits {es = es} v n a) h o = narrow (last-all noEntry h a .last)
@@ -108,20 +109,20 @@ module _ (b firsts lasts : List ℕ) (p i : ℕ) (e : Entry) (a : EntryAt (viewO
   some : 0 < fillOf (viewOf b .page (e .child))
   some = omega (arith, fill .0)
 
-  first-is : getD firsts (e .child) 0 ≡ keyNumber (firstOf (viewOf b .d) (viewOf b .page (e .child)))
+  first-is : getD firsts (e .child) 0 ≡ keyNumber (firstKeyIn (viewOf b .d) (viewOf b .page (e .child)))
   first-is = low ∙ page-first (viewOf b .d) child-fits some
 
-  last-is : getD lasts (e .child) 0 ≡ keyNumber (lastOf (viewOf b .d) (viewOf b .page (e .child)))
+  last-is : getD lasts (e .child) 0 ≡ keyNumber (lastKeyIn (viewOf b .d) (viewOf b .page (e .child)))
   last-is = high ∙ page-last (viewOf b .d) child-fits some
 
-  pub first-right : EndsKept e firsts lasts → e .first ≡ firstOf (viewOf b .d) (viewOf b .page (e .child))
+  pub first-right : EndsKept e firsts lasts → e .first ≡ firstKeyIn (viewOf b .d) (viewOf b .page (e .child))
   first-right k =
-      key-same (e .first) (firstOf (viewOf b .d) (viewOf b .page (e .child))) (narrow (own-fits .first))
+      key-same (e .first) (firstKeyIn (viewOf b .d) (viewOf b .page (e .child))) (narrow (own-fits .first))
       (first-fits (viewOf b .d) child-fits some (fine .records)) (k .first ∙ first-is)
 
-  pub last-right : EndsKept e firsts lasts → e .last ≡ lastOf (viewOf b .d) (viewOf b .page (e .child))
+  pub last-right : EndsKept e firsts lasts → e .last ≡ lastKeyIn (viewOf b .d) (viewOf b .page (e .child))
   last-right k =
-      key-same (e .last) (lastOf (viewOf b .d) (viewOf b .page (e .child))) (narrow (own-fits .last))
+      key-same (e .last) (lastKeyIn (viewOf b .d) (viewOf b .page (e .child))) (narrow (own-fits .last))
       (last-fits (viewOf b .d) child-fits some (fine .records)) (k .last ∙ last-is)
 
   pub ends-fault : ¬ EndsKept e firsts lasts → EntryFault (viewOf b) p

@@ -9,19 +9,13 @@ use borrow.Author.Tests.{leb-true, leb-false, ltb-true, ltb-false}
 use Rattle.lists.specs.Members.{At, spot-below}
 use Rattle.lists.specs.Tests.{by-cases, decide}
 use Rattle.pagestore.specs.declared.Entry.{Entry}
-use Rattle.pagestore.specs.declared.Inner.{Inner}
-use Rattle.pagestore.specs.declared.Leaf.{Leaf}
-use Rattle.pagestore.specs.LayoutLaws.{noEntry}
-use Rattle.pagestore.specs.Store.{Page, levelOf, fillOf, entriesOf, recordsOf, View, viewOf, pageAt, levelAt, leafAt, innerAt}
-use Rattle.pagestore.specs.Store.PageLaws.{entries-slots}
+use Rattle.pagestore.specs.Store.{Page, levelOf, fillOf, entriesOf, View, viewOf}
 use Rattle.sound_faults.specs.Faults.{NodeFill, Reached, EntryAt, EntryFault}
 use Rattle.sound_faults.specs.Linked.{EntryFine}
-use Rattle.sound_faults.specs.Assembled.{fill-most}
-use Rattle.sound_faults.specs.Stored.{Counted, view-stored}
-use Rattle.sound_pages.specs.Marks.{Marked, MarksAre, Follows, Named}
-use Rattle.sound_pages.proofs.JudgeLaws.{take-spot}
-use Rattle.sound_pages.proofs.MarkLaws.{spot-same, set-here, set-keep, set-old, no-entries}
-use Rattle.sound_pages.proofs.ViewLaws.{inner-is, inner-fill, leaf-fill}
+use Rattle.sound_faults.specs.ViewLaws.{few-entries}
+use Rattle.sound_links.specs.Marks.{Marked, MarksAre, Follows}
+use Rattle.sound_pages.specs.Pages.{Named}
+use Rattle.sound_links.proofs.MarkLaws.{spot-same, set-here, set-keep, set-old, no-entries}
 
 -- ---- ONE ENTRY
 
@@ -72,27 +66,6 @@ module _ (v : View) {m : List ℕ} (s : MarksAre v m) (p i : ℕ) (e : Entry) (a
 pub reached-fill : {v : View} {c : ℕ} → Reached v c → ¬ (c ≡ v .root) → NodeFill (v .page c)
 reached-fill (Reached.root r f) n = absurd (n refl)
 reached-fill (Reached.entry r a g l f) n = f
-
--- the entry that an inner page's slot holds
-pub slot-entry : (b : List ℕ) (p i : ℕ) → Reached (viewOf b) p → ¬ (levelAt b p ≡ 0) → i < innerAt b p .count
-    → At (entriesOf (viewOf b .page p)) i (getD (innerAt b p .entries) i noEntry)
-unfolding viewOf
-slot-entry b p i r n h =
-    let x : Inner = innerAt b p in
-    subst (λ (y : Page). At (entriesOf y) i (getD (x .entries) i noEntry)) (sym (inner-is b p x refl n))
-    (take-spot noEntry (x .entries) i (x .count) h (omega (arith, inner-fill b p x refl, fill-most r, entries-slots b p)))
-
--- their number
-inner-size : (x : Page) → Counted x → fillOf x ≤ 16 → length (entriesOf x) ≤ fillOf x
-inner-size (Page.leaf n rs) c f = omega arith
-inner-size (Page.inner l n es) c f = omega (arith, c f)
-
--- a followed page has at most as many entries as its count says
-pub entries-most : (b : List ℕ) (p : ℕ) → Reached (viewOf b) p → length (entriesOf (viewOf b .page p)) ≤ fillOf (viewOf b .page p)
-entries-most b p r = inner-size (viewOf b .page p) (view-stored b .items p) (fill-most r)
-
-pub few-entries : (b : List ℕ) (p : ℕ) → Reached (viewOf b) p → length (entriesOf (viewOf b .page p)) ≤ 16
-few-entries b p r = omega (arith, entries-most b p r, fill-most r)
 
 -- ---- THE PLACES OF ENTRIES
 
@@ -181,20 +154,3 @@ module _ (b : List ℕ) where
       decide (getD m p 0) 0
       (λ z. named-none p (λ r. omega (arith, z, s .all p r)) w)
       (λ d. named-leaf p (no-entries (v .page p) (omega (arith, s .all p (s .reached p (omega (arith, d)))))) w)
-
--- ---- COUNTS OF FOLLOWED PAGES
-
-pub inner-count : (b : List ℕ) (p : ℕ) → innerAt b p .count ≡ fillOf (viewOf b .page p)
-unfolding viewOf
-inner-count b p = inner-fill b p (innerAt b p) refl
-
-pub inner-few : (b : List ℕ) (p : ℕ) → Reached (viewOf b) p → innerAt b p .count ≤ 16
-inner-few b p r = omega (arith, inner-count b p, fill-most r)
-
-pub leaf-few : (b : List ℕ) (p : ℕ) (x : Leaf) → Reached (viewOf b) p → x ≡ leafAt b p → x .count ≤ 16
-unfolding viewOf
-leaf-few b p x r e = omega (arith, leaf-fill b p x e, fill-most r)
-
--- an inner page has no records
-pub inner-points : (b : List ℕ) (p : ℕ) → ¬ (levelAt b p ≡ 0) → length (recordsOf (pageAt b p)) ≡ 0
-inner-points b p n = ap (λ (y : Page). length (recordsOf y)) (inner-is b p (innerAt b p) refl n)

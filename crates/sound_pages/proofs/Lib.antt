@@ -1,10 +1,3 @@
-pub mod JudgeLaws
-pub mod KeyLaws
-pub mod LeadLaws
 pub mod EndsLaws
-pub mod ViewLaws
-pub mod MarkLaws
-pub mod WalkLaws
 pub mod EntryLaws
-pub mod PageLaws
 pub mod TurnLaws

@@ -1,78 +1,25 @@
--- The marked pages, judged in turn, and the states of the others. Assumes nothing.
-use mathlib.Core.Path.{_≡_, refl, sym, ap, _∙_, subst}
+-- The followed pages, judged in turn, and the states of the others. Assumes nothing.
+use mathlib.Core.Path.{_≡_, sym, _∙_, subst}
 use mathlib.Core.Logic.{_⊎_, inl, inr}
-use mathlib.Core.List.{List, [], _∷_}
-use Prim.Native.Nat.{ℕ, zero, suc, _+_, _*_, _≤_, _<_}
+use mathlib.Core.List.{List}
+use Prim.Native.Nat.{ℕ, _+_, _*_, _≤_, _<_}
 use native.Mathlib.Omega.{arith}
-use native.Mathlib.Numerals.{add-one}
 use lib.Dec.{ltb}
 use lib.ListN.{length, getD, set, length-set}
 use lib.Seq.{getD-set-same, getD-set-other}
-use borrow.Author.Tests.{eq-eqb, ne-eqb, ltb-true, ltb-false}
+use borrow.Author.Tests.{ltb-true, ltb-false}
 use Rattle.lists.specs.AscendingLaws.{headNo, lastNo}
-use Rattle.lists.specs.Counts.{mult, mult-self, mult-not, mult-none}
 use Rattle.lists.specs.Tests.{by-cases, decide}
 use Rattle.pagestore.specs.Store.{View, viewOf}
 use Rattle.sound_faults.specs.Faults.{IsPage, ranksIn, Reached, FailsAt}
-use Rattle.sound_faults.specs.Linked.{PageFine, InState, Followed}
+use Rattle.sound_faults.specs.Linked.{PageFine, InState}
 use Rattle.sound_faults.specs.Assembled.{reached-page}
-use Rattle.sound_pages.specs.Judged.{Judges, PageJudged}
-use Rattle.sound_pages.specs.declared.Span.{Span}
-use Rattle.sound_pages.proofs.JudgeLaws.{passes, faults}
-use Rattle.sound_pages.specs.Marks.{Marked, Seen, Clear, MarksAre, FreedMarks, Named, PagesFine, markedTo, Lost}
-
--- ---- THE MARKED PAGES
-
-pub marked-yes : (m : List ℕ) (k : ℕ) → ¬ (getD m k 0 ≡ 0) → markedTo m (k + 1) ≡ k ∷ markedTo m k
-unfolding markedTo
-marked-yes m k h = rw (add-one k, ne-eqb (getD m k 0) 0 h)
-
-pub marked-no : (m : List ℕ) (k : ℕ) → getD m k 0 ≡ 0 → markedTo m (k + 1) ≡ markedTo m k
-unfolding markedTo
-marked-no m k h = rw (add-one k, eq-eqb (getD m k 0) 0 h)
-
-pub marked-none : (m : List ℕ) → markedTo m 0 ≡ []
-unfolding markedTo
-marked-none m = refl
-
--- q is there just once, where it is marked and below k
-record There (m : List ℕ) (k q : ℕ) : Type 0 where
-  pub once : mult q (markedTo m k) ≤ 1
-  pub is : 0 < mult q (markedTo m k) → Seen m q × (q < k)
-  pub has : Seen m q → q < k → 0 < mult q (markedTo m k)
-
-there-more : (m : List ℕ) (q k : ℕ) → There m k q → There m (k + 1) q
-there-more m q k t =
-    decide (getD m k 0) 0
-    (λ n. let e : mult q (markedTo m (k + 1)) ≡ mult q (markedTo m k) = ap (mult q) (marked-no m k n) in
-    record {
-      once = omega (arith, t .once);
-      is = λ x. let w = t .is (omega arith) in (w .0, omega (arith, w .1));
-      has = λ x l. decide q k (λ s. absurd (omega (arith, n, subst (Seen m) s x))) (λ d. omega (arith, t .has x (omega (arith, d))));
-    })
-    (λ h. let e : mult q (markedTo m (k + 1)) ≡ mult q (k ∷ markedTo m k) = ap (mult q) (marked-yes m k h) in
-    decide q k
-    (λ s. let z : mult q (markedTo m k) ≡ 0 = decide (mult q (markedTo m k)) 0 (λ x. x) (λ x. absurd (omega (arith, t .is (omega (arith, x)) .1, s))) in
-    let o : mult q (k ∷ markedTo m k) ≡ 1 + mult q (markedTo m k) = subst (λ (x : ℕ). mult q (x ∷ markedTo m k) ≡ 1 + mult q (markedTo m k)) s (mult-self q (markedTo m k)) in
-    let y : Seen m k = omega (arith, h) in
-    record { once = omega arith; is = λ x. (subst (Seen m) (sym s) y, omega arith); has = λ x l. omega arith })
-    (λ d. let o : mult q (k ∷ markedTo m k) ≡ mult q (markedTo m k) = mult-not q k (markedTo m k) d in
-    record { once = omega (arith, t .once); is = λ x. let w = t .is (omega arith) in (w .0, omega (arith, w .1)); has = λ x l. omega (arith, t .has x (omega (arith, d))) }))
-
-there : (m : List ℕ) (q k : ℕ) → There m k q
-there m q zero =
-    let z : mult q (markedTo m 0) ≡ 0 = ap (mult q) (marked-none m) ∙ mult-none q in
-    record { once = omega arith; is = λ h. absurd (omega arith); has = λ h l. absurd (omega arith) }
-there m q (suc k) = subst (λ (z : ℕ). There m z q) (add-one k) (there-more m q k (there m q k))
-
--- the marked pages are the followed ones, each once
-pub marked-followed : (v : View) (m : List ℕ) → MarksAre v m → Followed v (markedTo m (v .count))
-marked-followed v m s =
-    record {
-      once = λ q. there m q (v .count) .once;
-      reached = λ q z. s .reached q (there m q (v .count) .is z .0);
-      all = λ q a. there m q (v .count) .has (omega (arith, s .all q a)) (reached-page a .1);
-    }
+use Rattle.sound_faults.specs.Judges.{Judges}
+use Rattle.sound_keys.specs.Judged.{PageJudged}
+use Rattle.sound_keys.specs.declared.Span.{Span}
+use Rattle.sound_faults.specs.Judges.{passes, faults}
+use Rattle.sound_links.specs.Marks.{Marked, Seen, Clear, MarksAre, FreedMarks}
+use Rattle.sound_pages.specs.Pages.{Named, PagesFine, Lost}
 
 -- ---- THE PAGES IN TURN
 
@@ -152,9 +99,3 @@ state-lost v m f {p} s o h g l =
 
 pub state-all : (v : View) {p : ℕ} → ((q : ℕ) → IsPage v q → q < p → InState v q) → v .fresh ≤ p → (q : ℕ) → IsPage v q → InState v q
 state-all v {p} f u q g = by-cases (ltb q p) (λ b. f q g (ltb-true q p b)) (λ b. let c : p ≤ q = ltb-false q p b in inr (inr (omega arith)))
-
-pub root-fails : (v : View) → ¬ (v .root ≡ 0) → v .fresh ≤ v .root → FailsAt v 0
-root-fails v z u =
-    by-cases (ltb (v .root) (v .count))
-    (λ b. FailsAt.rootFresh ((omega (arith, z), ltb-true (v .root) (v .count) b), u))
-    (λ b. FailsAt.rootRange (λ r. omega (arith, r .1, ltb-false (v .root) (v .count) b)))

@@ -1,3 +1,1 @@
-pub mod Judged
-pub mod Marks
-pub mod Leads
+pub mod Pages

@@ -3,7 +3,7 @@ use mathlib.Core.Path.{_≡_, refl, ap, _∙_, subst}
 use mathlib.Core.List.{map}
 use Prim.Native.Nat.{ℕ, _+_, _-_, _≤_}
 use native.Mathlib.Omega.{arith}
-use lib.ListN.{length, getD, take, length-take}
+use lib.ListN.{length, take, length-take}
 use lib.ListN.{length-set}
 use Rattle.sound_check.proofs.CollectLaws.{put-step, put-start}
 use Rattle.pagestore.specs.LayoutLaws.{noRecord}

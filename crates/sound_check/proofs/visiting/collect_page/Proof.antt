@@ -1,8 +1,8 @@
 use Prim.Native.Nat.{ℕ}
 use Rattle.pagestore.specs.Store.{leafAt, levelAt, viewOf}
 use Rattle.pagestore.specs.Store.RangeLaws.{pages-few}
-use Rattle.sound_pages.proofs.EntryLaws.{leaf-few}
-use Rattle.sound_pages.proofs.ViewLaws.{view-level}
+use Rattle.sound_faults.specs.ViewLaws.{leaf-few}
+use Rattle.sound_faults.specs.ViewLaws.{view-level}
 use Rattle.sound_check.proofs.CollectLaws.{gathered-full, gathered-more, gathered-none, leaf-count, leaf-joined, other-pairs}
 use borrow.Author.Needs.{needs}
 use lib.ListN.{getD}

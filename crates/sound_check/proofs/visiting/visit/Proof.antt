@@ -1,9 +1,9 @@
 use Prim.Native.Nat.{_-_, _<_, _≤_, ℕ}
 use Rattle.pagestore.specs.Store.{viewOf}
-use Rattle.sound_pages.proofs.JudgeLaws.{faults, passes}
+use Rattle.sound_faults.specs.Judges.{faults, passes}
 use Rattle.sound_pages.proofs.TurnLaws.{pages-start}
-use Rattle.sound_pages.specs.Judged.{Found}
-use Rattle.sound_pages.specs.Marks.{PagesFine}
+use Rattle.sound_faults.specs.Judges.{Found}
+use Rattle.sound_pages.specs.Pages.{PagesFine}
 use Rattle.sound_check.proofs.CollectLaws.{gathered-start}
 use Rattle.sound_check.specs.Collect.{Gathered}
 use Rattle.tree_model.specs.Trees.{pages}

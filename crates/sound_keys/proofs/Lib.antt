@@ -1,0 +1,4 @@
+pub mod SpanLaws
+pub mod KeyLaws
+pub mod LeadLaws
+pub mod PageLaws

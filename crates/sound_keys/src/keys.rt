@@ -1,0 +1,157 @@
+// The keys of records and entries, and a page judged by itself.
+ghost use mathlib.Core.Path.{_≡_};
+ghost use mathlib.Core.Bool.{true, false};
+ghost use Prim.Native.Nat.{_-_, _<_, _≤_, _^_};
+ghost use lib.Dec.{eqb};
+ghost use lib.ListN.{length};
+ghost use Rattle.lists.specs.Basics.{if};
+ghost use Rattle.geometry.specs.Keys.{keyNumber};
+ghost use Rattle.pagestore.specs.Layout.{leafOf};
+ghost use Rattle.pagestore.specs.Store.{recordsIn, entriesIn, fillOf, pageAt, leafAt, innerAt, inRange, viewOf};
+ghost use Rattle.sound_faults.specs.Faults.{Reached};
+ghost use Rattle.sound_faults.specs.Judges.{Decides};
+ghost use Rattle.sound_keys.specs.Judged.{LeafJudged, InnerJudged, PageJudged};
+ghost use Rattle.sound_keys.specs.Leads.{Leads};
+use crate::Span;
+use crate::leads::lead_columns;
+use crate::leads::lead_key;
+use geometry::Key;
+use geometry::keys::key_number;
+use pagestore::count_at;
+use pagestore::entry_at;
+use pagestore::lanes;
+use pagestore::level_at;
+
+// A key as a number; there is room for one more.
+pub fn rank(k: Key) -> u64
+    ensures { λ r. ⌜ (r ≡ keyNumber k) × (r < 2 ^ 56) ⌝ }
+{
+    key_number(k)
+}
+
+// Are the identifier and the coordinates of a record with this key in range? The height is the greatest magnitude.
+fn key_fine(k: Key) -> bool
+    ensures { λ r. ⌜ Decides ((1 ≤ k .id) × (k .height .0 ≤ 1000)) r ⌝ }
+{
+    if k.id == 0 {
+        return false;
+    }
+    k.height.0 <= 1000
+}
+
+// The count of a page, as stored.
+pub fn item_count(index: &[u8], page: u32) -> usize
+    ensures { λ r. ⌜ (r ≡ leafAt (now (index .entry)) page .count) × (r ≡ innerAt (now (index .entry)) page .count) × (r ≡ fillOf (pageAt (now (index .entry)) page)) ⌝ }
+{
+    count_at(index, page) as usize
+}
+
+fn faulty() -> Span
+    ensures { λ r. ⌜ r .fine ≡ false ⌝ }
+{
+    Span {
+        fine: false,
+        first: 0,
+        last: 0,
+    }
+}
+
+// The first key, where `own` comes after keys that are all below `next`.
+fn first_of(next: u64, first: u64, own: u64) -> u64
+    ensures { λ r. ⌜ r ≡ if (eqb next 0) own first ⌝ }
+{
+    if next == 0 { own } else { first }
+}
+
+// Keys from `first` to the one below `next`.
+fn span_to(first: u64, next: u64) -> Span
+    ensures { λ r. ⌜ (r .fine ≡ true) × (r .first ≡ first) × (r .last ≡ next - 1) ⌝ }
+{
+    let last = if next == 0 { 0 } else { next - 1 };
+    Span {
+        fine: true,
+        first: first,
+        last: last,
+    }
+}
+
+// Are the first n records in range, and do their keys ascend? `tops` holds their greatest leads.
+fn judge_records(page: &[u8], n: usize, d: usize, tops: &[u16]) -> Span
+    requires { ⌜ (length (now page) ≡ 1024) × (n ≡ leafOf (now page) .count) × (n ≤ 16) × (1 ≤ d) × (d ≤ 16) × Leads (leafOf (now page)) d n (now tops) ⌝ }
+    ensures { λ r. ⌜ LeafJudged d (recordsIn (leafOf (now (page .entry)))) r ⌝ }
+{
+    let mut first: u64 = 0;
+    let mut next: u64 = 0;
+    let mut i = 0;
+    while i < n {
+        let key = lead_key(page, tops[i], i, d);
+        if !key_fine(key) {
+            return faulty();
+        }
+        let own = rank(key);
+        if own < next {
+            return faulty();
+        }
+        first = first_of(next, first, own);
+        next = own + 1;
+        i += 1;
+    }
+    span_to(first, next)
+}
+
+// The records of a leaf, read from its page.
+fn judge_part(page: &[u8], n: usize, d: usize) -> Span
+    requires { ⌜ (length (now page) ≡ 1024) × (n ≡ leafOf (now page) .count) × (n ≤ 16) × (1 ≤ d) × (d ≤ 16) ⌝ }
+    ensures { λ r. ⌜ LeafJudged d (recordsIn (leafOf (now (page .entry)))) r ⌝ }
+{
+    let mut tops = [0u16; 16];
+    lead_columns(page, d, lanes(n), &mut tops);
+    judge_records(page, n, d, &tops)
+}
+
+// The same of the leaf at a page in range.
+fn judge_leaf(index: &[u8], page: u32, n: usize, d: usize) -> Span
+    requires { ⌜ (n ≡ leafAt (now index) page .count) × (n ≤ 16) × (1 ≤ d) × (d ≤ 16) × (inRange (now index) page ≡ true) ⌝ }
+    ensures { λ r. ⌜ LeafJudged d (recordsIn (leafAt (now (index .entry)) page)) r ⌝ }
+{
+    let at = page as usize * 1024;
+    let end = at + 1024;
+    judge_part(&index[at..end], n, d)
+}
+
+// Do the keys of an inner page ascend, each entry's first and last in turn?
+fn judge_inner(index: &[u8], page: u32, n: usize) -> Span
+    requires { ⌜ (n ≡ innerAt (now index) page .count) × (n ≤ 16) ⌝ }
+    ensures { λ r. ⌜ InnerJudged (entriesIn (innerAt (now (index .entry)) page)) r ⌝ }
+{
+    let mut first: u64 = 0;
+    let mut next: u64 = 0;
+    let mut i = 0;
+    while i < n {
+        let e = entry_at(index, page, i);
+        let low = rank(e.first);
+        let high = rank(e.last);
+        if low < next {
+            return faulty();
+        }
+        if high <= low {
+            return faulty();
+        }
+        first = first_of(next, first, low);
+        next = high + 1;
+        i += 1;
+    }
+    span_to(first, next)
+}
+
+// The followed page p, by itself.
+pub fn judge_page(index: &[u8], p: u32, d: usize) -> Span
+    requires { ⌜ Reached (viewOf (now index)) p × (d ≡ viewOf (now index) .d) ⌝ }
+    ensures { λ r. ⌜ PageJudged (viewOf (now (index .entry))) p r ⌝ }
+{
+    let n = item_count(index, p);
+    if level_at(index, p) == 0 {
+        return judge_leaf(index, p, n, d);
+    }
+    judge_inner(index, p, n)
+}
