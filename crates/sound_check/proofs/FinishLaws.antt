@@ -14,12 +14,12 @@ use Rattle.sound_faults.specs.Stored.{view-stored}
 use Rattle.sound_faults.specs.Assembled.{reached-page, live-count}
 use Rattle.sound_links.specs.Marks.{Marked, Seen, Clear, Ready, Grown, MarksAre, FreedOk, markedTo}
 use Rattle.sound_pages.specs.Pages.{PagesFine, Named, Lost}
-use Rattle.sound_check.specs.Collect.{pairsTo, Collected, Gathered}
+use Rattle.sound_visit.specs.Collect.{pairsTo, Collected, Gathered}
 use Rattle.sound_check.specs.Outcome.{Start, Counted, Lent, Whole}
 use Rattle.sound_links.proofs.MarkLaws.{clear-marks, marks-are}
 use Rattle.sound_faults.specs.ViewLaws.{few-entries}
 use Rattle.sound_links.proofs.MarkedLaws.{marked-followed}
-use Rattle.sound_check.proofs.CollectLaws.{pairs-sum}
+use Rattle.sound_visit.proofs.CollectLaws.{pairs-sum}
 
 -- ---- THE ROOT
 

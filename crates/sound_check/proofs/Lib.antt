@@ -1,3 +1,3 @@
 pub mod FinishLaws
-pub mod CollectLaws
+pub mod RepeatLaws
 pub mod VerdictLaws

@@ -1,3 +1,2 @@
-pub mod Collect
 pub mod Outcome
 pub mod CheckSound

@@ -9,7 +9,7 @@ use Rattle.tree_model.specs.Trees.{live}
 use Rattle.sound_faults.specs.Faults.{IsPage, RootFill, Reached, FailsAt}
 use Rattle.sound_faults.specs.Linked.{HeaderFine, Linked, PageFine, InState}
 use Rattle.sound_links.specs.Marks.{Marked, Clear, MarksAre, FreedOk}
-use Rattle.sound_check.specs.Collect.{Gathered}
+use Rattle.sound_visit.specs.Collect.{Gathered}
 use Rattle.sound_check.specs.declared.Checked.{Checked}
 
 -- the header, the freed pages and the root have no fault

@@ -22,20 +22,12 @@ use sound_links::walk_freed;
 use sound_pages::find_lost;
 use sound_pages::judge_parents;
 use sound_repeats::lowest_repeat_of;
-use visiting::visit;
-
-mod visiting;
+use sound_visit::visit;
 
 // The answer: code 0, or 2 with a page at which soundness fails.
 pub struct Checked {
     pub code: u8,
     pub page: u32,
-}
-
-// What the visit of the followed pages gives: a page that is not fine by itself, or 0, and the number of records.
-pub struct Visit {
-    pub page: u32,
-    pub points: usize,
 }
 
 fn code_of(page: u32) -> u8

@@ -1,4 +1,1 @@
-pub mod RepeatsLaws
-pub mod BucketLaws
 pub mod SpreadLaws
-pub mod Examples

@@ -1,6 +1,6 @@
 use Rattle.pagestore.specs.Store.{viewOf}
 use Rattle.sound_faults.specs.Judges.{found-at, found-nowhere}
-use Rattle.sound_check.proofs.CollectLaws.{repeat-found}
+use Rattle.sound_check.proofs.RepeatLaws.{repeat-found}
 use Rattle.sound_check.proofs.FinishLaws.{whole-collected, whole-counted, whole-lost, whole-most, whole-room, whole-total}
 use Rattle.sound_check.proofs.VerdictLaws.{verdict}
 use Rattle.sound_check.specs.Outcome.{Verdict}

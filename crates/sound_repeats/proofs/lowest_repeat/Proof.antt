@@ -1,6 +1,6 @@
 -- `lowest_repeat` returns 0 where `all_spread` says so, what `lowest_of_few` settled, or what `lowest_of_many` finds.
 use mathlib.Core.Path.{sym}
-use Rattle.sound_repeats.proofs.RepeatsLaws.{distinct-none}
+use Rattle.sound_chains.proofs.RepeatsLaws.{distinct-none}
 use borrow.Author.Needs.{needs}
 use denote.Ref.{now}
 use Rattle.sound_repeats.proofs.lowest_repeat.Statement.{statement}

@@ -1,7 +1,7 @@
 -- `spread` marks the place of each identifier whose place is not marked. The loop's invariant: the first i are marked, and differ.
-use Prim.Native.Nat.{_-_, _≤_, _<_, _%_}
+use Prim.Native.Nat.{_-_, _≤_}
 use mathlib.Core.Bool.{true, false}
-use mathlib.Core.Path.{_≡_, refl, _∙_}
+use mathlib.Core.Path.{_≡_, refl}
 use native.Mathlib.Nat.{mod-lt}
 use lib.ListN.{length, getD, length-set}
 use Rattle.lists.specs.Tests.{false-true}

@@ -1,0 +1,3 @@
+pub mod RepeatsLaws
+pub mod ChainLaws
+pub mod Examples
