@@ -1,19 +1,22 @@
 // The check: is an index sound, and if not, at which page does soundness fail?
 //
-// In phases, each of which ends at the first fault: the header; the chain of freed pages, which are marked; the root; `reach`, the only recursion, which marks
-// the pages that are followed; these pages in turn, each by itself; their entries; the total; pages in no state; identifiers. Linear on any bytes.
+// In phases, each of which ends at the first fault: the header; the chain of freed pages, which are marked; the root; `reach`, the only
+// recursion, which marks the pages that are followed; these pages in turn, each by itself; their entries; the total; pages in no state;
+// identifiers. Linear on any bytes.
 ghost use mathlib.Core.Path.{_≡_};
 ghost use Prim.Native.Nat.{_≤_};
 ghost use lib.Dec.{eqb};
 ghost use Rattle.lists.specs.Basics.{if};
 ghost use Rattle.pagestore.specs.Store.{viewOf};
 ghost use Rattle.sound_links.specs.Marks.{Clear, MarksAre};
-ghost use Rattle.sound_check.specs.Outcome.{Start, Lent, Whole, Verdict};
+ghost use Rattle.sound_check.specs.Outcome.{fewPages, fewPoints, Start, Lent, Whole, Verdict};
 use pagestore::features_of;
 use pagestore::page_count;
 use pagestore::root_level;
 use pagestore::root_page;
 use pagestore::total_records;
+use sound_keys::MAX_PAGES;
+use sound_keys::MAX_POINTS;
 use sound_links::header_fine;
 use sound_links::place;
 use sound_links::reach;
@@ -23,6 +26,19 @@ use sound_pages::find_lost;
 use sound_pages::judge_parents;
 use sound_repeats::lowest_repeat_of;
 use sound_visit::visit;
+
+// Room for all pages and points of an index, and for those of a small one.
+const PAGES: usize = MAX_PAGES as usize;
+
+const POINTS: usize = MAX_POINTS as usize;
+
+const FEW_PAGES: usize = SMALL_PAGES as usize;
+
+const FEW_POINTS: usize = SMALL_POINTS as usize;
+
+const SMALL_PAGES: u32 = 1024;
+
+const SMALL_POINTS: u32 = 4096;
 
 // The answer: code 0, or 2 with a page at which soundness fails.
 pub struct Checked {
@@ -52,7 +68,7 @@ fn check_whole(
     if n != total {
         return Checked { code: 2, page: 0 };
     }
-    if 65535 < n {
+    if POINTS < n {
         return Checked { code: 2, page: 0 };
     }
     let q = find_lost(index, marks, freed);
@@ -98,14 +114,14 @@ fn check_tree(
 
 fn tree_few(index: &[u8], marks: &[u16], freed: &[u8]) -> Checked
     requires { ⌜ Start (viewOf (now index)) (now freed) × MarksAre (viewOf (now index)) (now marks)
-        × (viewOf (now index) .count ≤ 1024) × (viewOf (now index) .total ≤ 4096) ⌝ }
+        × (viewOf (now index) .count ≤ fewPages) × (viewOf (now index) .total ≤ fewPoints) ⌝ }
     ensures { λ r. ⌜ Verdict (now (index .entry)) r ⌝ }
 {
-    let mut named = [0u8; 1024];
-    let mut firsts = [0u64; 1024];
-    let mut lasts = [0u64; 1024];
-    let mut ids = [0u32; 4096];
-    let mut holders = [0u16; 4096];
+    let mut named = [0u8; FEW_PAGES];
+    let mut firsts = [0u64; FEW_PAGES];
+    let mut lasts = [0u64; FEW_PAGES];
+    let mut ids = [0u32; FEW_POINTS];
+    let mut holders = [0u16; FEW_POINTS];
     check_tree(
         index,
         marks,
@@ -122,11 +138,11 @@ fn tree_many(index: &[u8], marks: &[u16], freed: &[u8]) -> Checked
     requires { ⌜ Start (viewOf (now index)) (now freed) × MarksAre (viewOf (now index)) (now marks) ⌝ }
     ensures { λ r. ⌜ Verdict (now (index .entry)) r ⌝ }
 {
-    let mut named = [0u8; 16384];
-    let mut firsts = [0u64; 16384];
-    let mut lasts = [0u64; 16384];
-    let mut ids = [0u32; 65535];
-    let mut holders = [0u16; 65535];
+    let mut named = [0u8; PAGES];
+    let mut firsts = [0u64; PAGES];
+    let mut lasts = [0u64; PAGES];
+    let mut ids = [0u32; POINTS];
+    let mut holders = [0u16; POINTS];
     check_tree(
         index,
         marks,
@@ -145,10 +161,10 @@ fn follow(index: &[u8], marks: &mut [u16], freed: &[u8]) -> Checked
     ensures { λ r. ⌜ Verdict (now (index .entry)) r ⌝ }
 {
     reach(index, root_page(index), root_level(index), marks);
-    if 1024 < page_count(index) {
+    if SMALL_PAGES < page_count(index) {
         return tree_many(index, marks, freed);
     }
-    if 4096 < total_records(index) {
+    if SMALL_POINTS < total_records(index) {
         return tree_many(index, marks, freed);
     }
     tree_few(index, marks, freed)
@@ -180,19 +196,19 @@ fn check_in(index: &[u8], marks: &mut [u16], freed: &mut [u8]) -> Checked
 }
 
 fn check_few(index: &[u8]) -> Checked
-    requires { ⌜ viewOf (now index) .count ≤ 1024 ⌝ }
+    requires { ⌜ viewOf (now index) .count ≤ fewPages ⌝ }
     ensures { λ r. ⌜ Verdict (now (index .entry)) r ⌝ }
 {
-    let mut marks = [0u16; 1024];
-    let mut freed = [0u8; 1024];
+    let mut marks = [0u16; FEW_PAGES];
+    let mut freed = [0u8; FEW_PAGES];
     check_in(index, &mut marks, &mut freed)
 }
 
 fn check_many(index: &[u8]) -> Checked
     ensures { λ r. ⌜ Verdict (now (index .entry)) r ⌝ }
 {
-    let mut marks = [0u16; 16384];
-    let mut freed = [0u8; 16384];
+    let mut marks = [0u16; PAGES];
+    let mut freed = [0u8; PAGES];
     check_in(index, &mut marks, &mut freed)
 }
 
@@ -200,7 +216,7 @@ fn check_many(index: &[u8]) -> Checked
 pub fn check(index: &[u8]) -> Checked
     ensures { λ r. ⌜ Verdict (now (index .entry)) r ⌝ }
 {
-    if page_count(index) <= 1024 {
+    if page_count(index) <= SMALL_PAGES {
         return check_few(index);
     }
     check_many(index)

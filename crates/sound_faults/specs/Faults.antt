@@ -16,6 +16,26 @@ use Rattle.pagestore.specs.Store.{Page, leaf, inner, levelOf, fillOf, recordsOf
 use Rattle.tree_model.specs.Trees.{rankOf, firstKey, lastKey, live}
 use Rattle.tree_model.specs.Sound.{RecordOk}
 
+-- ---- NUMBERS OF THE FORMAT: bytes of a page; records or entries of one; features; the greatest magnitude of a coordinate; points
+
+abbrev pub pageSize : ℕ
+pageSize = 1024
+
+abbrev pub minItems : ℕ
+minItems = 8
+
+abbrev pub maxItems : ℕ
+maxItems = 16
+
+abbrev pub maxFeatures : ℕ
+maxFeatures = 16
+
+abbrev pub maxCoordinate : ℕ
+maxCoordinate = 1000
+
+abbrev pub maxPoints : ℕ
+maxPoints = 65535
+
 -- ---- PAGES
 
 -- in range: a page of the index other than the header
@@ -24,7 +44,7 @@ IsPage v p = (0 < p) × (p < v .count)
 
 -- d: 1 to 16
 abbrev pub Features : View → Type 0
-Features v = (1 ≤ v .d) × (v .d ≤ 16)
+Features v = (1 ≤ v .d) × (v .d ≤ maxFeatures)
 
 abbrev pub Freed : View → ℕ → Type 0
 Freed v p = 0 < mult p (v .freed)
@@ -35,12 +55,12 @@ Fresh v p = IsPage v p × (v .fresh ≤ p)
 
 -- the root holds 0 to 16 records or 2 to 16 children
 abbrev pub RootFill : Page → Type 0
-RootFill (leaf n rs) = n ≤ 16
-RootFill (inner l n es) = (2 ≤ n) × (n ≤ 16)
+RootFill (leaf n rs) = n ≤ maxItems
+RootFill (inner l n es) = (2 ≤ n) × (n ≤ maxItems)
 
 -- any other page 8 to 16
 abbrev pub NodeFill : Page → Type 0
-NodeFill x = (8 ≤ fillOf x) × (fillOf x ≤ 16)
+NodeFill x = (minItems ≤ fillOf x) × (fillOf x ≤ maxItems)
 
 -- the first and the last key that a page holds: its records' or its entries'
 abbrev pub firstKeyIn : ℕ → Page → Key
@@ -108,14 +128,14 @@ pub record NoFault (v : View) : Type 0 where
 
 pub data FailsAt (v : View) : ℕ → Type 0 where
   -- at the header: length, d, root link, total (with the greatest number of points), any fault of the freed and the never used pages
-  size : ¬ (v .size * 1024 ≡ v .lent) → FailsAt v 0
+  size : ¬ (v .size * pageSize ≡ v .lent) → FailsAt v 0
   features : ¬ Features v → FailsAt v 0
   rootRange : ¬ IsPage v (v .root) → FailsAt v 0
   rootLevel : ¬ (levelOf (v .page (v .root)) ≡ v .level) → FailsAt v 0
   rootFreed : Freed v (v .root) → FailsAt v 0
   rootFresh : Fresh v (v .root) → FailsAt v 0
   total : NoFault v → ¬ (v .total ≡ length (live v)) → FailsAt v 0
-  most : NoFault v → 65535 < length (live v) → FailsAt v 0
+  most : NoFault v → maxPoints < length (live v) → FailsAt v 0
   chain : ¬ (v .rest ≡ 0) → FailsAt v 0
   freedTwice : (q : ℕ) → 1 < mult q (v .freed) → FailsAt v 0
   freedFresh : (q : ℕ) → Freed v q → Fresh v q → FailsAt v 0

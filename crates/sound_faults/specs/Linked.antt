@@ -9,11 +9,11 @@ use Rattle.lists.specs.Ascending.{Ascending}
 use Rattle.pagestore.specs.declared.Entry.{Entry}
 use Rattle.pagestore.specs.Store.{levelOf, recordsOf, View}
 use Rattle.tree_model.specs.Sound.{RecordOk}
-use Rattle.sound_faults.specs.Faults.{IsPage, Features, Freed, RootFill, NodeFill, firstKeyIn, lastKeyIn, ranksIn, Reached, EntryAt}
+use Rattle.sound_faults.specs.Faults.{pageSize, IsPage, Features, Freed, RootFill, NodeFill, firstKeyIn, lastKeyIn, ranksIn, Reached, EntryAt}
 
 -- the header's fields, each by itself
 pub record HeaderFine (v : View) : Type 0 where
-  pub size : v .size * 1024 ≡ v .lent
+  pub size : v .size * pageSize ≡ v .lent
   pub features : Features v
   pub fresh : (1 ≤ v .fresh) × (v .fresh ≤ v .count)
   pub root : IsPage v (v .root)

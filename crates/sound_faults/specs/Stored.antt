@@ -10,11 +10,11 @@ use Rattle.pagestore.specs.Store.{Page, leaf, inner, View, viewOf, pageAt, leve
 use Rattle.pagestore.specs.Store.PageLaws.{leaf-page, inner-page, records-slots, entries-slots}
 use Rattle.pagestore.specs.Store.RangeLaws.{range-low, range-high}
 use Rattle.pagestore.specs.Store.FreeLaws.{freed-range}
-use Rattle.sound_faults.specs.Faults.{IsPage, Freed}
+use Rattle.sound_faults.specs.Faults.{maxItems, IsPage, Freed}
 
 abbrev pub Counted : Page → Type 0
-Counted (leaf n rs) = n ≤ 16 → length rs ≡ n
-Counted (inner l n es) = n ≤ 16 → length es ≡ n
+Counted (leaf n rs) = n ≤ maxItems → length rs ≡ n
+Counted (inner l n es) = n ≤ maxItems → length es ≡ n
 
 pub record Stored (v : View) : Type 0 where
   pub items : (p : ℕ) → Counted (v .page p)

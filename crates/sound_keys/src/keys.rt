@@ -8,10 +8,13 @@ ghost use Rattle.lists.specs.Basics.{if};
 ghost use Rattle.geometry.specs.Keys.{keyNumber};
 ghost use Rattle.pagestore.specs.Layout.{leafOf};
 ghost use Rattle.pagestore.specs.Store.{recordsIn, entriesIn, fillOf, pageAt, leafAt, innerAt, inRange, viewOf};
-ghost use Rattle.sound_faults.specs.Faults.{Reached};
+ghost use Rattle.sound_faults.specs.Faults.{pageSize, maxItems, maxFeatures, maxCoordinate, Reached};
 ghost use Rattle.sound_faults.specs.Judges.{Decides};
 ghost use Rattle.sound_keys.specs.Judged.{LeafJudged, InnerJudged, PageJudged};
 ghost use Rattle.sound_keys.specs.Leads.{Leads};
+use crate::MAX_COORDINATE;
+use crate::MAX_ITEMS;
+use crate::PAGE_SIZE;
 use crate::Span;
 use crate::leads::lead_columns;
 use crate::leads::lead_key;
@@ -31,17 +34,18 @@ pub fn rank(k: Key) -> u64
 
 // Are the identifier and the coordinates of a record with this key in range? The height is the greatest magnitude.
 fn key_fine(k: Key) -> bool
-    ensures { λ r. ⌜ Decides ((1 ≤ k .id) × (k .height .0 ≤ 1000)) r ⌝ }
+    ensures { λ r. ⌜ Decides ((1 ≤ k .id) × (k .height .0 ≤ maxCoordinate)) r ⌝ }
 {
     if k.id == 0 {
         return false;
     }
-    k.height.0 <= 1000
+    k.height.0 <= MAX_COORDINATE
 }
 
 // The count of a page, as stored.
 pub fn item_count(index: &[u8], page: u32) -> usize
-    ensures { λ r. ⌜ (r ≡ leafAt (now (index .entry)) page .count) × (r ≡ innerAt (now (index .entry)) page .count) × (r ≡ fillOf (pageAt (now (index .entry)) page)) ⌝ }
+    ensures { λ r. ⌜ (r ≡ leafAt (now (index .entry)) page .count) × (r ≡ innerAt (now (index .entry)) page .count)
+        × (r ≡ fillOf (pageAt (now (index .entry)) page)) ⌝ }
 {
     count_at(index, page) as usize
 }
@@ -77,7 +81,8 @@ fn span_to(first: u64, next: u64) -> Span
 
 // Are the first n records in range, and do their keys ascend? `tops` holds their greatest leads.
 fn judge_records(page: &[u8], n: usize, d: usize, tops: &[u16]) -> Span
-    requires { ⌜ (length (now page) ≡ 1024) × (n ≡ leafOf (now page) .count) × (n ≤ 16) × (1 ≤ d) × (d ≤ 16) × Leads (leafOf (now page)) d n (now tops) ⌝ }
+    requires { ⌜ (length (now page) ≡ pageSize) × (n ≡ leafOf (now page) .count) × (n ≤ maxItems) × (1 ≤ d) × (d ≤ maxFeatures)
+        × Leads (leafOf (now page)) d n (now tops) ⌝ }
     ensures { λ r. ⌜ LeafJudged d (recordsIn (leafOf (now (page .entry)))) r ⌝ }
 {
     let mut first: u64 = 0;
@@ -101,27 +106,27 @@ fn judge_records(page: &[u8], n: usize, d: usize, tops: &[u16]) -> Span
 
 // The records of a leaf, read from its page.
 fn judge_part(page: &[u8], n: usize, d: usize) -> Span
-    requires { ⌜ (length (now page) ≡ 1024) × (n ≡ leafOf (now page) .count) × (n ≤ 16) × (1 ≤ d) × (d ≤ 16) ⌝ }
+    requires { ⌜ (length (now page) ≡ pageSize) × (n ≡ leafOf (now page) .count) × (n ≤ maxItems) × (1 ≤ d) × (d ≤ maxFeatures) ⌝ }
     ensures { λ r. ⌜ LeafJudged d (recordsIn (leafOf (now (page .entry)))) r ⌝ }
 {
-    let mut tops = [0u16; 16];
+    let mut tops = [0u16; MAX_ITEMS];
     lead_columns(page, d, lanes(n), &mut tops);
     judge_records(page, n, d, &tops)
 }
 
 // The same of the leaf at a page in range.
 fn judge_leaf(index: &[u8], page: u32, n: usize, d: usize) -> Span
-    requires { ⌜ (n ≡ leafAt (now index) page .count) × (n ≤ 16) × (1 ≤ d) × (d ≤ 16) × (inRange (now index) page ≡ true) ⌝ }
+    requires { ⌜ (n ≡ leafAt (now index) page .count) × (n ≤ maxItems) × (1 ≤ d) × (d ≤ maxFeatures) × (inRange (now index) page ≡ true) ⌝ }
     ensures { λ r. ⌜ LeafJudged d (recordsIn (leafAt (now (index .entry)) page)) r ⌝ }
 {
-    let at = page as usize * 1024;
-    let end = at + 1024;
+    let at = page as usize * PAGE_SIZE;
+    let end = at + PAGE_SIZE;
     judge_part(&index[at..end], n, d)
 }
 
 // Do the keys of an inner page ascend, each entry's first and last in turn?
 fn judge_inner(index: &[u8], page: u32, n: usize) -> Span
-    requires { ⌜ (n ≡ innerAt (now index) page .count) × (n ≤ 16) ⌝ }
+    requires { ⌜ (n ≡ innerAt (now index) page .count) × (n ≤ maxItems) ⌝ }
     ensures { λ r. ⌜ InnerJudged (entriesIn (innerAt (now (index .entry)) page)) r ⌝ }
 {
     let mut first: u64 = 0;

@@ -5,7 +5,10 @@ ghost use lib.ListN.{length, getD};
 ghost use Rattle.pagestore.specs.Layout.{leafOf};
 ghost use Rattle.pagestore.specs.LayoutLaws.{noRecord};
 ghost use Rattle.tree_model.specs.Trees.{keyOf};
+ghost use Rattle.sound_faults.specs.Faults.{pageSize, maxItems, maxFeatures};
 ghost use Rattle.sound_keys.specs.Leads.{leadOf, leadTo, Leads};
+use crate::MAX_COORDINATE;
+use crate::MAX_FEATURES;
 use geometry::Height;
 use geometry::Key;
 use geometry::Pyramid;
@@ -15,18 +18,25 @@ use geometry::points::pyramid_no;
 use pagestore::read_coord;
 use pagestore::read_ident;
 
+// A lead is a magnitude times PLACES, and how far the coordinate's place is below the last.
+const PLACES: u16 = MAX_FEATURES as u16;
+
+const LAST: u16 = PLACES - 1;
+
+const LAST_FEATURE: usize = MAX_FEATURES - 1;
+
 // The lead of coordinate m of record i: its magnitude, followed by how far m is below 15.
 fn lead(page: &[u8], m: usize, i: usize) -> u16
-    requires { ⌜ (length (now page) ≡ 1024) × (m < 16) × (i < 16) ⌝ }
+    requires { ⌜ (length (now page) ≡ pageSize) × (m < maxFeatures) × (i < maxItems) ⌝ }
     ensures { λ r. ⌜ r ≡ leadOf m (getD (leafOf (now (page .entry)) .records) i noRecord .coords) ⌝ }
 {
     let h = magnitude(read_coord(page, m, i));
-    h * 16 + (15 - m as u16)
+    h * PLACES + (LAST - m as u16)
 }
 
 // The greatest leads of the first n records, with coordinate m.
 fn lead_one(page: &[u8], m: usize, n: usize, tops: &mut [u16])
-    requires { ⌜ (length (now page) ≡ 1024) × (m < 16) × (n ≤ 16) × Leads (leafOf (now page)) m n (now tops) ⌝ }
+    requires { ⌜ (length (now page) ≡ pageSize) × (m < maxFeatures) × (n ≤ maxItems) × Leads (leafOf (now page)) m n (now tops) ⌝ }
     ensures { λ _. ⌜ Leads (leafOf (now (page .entry))) (m + 1) n (now (tops .exit)) ⌝ }
 {
     let mut i = 0;
@@ -38,7 +48,7 @@ fn lead_one(page: &[u8], m: usize, n: usize, tops: &mut [u16])
 
 // The same with four coordinates from m on.
 fn lead_four(page: &[u8], m: usize, n: usize, tops: &mut [u16])
-    requires { ⌜ (length (now page) ≡ 1024) × (m + 3 < 16) × (n ≤ 16) × Leads (leafOf (now page)) m n (now tops) ⌝ }
+    requires { ⌜ (length (now page) ≡ pageSize) × (m + 3 < maxFeatures) × (n ≤ maxItems) × Leads (leafOf (now page)) m n (now tops) ⌝ }
     ensures { λ _. ⌜ Leads (leafOf (now (page .entry))) (m + 4) n (now (tops .exit)) ⌝ }
 {
     let mut i = 0;
@@ -53,7 +63,7 @@ fn lead_four(page: &[u8], m: usize, n: usize, tops: &mut [u16])
 
 // With the first d coordinates as far as they go in fours: how many these are.
 fn lead_fours(page: &[u8], d: usize, n: usize, tops: &mut [u16]) -> usize
-    requires { ⌜ (length (now page) ≡ 1024) × (d ≤ 16) × (n ≤ 16) × Leads (leafOf (now page)) 0 n (now tops) ⌝ }
+    requires { ⌜ (length (now page) ≡ pageSize) × (d ≤ maxFeatures) × (n ≤ maxItems) × Leads (leafOf (now page)) 0 n (now tops) ⌝ }
     ensures { λ m. ⌜ Leads (leafOf (now (page .entry))) m n (now (tops .exit)) × (m ≤ d) ⌝ }
 {
     let mut m = 0;
@@ -66,7 +76,8 @@ fn lead_fours(page: &[u8], d: usize, n: usize, tops: &mut [u16]) -> usize
 
 // With each of the first d coordinates, those before `from` being done.
 fn lead_rest(page: &[u8], from: usize, d: usize, n: usize, tops: &mut [u16])
-    requires { ⌜ (length (now page) ≡ 1024) × (from ≤ d) × (d ≤ 16) × (n ≤ 16) × Leads (leafOf (now page)) from n (now tops) ⌝ }
+    requires { ⌜ (length (now page) ≡ pageSize) × (from ≤ d) × (d ≤ maxFeatures) × (n ≤ maxItems)
+        × Leads (leafOf (now page)) from n (now tops) ⌝ }
     ensures { λ _. ⌜ Leads (leafOf (now (page .entry))) d n (now (tops .exit)) ⌝ }
 {
     let mut m = from;
@@ -78,7 +89,7 @@ fn lead_rest(page: &[u8], from: usize, d: usize, n: usize, tops: &mut [u16])
 
 // The greatest leads of the first n records with d features.
 pub fn lead_columns(page: &[u8], d: usize, n: usize, tops: &mut [u16])
-    requires { ⌜ (length (now page) ≡ 1024) × (d ≤ 16) × (n ≤ 16) × Leads (leafOf (now page)) 0 n (now tops) ⌝ }
+    requires { ⌜ (length (now page) ≡ pageSize) × (d ≤ maxFeatures) × (n ≤ maxItems) × Leads (leafOf (now page)) 0 n (now tops) ⌝ }
     ensures { λ _. ⌜ Leads (leafOf (now (page .entry))) d n (now (tops .exit)) ⌝ }
 {
     let m = lead_fours(page, d, n, tops);
@@ -87,14 +98,15 @@ pub fn lead_columns(page: &[u8], d: usize, n: usize, tops: &mut [u16])
 
 // The key of record i with d features, by its greatest lead.
 pub fn lead_key(page: &[u8], top: u16, i: usize, d: usize) -> Key
-    requires { ⌜ (length (now page) ≡ 1024) × (i < 16) × (1 ≤ d) × (d ≤ 16) × (top ≡ leadTo d (getD (leafOf (now page) .records) i noRecord .coords)) ⌝ }
+    requires { ⌜ (length (now page) ≡ pageSize) × (i < maxItems) × (1 ≤ d) × (d ≤ maxFeatures)
+        × (top ≡ leadTo d (getD (leafOf (now page) .records) i noRecord .coords)) ⌝ }
     ensures { λ k. ⌜ k ≡ keyOf d (getD (leafOf (now (page .entry)) .records) i noRecord) ⌝ }
 {
-    let j = 15 - (top % 16) as usize;
-    let below = read_coord(page, j, i) < 1000;
+    let j = LAST_FEATURE - (top % PLACES) as usize;
+    let below = read_coord(page, j, i) < MAX_COORDINATE;
     Key {
         pyramid: Pyramid(pyramid_no(j, d, below)),
-        height: Height(top / 16),
+        height: Height(top / PLACES),
         id: read_ident(page, i),
     }
 }

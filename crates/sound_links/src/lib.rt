@@ -18,7 +18,18 @@ use pagestore::link_at;
 use pagestore::page_count;
 use pagestore::root_level;
 use pagestore::root_page;
+use sound_keys::MAX_FEATURES;
+use sound_keys::MAX_ITEMS;
+use sound_keys::MIN_ITEMS;
+use sound_keys::PAGE_SIZE;
 use sound_keys::item_count;
+
+// The most features, and the records or entries of a page, as their bytes say them.
+const FEATURES: u8 = MAX_FEATURES as u8;
+
+const LEAST: u8 = MIN_ITEMS as u8;
+
+const MOST: u8 = MAX_ITEMS as u8;
 
 // A page number as the place of the page's mark.
 pub fn place(page: u32) -> usize
@@ -32,14 +43,14 @@ pub fn header_fine(index: &[u8]) -> bool
     ensures { λ r. ⌜ Judges (HeaderFine (viewOf (now (index .entry)))) (FailsAt (viewOf (now (index .entry))) 0) r ⌝ }
 {
     let size = place(index_size(index));
-    if size * 1024 != index.len() {
+    if size * PAGE_SIZE != index.len() {
         return false;
     }
     let d = features_of(index);
     if d < 1 {
         return false;
     }
-    if 16 < d {
+    if FEATURES < d {
         return false;
     }
     let fresh = fresh_page(index);
@@ -88,7 +99,7 @@ pub fn root_filled(index: &[u8], root: u32) -> bool
     ensures { λ r. ⌜ Decides (RootFill (pageAt (now (index .entry)) root)) r ⌝ }
 {
     let n = count_at(index, root);
-    if 16 < n {
+    if MOST < n {
         return false;
     }
     if level_at(index, root) == 0 {
@@ -112,10 +123,10 @@ pub fn may_follow(index: &[u8], c: u32, above: u8) -> bool
         return false;
     }
     let n = count_at(index, c);
-    if n < 8 {
+    if n < LEAST {
         return false;
     }
-    n <= 16
+    n <= MOST
 }
 
 // The mark of a followed page.

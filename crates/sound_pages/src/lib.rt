@@ -1,14 +1,14 @@
 // The followed pages, for the check: each by itself, then its entries; then the pages in no state.
 ghost use mathlib.Core.Path.{_≡_};
-ghost use mathlib.Core.Logic.{_⊎_};
-ghost use Prim.Native.Nat.{ℕ, _+_, _*_, _<_, _≤_};
+ghost use Prim.Native.Nat.{_+_, _*_, _<_, _≤_};
 ghost use lib.ListN.{length};
 ghost use Rattle.pagestore.specs.Store.{viewOf, levelAt};
-ghost use Rattle.sound_faults.specs.Faults.{IsPage, Reached, EntryFault, FailsAt};
-ghost use Rattle.sound_faults.specs.Linked.{EntryFine, InState};
-ghost use Rattle.sound_faults.specs.Judges.{Decides, Judges, Found};
-ghost use Rattle.sound_links.specs.Marks.{Marked, Clear, Seen, MarksAre, FreedMarks};
-ghost use Rattle.sound_pages.specs.Pages.{PagesFine, Known, HasEntry, EndsKept, Named, Lost};
+ghost use Rattle.sound_faults.specs.Faults.{maxItems, Reached, EntryFault};
+ghost use Rattle.sound_faults.specs.Linked.{EntryFine};
+ghost use Rattle.sound_faults.specs.Judges.{Decides, Judges};
+ghost use Rattle.sound_links.specs.Marks.{Clear, MarksAre, FreedMarks};
+ghost use Rattle.sound_pages.specs.Pages.{PagesFine, Known, HasEntry, EndsKept, Named};
+ghost use Rattle.sound_pages.specs.Pages.{PageKept, EntriesJudged, ParentsJudged, StateJudged, StatesJudged};
 use pagestore::Entry;
 use pagestore::entry_at;
 use pagestore::fresh_page;
@@ -31,7 +31,7 @@ pub fn keep_page(
 ) -> bool
     requires { ⌜ (p < viewOf (now index) .count) × (d ≡ viewOf (now index) .d) × MarksAre (viewOf (now index)) (now marks)
         × PagesFine (viewOf (now index)) (now firsts) (now lasts) p ⌝ }
-    ensures { λ r. ⌜ Judges (PagesFine (viewOf (now (index .entry))) (now (firsts .exit)) (now (lasts .exit)) (p + 1)) (FailsAt (viewOf (now (index .entry))) p) r ⌝ }
+    ensures { λ r. ⌜ PageKept (viewOf (now (index .entry))) p (now (firsts .exit)) (now (lasts .exit)) r ⌝ }
 {
     let at = place(p);
     if marks[at] == 0 {
@@ -55,7 +55,8 @@ fn gives_ends(e: Entry, firsts: &[u64], lasts: &[u64]) -> bool
     rank(e.last) == lasts[at]
 }
 
-// Does an entry of page p have no fault, but for other entries that name its child? The child's mark tells its level, and that it is rightly filled.
+// Does an entry of page p have no fault, but for other entries that name its child? The child's mark tells its level, and that it is
+// rightly filled.
 fn judge_entry(
     index: &[u8],
     p: u32,
@@ -96,8 +97,9 @@ fn judge_entries(
     named: &mut [u8],
 ) -> bool
     requires { ⌜ Reached (viewOf (now index)) p × (¬ (levelAt (now index) p ≡ 0))
-        × Known (viewOf (now index)) (now marks) (now freed) (now firsts) (now lasts) × Named (viewOf (now index)) (now named) (16 * p) ⌝ }
-    ensures { λ r. ⌜ Judges (Named (viewOf (now (index .entry))) (now (named .exit)) (16 * (p + 1))) (EntryFault (viewOf (now (index .entry))) p) r ⌝ }
+        × Known (viewOf (now index)) (now marks) (now freed) (now firsts) (now lasts)
+        × Named (viewOf (now index)) (now named) (maxItems * p) ⌝ }
+    ensures { λ r. ⌜ EntriesJudged (viewOf (now (index .entry))) p (now (named .exit)) r ⌝ }
 {
     let n = item_count(index, p);
     let mut i = 0;
@@ -127,8 +129,9 @@ fn judge_parent(
     named: &mut [u8],
 ) -> bool
     requires { ⌜ (p < viewOf (now index) .count)
-        × Known (viewOf (now index)) (now marks) (now freed) (now firsts) (now lasts) × Named (viewOf (now index)) (now named) (16 * p) ⌝ }
-    ensures { λ r. ⌜ Judges (Named (viewOf (now (index .entry))) (now (named .exit)) (16 * (p + 1))) (EntryFault (viewOf (now (index .entry))) p) r ⌝ }
+        × Known (viewOf (now index)) (now marks) (now freed) (now firsts) (now lasts)
+        × Named (viewOf (now index)) (now named) (maxItems * p) ⌝ }
+    ensures { λ r. ⌜ EntriesJudged (viewOf (now (index .entry))) p (now (named .exit)) r ⌝ }
 {
     let at = place(p);
     if marks[at] <= 1 {
@@ -148,7 +151,7 @@ pub fn judge_parents(
 ) -> u32
     requires { ⌜ (1 ≤ viewOf (now index) .count)
         × Known (viewOf (now index)) (now marks) (now freed) (now firsts) (now lasts) × Clear (viewOf (now index)) (now named) ⌝ }
-    ensures { λ r. ⌜ Found (Named (viewOf (now (index .entry))) (now (named .exit)) (16 * viewOf (now (index .entry)) .count)) (FailsAt (viewOf (now (index .entry)))) r ⌝ }
+    ensures { λ r. ⌜ ParentsJudged (viewOf (now (index .entry))) (now (named .exit)) r ⌝ }
 {
     let pages = page_count(index);
     let mut p = 1;
@@ -163,7 +166,7 @@ pub fn judge_parents(
 
 fn in_state(at: usize, marks: &[u16], freed: &[u8]) -> bool
     requires { ⌜ (at < length (now marks)) × (at < length (now freed)) ⌝ }
-    ensures { λ r. ⌜ Judges (Seen (now (marks .entry)) at ⊎ Marked (now (freed .entry)) at) ((¬ Seen (now (marks .entry)) at) × (¬ Marked (now (freed .entry)) at)) r ⌝ }
+    ensures { λ r. ⌜ StateJudged (now (marks .entry)) (now (freed .entry)) at r ⌝ }
 {
     if marks[at] != 0 {
         return true;
@@ -175,7 +178,7 @@ fn in_state(at: usize, marks: &[u16], freed: &[u8]) -> bool
 pub fn find_lost(index: &[u8], marks: &[u16], freed: &[u8]) -> u32
     requires { ⌜ MarksAre (viewOf (now index)) (now marks) × FreedMarks (viewOf (now index)) (now freed)
         × (1 ≤ viewOf (now index) .fresh) × (viewOf (now index) .fresh ≤ viewOf (now index) .count) ⌝ }
-    ensures { λ r. ⌜ Found ((q : ℕ) → IsPage (viewOf (now (index .entry))) q → InState (viewOf (now (index .entry))) q) (Lost (viewOf (now (index .entry)))) r ⌝ }
+    ensures { λ r. ⌜ StatesJudged (viewOf (now (index .entry))) r ⌝ }
 {
     let fresh = fresh_page(index);
     let mut p = 1;

@@ -6,7 +6,7 @@ use lib.Dec.{eqb}
 use lib.ListN.{length, getD, take}
 use Rattle.lists.specs.Basics.{if}
 use Rattle.pagestore.specs.Store.{recordsOf, View}
-use Rattle.sound_faults.specs.Faults.{FailsAt}
+use Rattle.sound_faults.specs.Faults.{maxItems, FailsAt}
 use Rattle.sound_faults.specs.Judges.{Found}
 use Rattle.sound_pages.specs.Pages.{PagesFine}
 use Rattle.sound_visit.specs.declared.Findings.{Findings}
@@ -44,7 +44,7 @@ pub record Collected (xs : List (ℕ × ℕ)) (n : ℕ) (ids holders : List ℕ)
 
 -- the marked pages below p have n of them, which are collected where there is room
 pub record Gathered (v : View) (m : List ℕ) (p n : ℕ) (ids holders : List ℕ) : Type 0 where
-  pub few : n ≤ 16 * p
+  pub few : n ≤ maxItems * p
   pub count : n ≡ length (pairsTo v m p)
   pub held : n ≤ length ids → Collected (pairsTo v m p) n ids holders
 

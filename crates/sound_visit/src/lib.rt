@@ -1,11 +1,12 @@
-// The visit of the followed pages in turn: each is judged by itself, its first and last key are kept, and the identifiers of a leaf are collected, each with
-// its page.
+// The visit of the followed pages in turn: each is judged by itself, its first and last key are kept, and the identifiers of a leaf are
+// collected, each with its page.
 ghost use mathlib.Core.Path.{_≡_};
 ghost use mathlib.Core.List.{map};
 ghost use Prim.Native.Nat.{_+_, _<_, _≤_};
 ghost use lib.ListN.{length};
 ghost use Rattle.pagestore.specs.Store.{viewOf, leafAt, recordsIn};
 ghost use Rattle.tree_model.specs.Trees.{identOf};
+ghost use Rattle.sound_faults.specs.Faults.{maxItems};
 ghost use Rattle.sound_links.specs.Marks.{MarksAre};
 ghost use Rattle.sound_visit.specs.Collect.{Joined, Gathered, Visited};
 use pagestore::ident_at;
@@ -38,8 +39,10 @@ fn collect_leaf(
     holders: &mut [u16],
     n: usize,
 ) -> usize
-    requires { ⌜ (count ≡ leafAt (now index) page .count) × (count ≤ 16) × (n + count ≤ length (now ids)) × (n + count ≤ length (now holders)) ⌝ }
-    ensures { λ r. ⌜ Joined (map identOf (recordsIn (leafAt (now (index .entry)) page))) (map (λ x. holder) (recordsIn (leafAt (now (index .entry)) page)))
+    requires { ⌜ (count ≡ leafAt (now index) page .count) × (count ≤ maxItems)
+        × (n + count ≤ length (now ids)) × (n + count ≤ length (now holders)) ⌝ }
+    ensures { λ r. ⌜ Joined (map identOf (recordsIn (leafAt (now (index .entry)) page)))
+        (map (λ x. holder) (recordsIn (leafAt (now (index .entry)) page)))
         n (now (ids .entry)) (now (holders .entry)) r (now (ids .exit)) (now (holders .exit)) ⌝ }
 {
     let mut i = 0;
@@ -88,8 +91,10 @@ pub fn visit(
     holders: &mut [u16],
 ) -> Findings
     requires { ⌜ (1 ≤ viewOf (now index) .count) × (d ≡ viewOf (now index) .d) × MarksAre (viewOf (now index)) (now marks)
-        × (viewOf (now index) .count ≤ length (now firsts)) × (viewOf (now index) .count ≤ length (now lasts)) × (length (now holders) ≡ length (now ids)) ⌝ }
-    ensures { λ r. ⌜ Visited (viewOf (now (index .entry))) (now (marks .entry)) (now (firsts .exit)) (now (lasts .exit)) (now (ids .exit)) (now (holders .exit)) r ⌝ }
+        × (viewOf (now index) .count ≤ length (now firsts)) × (viewOf (now index) .count ≤ length (now lasts))
+        × (length (now holders) ≡ length (now ids)) ⌝ }
+    ensures { λ r. ⌜ Visited (viewOf (now (index .entry))) (now (marks .entry)) (now (firsts .exit)) (now (lasts .exit))
+        (now (ids .exit)) (now (holders .exit)) r ⌝ }
 {
     let pages = page_count(index);
     let mut n = 0;

@@ -1,7 +1,7 @@
 // Indexes with one fault each, for the rules of soundness: prints for each its number, the code and the page that the check answers.
 //
-// The sound index: 8 pages, one feature. Pages 1 and 2 are leaves of the points 1 .. 8 and 9 .. 16, page 3 is the root over them, page 4 is freed, and
-// pages 5 to 7 were never used.
+// The sound index: 8 pages, one feature. Pages 1 and 2 are leaves of the points 1 .. 8 and 9 .. 16, page 3 is the root over them, page 4 is
+// freed, and pages 5 to 7 were never used.
 use geometry::Height;
 use geometry::Key;
 use geometry::Pyramid;
