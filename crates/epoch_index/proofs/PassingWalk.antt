@@ -40,16 +40,16 @@ use denote.Exit.{yes}
 use Rattle.search_rows.specs.declared.Row.{Row}
 use Rattle.index_answer.specs.declared.Tally.{Tally}
 use Rattle.index_answer.specs.declared.Answer.{Answer}
-use Rattle.index.specs.declared.Criteria.{Criteria}
-use Rattle.index.specs.Asking.{Question, nearestOf, questionOf}
+use Rattle.index_query.specs.declared.Criteria.{Criteria}
+use Rattle.index_query.specs.Asking.{Question, nearestOf, questionOf}
 use Rattle.search_rows.proofs.Row as Row′
 use Rattle.search_rows.proofs.Row.Laws as Row″
 use Rattle.index_answer.proofs.Tally as Tally′
 use Rattle.index_answer.proofs.Tally.Laws as Tally″
 use Rattle.index_answer.proofs.Answer as N
 use Rattle.index_answer.proofs.Answer.Laws as N′
-use Rattle.index.proofs.Criteria as U
-use Rattle.index.proofs.Criteria.Laws as U′
+use Rattle.index_query.proofs.Criteria as U
+use Rattle.index_query.proofs.Criteria.Laws as U′
 use Rattle.index.proofs.question as callee
 use Rattle.epoch_index.proofs.epoch_index_question as f
 

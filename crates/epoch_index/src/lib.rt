@@ -1,24 +1,21 @@
-// The acts for programs in C and other languages (include/epoch_index.h, include/epoch_index_unchecked.h). Each is the act of `index` and promises what that promises.
-ghost use mathlib.Core.Path.{_≡_};
-ghost use lib.ListN.{length};
-ghost use Rattle.index.specs.Asking.{nearestOf};
+// The acts for programs in C and other languages (include/epoch_index.h, include/epoch_index_unchecked.h). Each is the act of `index`,
+// `index_trusted` or `index_vouched` and promises what that promises.
+ghost use Rattle.index_query.specs.Asking.{nearestOf};
+ghost use Rattle.index_trusted.specs.Changes.{TrustedInserted, TrustedDeleted};
+ghost use Rattle.index_trusted.specs.Questions.{TrustedQuestioned};
+ghost use Rattle.index_vouched.specs.Vouched.{VouchedInserted, VouchedDeleted};
+ghost use Rattle.index.specs.Changes.{Made, Inserted, Deleted};
 ghost use Rattle.index.specs.CheckAnswers.{CheckAnswer};
-ghost use Rattle.index.specs.Refusals.{First, makeRules, insertRules, deleteRules};
-ghost use Rattle.index.specs.Outcomes.{madeWith, insertedWith, deletedWith};
 ghost use Rattle.index.specs.Questions.{Questioned};
-ghost use Rattle.index.specs.Trusted.{trustedInsert, trustedDelete, TrustedQuestioned};
-ghost use Rattle.index.specs.Vouched.{vouchedInsert, vouchedDelete, vouchedDeletedWith};
-use index::Criteria;
-use index::trusted;
-use index::vouched;
 use index_answer::Answer;
 use index_answer::Tally;
+use index_query::Criteria;
 use search_rows::Row;
 
 // Makes an empty index of some features in the bytes lent.
 #[no_mangle]
 pub extern "C" fn epoch_index_make(index: &mut [u8], features: u8) -> u32
-    ensures { λ r. ⌜ First (makeRules (length (now (index .entry))) features) r × (now (index .exit) ≡ madeWith r (now (index .entry)) features) ⌝ }
+    ensures { λ r. ⌜ Made (now (index .entry)) features r (now (index .exit)) ⌝ }
 {
     index::make(index, features)
 }
@@ -26,7 +23,7 @@ pub extern "C" fn epoch_index_make(index: &mut [u8], features: u8) -> u32
 // Inserts an identifier with its point.
 #[no_mangle]
 pub extern "C" fn epoch_index_insert(index: &mut [u8], id: u32, point: &[i16]) -> u32
-    ensures { λ r. ⌜ First (insertRules (now (index .entry)) id (now (point .entry))) r × (now (index .exit) ≡ insertedWith r (now (index .entry)) id (now (point .entry))) ⌝ }
+    ensures { λ r. ⌜ Inserted (now (index .entry)) id (now (point .entry)) r (now (index .exit)) ⌝ }
 {
     index::insert(index, id, point)
 }
@@ -34,7 +31,7 @@ pub extern "C" fn epoch_index_insert(index: &mut [u8], id: u32, point: &[i16]) -
 // Deletes an identifier with its point.
 #[no_mangle]
 pub extern "C" fn epoch_index_delete(index: &mut [u8], id: u32) -> u32
-    ensures { λ r. ⌜ First (deleteRules (now (index .entry)) id) r × (now (index .exit) ≡ deletedWith r (now (index .entry)) id) ⌝ }
+    ensures { λ r. ⌜ Deleted (now (index .entry)) id r (now (index .exit)) ⌝ }
 {
     index::delete(index, id)
 }
@@ -58,7 +55,8 @@ pub extern "C" fn epoch_index_question(
     rows: &mut [Row],
     tally: &mut Tally,
 ) -> Answer
-    ensures { λ r. ⌜ Questioned (now (index .entry)) (nearestOf (now (point .entry)) k) (now (rows .entry)) (now (tally .entry)) r (now (rows .exit)) (now (tally .exit)) ⌝ }
+    ensures { λ r. ⌜ Questioned (now (index .entry)) (nearestOf (now (point .entry)) k)
+        (now (rows .entry)) (now (tally .entry)) r (now (rows .exit)) (now (tally .exit)) ⌝ }
 {
     let what = Criteria { k: k };
     index::question(index, point, what, rows, tally)
@@ -67,17 +65,17 @@ pub extern "C" fn epoch_index_question(
 // Inserts an identifier with its point, without the check.
 #[no_mangle]
 pub extern "C" fn epoch_index_trusted_insert(index: &mut [u8], id: u32, point: &[i16]) -> u32
-    ensures { λ r. ⌜ First (trustedInsert (now (index .entry)) id (now (point .entry))) r × (now (index .exit) ≡ insertedWith r (now (index .entry)) id (now (point .entry))) ⌝ }
+    ensures { λ r. ⌜ TrustedInserted (now (index .entry)) id (now (point .entry)) r (now (index .exit)) ⌝ }
 {
-    trusted::insert(index, id, point)
+    index_trusted::insert(index, id, point)
 }
 
 // Deletes an identifier with its point, without the check.
 #[no_mangle]
 pub extern "C" fn epoch_index_trusted_delete(index: &mut [u8], id: u32) -> u32
-    ensures { λ r. ⌜ First (trustedDelete (now (index .entry)) id) r × (now (index .exit) ≡ deletedWith r (now (index .entry)) id) ⌝ }
+    ensures { λ r. ⌜ TrustedDeleted (now (index .entry)) id r (now (index .exit)) ⌝ }
 {
-    trusted::delete(index, id)
+    index_trusted::delete(index, id)
 }
 
 // The question without the check.
@@ -89,24 +87,25 @@ pub extern "C" fn epoch_index_trusted_question(
     rows: &mut [Row],
     tally: &mut Tally,
 ) -> Answer
-    ensures { λ r. ⌜ TrustedQuestioned (now (index .entry)) (nearestOf (now (point .entry)) k) (now (rows .entry)) (now (tally .entry)) r (now (rows .exit)) (now (tally .exit)) ⌝ }
+    ensures { λ r. ⌜ TrustedQuestioned (now (index .entry)) (nearestOf (now (point .entry)) k) (now (rows .entry))
+        (now (tally .entry)) r (now (rows .exit)) (now (tally .exit)) ⌝ }
 {
     let what = Criteria { k: k };
-    trusted::question(index, point, what, rows, tally)
+    index_trusted::question(index, point, what, rows, tally)
 }
 
 // Inserts an identifier, which the caller vouches is not live, with its point, without the check.
 #[no_mangle]
 pub extern "C" fn epoch_index_vouched_insert(index: &mut [u8], id: u32, point: &[i16]) -> u32
-    ensures { λ r. ⌜ First (vouchedInsert (now (index .entry)) id (now (point .entry))) r × (now (index .exit) ≡ insertedWith r (now (index .entry)) id (now (point .entry))) ⌝ }
+    ensures { λ r. ⌜ VouchedInserted (now (index .entry)) id (now (point .entry)) r (now (index .exit)) ⌝ }
 {
-    vouched::insert(index, id, point)
+    index_vouched::insert(index, id, point)
 }
 
 // Deletes an identifier with its point, both told by the caller, without the check.
 #[no_mangle]
 pub extern "C" fn epoch_index_vouched_delete(index: &mut [u8], id: u32, point: &[i16]) -> u32
-    ensures { λ r. ⌜ First (vouchedDelete (now (index .entry)) id (now (point .entry))) r × (now (index .exit) ≡ vouchedDeletedWith r (now (index .entry)) id (now (point .entry))) ⌝ }
+    ensures { λ r. ⌜ VouchedDeleted (now (index .entry)) id (now (point .entry)) r (now (index .exit)) ⌝ }
 {
-    vouched::delete(index, id, point)
+    index_vouched::delete(index, id, point)
 }

@@ -1,4 +1,1 @@
-pub mod AskLaws
-pub mod LocalLoans
-pub mod QuestionWalk
 pub mod RuleLaws

@@ -7,9 +7,9 @@ use Rattle.pagestore.specs.declared.Record.{Record}
 use Rattle.tree.specs.Insertion.{insertRecord}
 use Rattle.tree.specs.Deletion.{deleteRecord}
 use Rattle.search.specs.Visit.{Answer as Found}
-use Rattle.index.specs.Asking.{Question}
-use Rattle.index.specs.Refusals.{First, insertRules, deleteRules, questionRules, checkRules, recordOf}
-use Rattle.index.specs.Outcomes.{unlessRefused, insertedWith, deletedWith, foundWith}
+use Rattle.index_query.specs.Asking.{Question}
+use Rattle.index_refusals.specs.Refusals.{First, insertRules, deleteRules, questionRules, checkRules, recordOf}
+use Rattle.index_refusals.specs.Outcomes.{unlessRefused, insertedWith, deletedWith, foundWith}
 
 -- insert an identifier with its point; delete an identifier; ask a question, with n rows lent; check
 pub data Act : Type 0 where

@@ -6,8 +6,8 @@ use mathlib.Core.List.{List, [], _∷_}
 use Prim.Native.Nat.{ℕ}
 use Rattle.lists.specs.Tests.{false-true, by-cases}
 use Rattle.sound_faults.specs.Decidable.{Either, le?, eq?, both?, permitted?, sound-index?}
-use Rattle.index.specs.Asking.{Question}
-use Rattle.index.specs.Refusals.{Rule, First, makeRules, insertRules, deleteRules, questionRules, askedRules, checkRules}
+use Rattle.index_query.specs.Asking.{Question}
+use Rattle.index_refusals.specs.Refusals.{Rule, First, makeRules, insertRules, deleteRules, questionRules, askedRules, checkRules}
 use Rattle.index.specs.Acts.{Act, insert, delete, question, check}
 
 abbrev Decided : List Rule → Type 0

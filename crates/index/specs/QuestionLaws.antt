@@ -1,70 +1,25 @@
--- An outcome of a question, handed over, is the question.
-use mathlib.Core.Path.{_≡_, refl, sym, ap, _∙_, subst}
-use mathlib.Core.Bool.{Bool, true, false}
-use mathlib.Core.List.{List, [], _∷_, _++_}
-use Prim.Native.Nat.{ℕ, zero, suc, _≤_}
-use native.Mathlib.Omega.{arith}
-use lib.Dec.{eqb}
-use lib.ListN.{length, take, drop}
-use lib.Seq.{take-at}
-use borrow.Author.Tests.{ne-eqb}
-use Rattle.lists.specs.Basics.{if}
+-- On a sound index a question without the check is the question; and an outcome of it, handed over, is the question.
+use mathlib.Core.List.{List}
+use Prim.Native.Nat.{ℕ}
+use lib.ListN.{length}
+use Rattle.tree_model.specs.Sound.{SoundIndex}
 use Rattle.search_rows.specs.declared.Row.{Row}
-use Rattle.search_rows.specs.Held.{rowsIn}
-use Rattle.search.specs.Visit.{Answer as Found, found}
 use Rattle.index_answer.specs.declared.Answer.{Answer}
 use Rattle.index_answer.specs.declared.Tally.{Tally}
-use Rattle.index_answer.specs.Tallies.{counted}
-use Rattle.index_answer.specs.Filling.{filled}
-use Rattle.index_answer.specs.FillingLaws.{filled-is}
-use Rattle.index_answer.specs.Delivered.{Delivered, rowsAfter, tallyAfter}
-use Rattle.index.specs.Asking.{Question, sought}
-use Rattle.index.specs.Refusals.{Rule, First, questionRules}
-use Rattle.index.specs.RefusalLaws.{Carried, question-carried}
-use Rattle.index.specs.Outcomes.{unlessRefused, foundWith, nothingFound}
-use Rattle.index.specs.Answers.{Answers}
-use Rattle.index.specs.Questions.{written, Places, QuestionedBy, OutcomeBy, Questioned, QuestionOutcome}
+use Rattle.index_answer.specs.Delivered.{Delivered}
+use Rattle.index_query.specs.Asking.{Question}
+use Rattle.index_query.specs.Answers.{Answers}
+use Rattle.index_refusals.specs.Refusals.{questionRules}
+use Rattle.index_refusals.specs.RefusalLaws.{question-carried}
+use Rattle.index_refusals.specs.TrustedLaws.{question-same}
+use Rattle.index_trusted.specs.Questions.{Places, TrustedOutcome}
+use Rattle.index_trusted.specs.QuestionLaws.{handed-over}
+use Rattle.index.specs.Questions.{QuestionOutcome, Questioned}
 
-module _ (lent : List Row) (ds ts : List ℕ) (c : ℕ) (f : Found) where
-  -- a refused question leaves the rows, one carried out writes those found
-  rows-by : (n : ℕ) → rowsIn ds ts c ≡ unlessRefused n f nothingFound .rows → c ≡ length (unlessRefused n f nothingFound .rows) → (n ≡ 0 → filled ds ts c lent ≡ rowsIn ds ts c ++ drop c lent)
-      → if (eqb n 0) (filled ds ts c lent) lent ≡ written (unlessRefused n f nothingFound .rows) lent
-  rows-by zero rows count h = h refl ∙ (λ i. rows i ++ drop (count i) lent)
-  rows-by (suc n) rows count h = rw (ne-eqb (suc n) 0 (λ (e : suc n ≡ 0). omega arith))
+pub asked-same : (b : List ℕ) → SoundIndex b → (w : Question) (m : ℕ) (ds ts : List ℕ) (r : Answer) → TrustedOutcome b w m ds ts r → QuestionOutcome b w m ds ts r
+asked-same b s w m ds ts r a =
+    record { first = question-same b s w m (r .code) (a .first); few = a .few; count = a .count; leaves = a .leaves; rows = a .rows; carried = λ z. a .carried z s }
 
-tally-by : (n : ℕ) (t u : Tally) → if (eqb n 0) t u ≡ unlessRefused n t u
-tally-by zero t u = refl
-tally-by (suc n) t u = rw (ne-eqb (suc n) 0 (λ (e : suc n ≡ 0). omega arith))
-
-module _ (rules : List Rule) (answers : Found → Type 0) (b : List ℕ) (w : Question) (lent : List Row) (tally : Tally) (ds ts : List ℕ) (o : Answer) (p : Places ds ts) (a : OutcomeBy rules answers b w ds ts o) where
-  -- where it is carried out, there is room for the k rows asked for
-  module _ (room : o .code ≡ 0 → (w .k ≤ 64) × (w .k ≤ length lent)) where
-    pub handed-over : (r : Answer) (lent' : List Row) (tally' : Tally) → Delivered o ds ts lent tally r lent' tally' → QuestionedBy rules answers b w lent tally r lent' tally'
-    handed-over r lent' tally' h =
-        let few : o .count ≤ w .k = a .few in
-        let lent-then : lent' ≡ written (foundWith (o .code) b w .rows) lent =
-        h .filling
-        ∙ rows-by lent ds ts (o .count) (found b (sought w)) (o .code) (a .rows) (a .count) (λ z. let top : w .k ≤ 64 = room z .0 in
-        let most : w .k ≤ length lent = room z .1 in filled-is ds ts (o .count) lent (omega (arith, p .0)) (omega (arith, p .1)) (omega arith)) in
-        let rows-then : rowsIn ds ts (o .count) ≡ take (o .count) lent' =
-        a .rows
-        ∙ sym (ap (take (o .count)) lent-then ∙ take-at (foundWith (o .code) b w .rows) (drop (length (foundWith (o .code) b w .rows)) lent) (o .count) (sym (a .count))) in
-        subst (λ (x : Answer). QuestionedBy rules answers b w lent tally x lent' tally') (sym (h .same))
-        (record {
-          first = a .first;
-          count = a .count;
-          leaves = a .leaves;
-          rows = lent-then;
-          tallying = h .count ∙ tally-by (o .code) (counted tally (o .leaves)) tally;
-          carried = λ z. subst (λ (xs : List Row). answers (record { rows = xs; leaves = o .leaves })) rows-then (a .carried z);
-        })
-
--- the act's: where it is carried out, its rules leave room
-module _ (b : List ℕ) (w : Question) (lent : List Row) (tally : Tally) (ds ts : List ℕ) (o : Answer) where
-  room : First (questionRules b w (length lent)) (o .code) → o .code ≡ 0 → (w .k ≤ 64) × (w .k ≤ length lent)
-  room f z =
-      let c = question-carried b w (length lent) (subst (First (questionRules b w (length lent))) z f) in (c .most, c .lent)
-
-  pub question-hands : Places ds ts → QuestionOutcome b w (length lent) ds ts o
-      → (r : Answer) (lent' : List Row) (tally' : Tally) → Delivered o ds ts lent tally r lent' tally' → Questioned b w lent tally r lent' tally'
-  question-hands p a = handed-over (questionRules b w (length lent)) (Answers b w) b w lent tally ds ts o p a (room (a .first))
+pub question-hands : (b : List ℕ) (w : Question) (lent : List Row) (tally : Tally) (ds ts : List ℕ) (o : Answer) → Places ds ts → QuestionOutcome b w (length lent) ds ts o
+    → (r : Answer) (lent' : List Row) (tally' : Tally) → Delivered o ds ts lent tally r lent' tally' → Questioned b w lent tally r lent' tally'
+question-hands b w lent tally ds ts o = handed-over (questionRules b w (length lent)) (Answers b w) b w lent tally ds ts o (question-carried b w (length lent))

@@ -1,62 +1,19 @@
 -- The question (01): its number, its rows and count, the rows lent and the tally afterwards.
-use mathlib.Core.Path.{_≡_}
-use mathlib.Core.List.{List, _++_}
-use Prim.Native.Nat.{ℕ, _≤_}
-use lib.ListN.{length, take, drop}
+use mathlib.Core.List.{List}
+use Prim.Native.Nat.{ℕ}
+use lib.ListN.{length}
 use Rattle.search_rows.specs.declared.Row.{Row}
-use Rattle.search_rows.specs.Held.{rowsIn}
-use Rattle.search.specs.Visit.{Answer as Found, found}
 use Rattle.index_answer.specs.declared.Answer.{Answer}
 use Rattle.index_answer.specs.declared.Tally.{Tally}
-use Rattle.index_answer.specs.Tallies.{counted}
-use Rattle.index.specs.Asking.{Question, sought}
-use Rattle.index.specs.Refusals.{Rule, First, questionRules}
-use Rattle.index.specs.Outcomes.{unlessRefused, foundWith}
-use Rattle.index.specs.Answers.{Answers}
+use Rattle.index_query.specs.Asking.{Question}
+use Rattle.index_query.specs.Answers.{Answers}
+use Rattle.index_refusals.specs.Refusals.{questionRules}
+use Rattle.index_trusted.specs.Questions.{QuestionedBy, OutcomeBy}
 
--- rows lent, once these rows have been returned in them: rows past those keep their contents
-abbrev pub written : List Row → List Row → List Row
-written rows lent = rows ++ drop (length rows) lent
-
--- What the question w on index b returns and leaves, by its rules. lent, tally: the rows lent and the caller's tally before it;
--- answers: what is promised of the rows returned and of the count where it is carried out.
-pub record QuestionedBy (rules : List Rule) (answers : Found → Type 0) (b : List ℕ) (w : Question) (lent : List Row) (tally : Tally) (r : Answer) (lent' : List Row) (tally' : Tally) : Type 0 where
-  pub first : First rules (r .code)
-  pub count : r .count ≡ length (foundWith (r .code) b w .rows)
-  pub leaves : r .leaves ≡ foundWith (r .code) b w .leaves
-  pub rows : lent' ≡ written (foundWith (r .code) b w .rows) lent
-  pub tallying : tally' ≡ unlessRefused (r .code) (counted tally (r .leaves)) tally
-  pub carried : r .code ≡ 0 → answers (record { rows = take (r .count) lent'; leaves = r .leaves })
-
--- two arrays have places for the rows of any question that is carried out
-abbrev pub Places : List ℕ → List ℕ → Type 0
-Places distances tags = (64 ≤ length distances) × (64 ≤ length tags)
-
--- the same before it is handed over: the answer r, and its rows in two arrays
-pub record OutcomeBy (rules : List Rule) (answers : Found → Type 0) (b : List ℕ) (w : Question) (distances tags : List ℕ) (r : Answer) : Type 0 where
-  pub first : First rules (r .code)
-  pub few : r .count ≤ w .k
-  pub count : r .count ≡ length (foundWith (r .code) b w .rows)
-  pub leaves : r .leaves ≡ foundWith (r .code) b w .leaves
-  pub rows : rowsIn distances tags (r .count) ≡ foundWith (r .code) b w .rows
-  pub carried : r .code ≡ 0 → answers (record { rows = rowsIn distances tags (r .count); leaves = r .leaves })
-
--- The act: its rules are the table's, and where it is carried out, the rows are the k nearest of the live records and the count is that of demand 3's set.
+-- Its rules are the table's, and where it is carried out, the rows are the k nearest of the live records and the count is that of demand 3's set.
 abbrev pub Questioned : List ℕ → Question → List Row → Tally → Answer → List Row → Tally → Type 0
 Questioned b w lent tally r lent' tally' = QuestionedBy (questionRules b w (length lent)) (Answers b w) b w lent tally r lent' tally'
 
 -- and before it is handed over, with n rows lent
 abbrev pub QuestionOutcome : List ℕ → Question → ℕ → List ℕ → List ℕ → Answer → Type 0
 QuestionOutcome b w n distances tags r = OutcomeBy (questionRules b w n) (Answers b w) b w distances tags r
-
--- refused with the number n: 0 rows, 0 leaves
-pub record Refused (n : ℕ) (r : Answer) : Type 0 where
-  pub code : r .code ≡ n
-  pub count : r .count ≡ 0
-  pub leaves : r .leaves ≡ 0
-
--- carried out: the rows and the count are the search's
-pub record Answered (b : List ℕ) (w : Question) (distances tags : List ℕ) (r : Answer) : Type 0 where
-  pub code : r .code ≡ 0
-  pub few : r .count ≤ w .k
-  pub same : record { rows = rowsIn distances tags (r .count); leaves = r .leaves } ≡ found b (sought w)

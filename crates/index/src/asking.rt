@@ -1,14 +1,15 @@
 // The question: the k nearest of a point, in lent rows, with the caller's tally.
-ghost use Rattle.index.specs.Asking.{questionOf};
-ghost use Rattle.index.specs.Questions.{Places, QuestionOutcome, Questioned};
-use crate::Criteria;
+ghost use Rattle.index_query.specs.Asking.{questionOf};
+ghost use Rattle.index_trusted.specs.Questions.{Places};
+ghost use Rattle.index.specs.Questions.{QuestionOutcome, Questioned};
 use crate::Returned;
 use crate::checking::refuse_index;
-use crate::refusing::refused;
-use crate::trusted;
 use index_answer::Answer;
 use index_answer::Tally;
 use index_answer::deliver;
+use index_query::Criteria;
+use index_query::MAX_ROWS;
+use index_trusted::refused;
 use search_rows::Row;
 
 // A question before it is handed over, with so many rows lent: its rows, as distances and tags, go to two arrays.
@@ -21,13 +22,14 @@ pub fn question_outcome(
     tags: &mut [u64],
 ) -> Answer
     requires { ⌜ Places (now distances) (now tags) ⌝ }
-    ensures { λ r. ⌜ QuestionOutcome (now (index .entry)) (questionOf (now (point .entry)) what) lent (now (distances .exit)) (now (tags .exit)) r ⌝ }
+    ensures { λ r. ⌜ QuestionOutcome (now (index .entry)) (questionOf (now (point .entry)) what) lent
+        (now (distances .exit)) (now (tags .exit)) r ⌝ }
 {
     let code = refuse_index(index);
     if code != 0 {
         return refused(code);
     }
-    trusted::question_outcome(index, point, what, lent, distances, tags)
+    index_trusted::question_outcome(index, point, what, lent, distances, tags)
 }
 
 // The question for the nearest records of a point: its rows go to those lent, and the caller's tally counts it.
@@ -38,16 +40,23 @@ pub fn question(
     rows: &mut [Row],
     tally: &mut Tally,
 ) -> Answer
-    ensures { λ r. ⌜ Questioned (now (index .entry)) (questionOf (now (point .entry)) what) (now (rows .entry)) (now (tally .entry)) r (now (rows .exit)) (now (tally .exit)) ⌝ }
+    ensures { λ r. ⌜ Questioned (now (index .entry)) (questionOf (now (point .entry)) what)
+        (now (rows .entry)) (now (tally .entry)) r (now (rows .exit)) (now (tally .exit)) ⌝ }
 {
-    let mut distances = [0u64; 64];
-    let mut tags = [0u64; 64];
+    let mut distances = [0u64; MAX_ROWS];
+    let mut tags = [0u64; MAX_ROWS];
     let answer = question_outcome(index, point, what, rows.len(), &mut distances, &mut tags);
     deliver(rows, tally, answer, &distances, &tags)
 }
 
 // The question for callers that hold 64 rows and a tally by value.
-pub fn ask(index: &[u8], point: &[i16], what: Criteria, rows: [Row; 64], tally: Tally) -> Returned
+pub fn ask(
+    index: &[u8],
+    point: &[i16],
+    what: Criteria,
+    rows: [Row; MAX_ROWS],
+    tally: Tally,
+) -> Returned
     ensures { λ r. ⌜ Questioned (now (index .entry)) (questionOf (now (point .entry)) what) rows tally (r .answer) (r .rows) (r .tally) ⌝ }
 {
     let mut kept = rows;

@@ -1,6 +1,6 @@
 -- Rows and tally after a question (01): filled and counted where it is carried out; refused, it leaves both as they were.
 use mathlib.Core.Path.{_≡_}
-use mathlib.Core.Bool.{Bool, true, false}
+use mathlib.Core.Bool.{Bool}
 use mathlib.Core.List.{List}
 use Prim.Native.Nat.{ℕ}
 use lib.Dec.{eqb}

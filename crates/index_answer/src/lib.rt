@@ -1,4 +1,4 @@
-// What a caller lends to a question: a run of rows, and a tally. Both are changed by thin functions over covered ones.
+// What a caller lends to a question: a run of rows, and a tally. Both are changed by thin functions; the rest works on values and shared slices.
 ghost use mathlib.Core.Path.{_≡_};
 ghost use Prim.Native.Nat.{_<_, min};
 ghost use lib.ListN.{length};
@@ -15,15 +15,14 @@ pub struct Tally {
     pub leaves: u32,
 }
 
-// The sum, or 4,294,967,295 where it would pass that.
+// A count of a tally stays here once it would pass it.
+const MAX_COUNT: u32 = 4294967295;
+
+// The sum, or the greatest count where it would pass that.
 fn saturating_add(a: u32, b: u32) -> u32
     ensures { λ r. ⌜ r ≡ saturated a b ⌝ }
 {
-    if a <= 4294967295 - b {
-        a + b
-    } else {
-        4294967295
-    }
+    if a <= MAX_COUNT - b { a + b } else { MAX_COUNT }
 }
 
 // The tally after one more question that read some leaves.
@@ -99,7 +98,8 @@ pub fn deliver(
     distances: &[u64],
     tags: &[u64],
 ) -> Answer
-    ensures { λ r. ⌜ Delivered answer (now (distances .entry)) (now (tags .entry)) (now (rows .entry)) (now (tally .entry)) r (now (rows .exit)) (now (tally .exit)) ⌝ }
+    ensures { λ r. ⌜ Delivered answer (now (distances .entry)) (now (tags .entry)) (now (rows .entry)) (now (tally .entry))
+        r (now (rows .exit)) (now (tally .exit)) ⌝ }
 {
     if answer.code == 0 {
         fill_rows(rows, distances, tags, answer.count);

@@ -6,17 +6,17 @@ use mathlib.Core.List.{List, _∷_}
 use Prim.Native.Nat.{ℕ}
 use lib.ListN.{length}
 use Rattle.geometry.specs.Stored.{inRange}
-use Rattle.pagestore.specs.Store.{View, viewOf}
+use Rattle.pagestore.specs.Store.{viewOf}
 use Rattle.tree_model.specs.Trees.{leavesOf}
 use Rattle.tree_model.specs.Sound.{SoundIndex}
 use Rattle.search.specs.Questions.{Exchanged, readingOrder, toRead}
 use Rattle.search.specs.Visit.{leavesRead}
-use Rattle.index.specs.Asking.{Question, sought}
-use Rattle.index.specs.AskingLaws.{read-ordered, exchange-same}
-use Rattle.index.specs.Refusals.{First, questionRules, askedRules}
-use Rattle.index.specs.RefusalLaws.{Carried, question-sound, question-carried}
-use Rattle.index.specs.Outcomes.{foundWith}
-use Rattle.index.specs.Answers.{Answers, search-answers}
+use Rattle.index_query.specs.Asking.{Question, sought}
+use Rattle.index_query.specs.AskingLaws.{read-ordered, exchange-same}
+use Rattle.index_refusals.specs.Refusals.{First, badFeatures, badCoordinate, questionRules, askedRules}
+use Rattle.index_refusals.specs.RefusalLaws.{question-sound, question-carried}
+use Rattle.index_refusals.specs.Outcomes.{foundWith}
+use Rattle.index_query.specs.Answers.{Answers, search-answers}
 
 -- ---- A QUESTION CARRIED OUT
 
@@ -38,7 +38,7 @@ module _ (b c : List ℕ) (sb : SoundIndex b) (sc : SoundIndex c) (alike : viewO
   exchange-code m (inl e) = absurd (e .1 (sb .lent))
   exchange-code m (inr (l, inl e)) = absurd (e .1 sb)
   exchange-code m (inr (l, inr (s, rest))) =
-      inr (sc .lent, inr (sc, subst (λ (d : ℕ). First ((3, length (w .point) ≡ d) ∷ (4, inRange (w .point) ≡ true) ∷ askedRules w n) m) (sym alike) rest))
+      inr (sc .lent, inr (sc, subst (λ (d : ℕ). First ((badFeatures, length (w .point) ≡ d) ∷ (badCoordinate, inRange (w .point) ≡ true) ∷ askedRules w n) m) (sym alike) rest))
 
   -- The leaves of b's set have the same records in c, any other leaf the same record number, first key and last key: rows and
   -- count are the same, and the rows are the k nearest of the records that c holds.

@@ -19,10 +19,10 @@ use Rattle.tree_model.specs.Sound.{Permitted}
 use Rattle.search.specs.Examples as search
 use Rattle.search.specs.Examples.{recordNo}
 use Rattle.search.proofs.ExampleLaws as search-laws
-use Rattle.index.specs.Asking.{Question, nearestOf}
-use Rattle.index.specs.Refusals.{First, questionRules}
-use Rattle.index.specs.RefusalLaws.{none-fails, Carried, carried-asked}
-use Rattle.index.specs.Outcomes.{foundWith}
+use Rattle.index_query.specs.Asking.{Question, nearestOf}
+use Rattle.index_refusals.specs.Refusals.{First, questionRules}
+use Rattle.index_refusals.specs.RefusalLaws.{none-fails, Carried, carried-asked}
+use Rattle.index_refusals.specs.Outcomes.{foundWith}
 use Rattle.tree_laws.specs.UpwardExample.{upward, seventeen-sound, seventeen-features, seventeen-leaves}
 
 -- a pyramid, a height or a bound; a question of the index 1..17

@@ -1,7 +1,6 @@
 -- "Inserted and not deleted since", identifier by identifier: after any series on a newly made index an identifier is live just
 -- if the last insert or delete of it that was carried out is an insert.
 use mathlib.Core.Path.{_≡_, refl, sym, ap, _∙_}
-use mathlib.Core.Bool.{Bool, true, false}
 use mathlib.Core.List.{List, [], _∷_, map}
 use Prim.Native.Nat.{ℕ, zero, suc, _+_, _≤_, _<_}
 use native.Mathlib.Omega.{arith}
@@ -12,15 +11,15 @@ use Rattle.lists.specs.Basics.{if, indicator}
 use Rattle.lists.specs.Counts.{mult}
 use Rattle.lists.specs.Tests.{by-cases}
 use Rattle.pagestore.specs.declared.Record.{Record}
-use Rattle.pagestore.specs.Store.{View, viewOf, newIndex}
-use Rattle.tree_model.specs.Trees.{identOf, live}
-use Rattle.tree_model.specs.Sound.{Permitted, SoundIndex}
+use Rattle.pagestore.specs.Store.{newIndex}
+use Rattle.tree_model.specs.Trees.{identOf}
+use Rattle.tree_model.specs.Sound.{Permitted}
 use Rattle.tree.specs.Deletion.{deleteRecord}
 use Rattle.tree_laws.specs.Idents.{ident-ins}
 use Rattle.search.specs.Visit.{Answer as Found}
-use Rattle.index.specs.Refusals.{First, insertRules, deleteRules, recordOf, liveTimes}
-use Rattle.index.specs.RefusalLaws.{all-hold}
-use Rattle.index.specs.Outcomes.{unlessRefused}
+use Rattle.index_refusals.specs.Refusals.{insertRules, deleteRules, recordOf, liveTimes}
+use Rattle.index_refusals.specs.RefusalLaws.{all-hold}
+use Rattle.index_refusals.specs.Outcomes.{unlessRefused}
 use Rattle.index.specs.Acts.{Act, insert, delete, question, check, Done, does, Series, end, next, changedBy, heldAfter, heldBy}
 use Rattle.index_laws.specs.Series.{Stands, act-stands, new-stands, series}
 

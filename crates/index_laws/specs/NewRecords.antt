@@ -1,7 +1,7 @@
 -- The record that an insert brings can be stored and is in range.
 use mathlib.Core.Path.{_≡_, subst}
 use mathlib.Core.Bool.{true}
-use mathlib.Core.List.{List, _++_, map}
+use mathlib.Core.List.{List, map}
 use Prim.Native.Nat.{ℕ, zero, suc, _-_, _^_, _≤_, _<_}
 use native.Mathlib.Omega.{arith}
 use lib.IntN.{ℤ}
@@ -11,8 +11,8 @@ use Rattle.geometry.specs.Stored.{stored, slotsOf, inRange}
 use Rattle.geometry.proofs.StoredLaws.{in-range}
 use Rattle.pagestore.specs.Fits.{RecordFits}
 use Rattle.tree_model.specs.Sound.{RecordOk}
-use Rattle.index.specs.Refusals.{recordOf}
-use Rattle.index.specs.PointLaws.{all-stored, slots-own}
+use Rattle.index_refusals.specs.Refusals.{recordOf}
+use Rattle.index_query.specs.PointLaws.{all-stored, slots-own}
 
 all-zeros : (n : ℕ) → All (λ c. c ≤ 2000) (replicate n 0)
 all-zeros zero = none

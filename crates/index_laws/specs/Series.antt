@@ -1,16 +1,14 @@
 -- series (01, demand 2): after any list of acts on a newly made index, make apart, the index is sound, the live records are those
 -- inserted and not deleted since, and each question returns the k nearest of them with the exact number of leaves.
 use mathlib.Core.Path.{_≡_, refl, sym, ap, subst, _∙_}
-use mathlib.Core.List.{List, [], _∷_, _++_, map}
+use mathlib.Core.List.{List, [], _∷_, _++_}
 use Prim.Native.Nat.{ℕ, zero, suc, _^_, _≤_, _<_}
 use native.Mathlib.Omega.{arith}
 use lib.IntN.{ℤ}
 use lib.ListN.{length}
-use Rattle.lists.specs.Sorting.{count}
-use Rattle.geometry.specs.Stored.{stored}
 use Rattle.pagestore.specs.declared.Record.{Record}
-use Rattle.pagestore.specs.Store.{View, viewOf, newIndex}
-use Rattle.tree_model.specs.Trees.{live, leavesOf}
+use Rattle.pagestore.specs.Store.{viewOf, newIndex}
+use Rattle.tree_model.specs.Trees.{live}
 use Rattle.tree_model.specs.Sound.{Permitted, SoundIndex}
 use Rattle.tree.specs.Insertion.{insertInto, insertRecord}
 use Rattle.tree.specs.Deletion.{deleteFrom, deleteRecord}
@@ -19,13 +17,13 @@ use Rattle.tree_laws.specs.InsertPromises.{MayInsert, insert-sound, insert-live
 use Rattle.tree_laws.specs.DeletePromises.{delete-sound, delete-live, delete-features}
 use Rattle.tree_laws.specs.NewPromises.{new-sound, new-live, new-features}
 use Rattle.search.specs.Visit.{Answer as Found}
-use Rattle.index.specs.Asking.{Question}
-use Rattle.index.specs.Refusals.{First, insertRules, deleteRules, recordOf}
-use Rattle.index.specs.RefusalLaws.{all-hold}
-use Rattle.index.specs.Outcomes.{unlessRefused}
+use Rattle.index_query.specs.Asking.{Question}
+use Rattle.index_refusals.specs.Refusals.{First, insertRules, deleteRules, recordOf}
+use Rattle.index_refusals.specs.RefusalLaws.{all-hold}
+use Rattle.index_refusals.specs.Outcomes.{unlessRefused}
 use Rattle.index.specs.Acts.{Act, insert, delete, question, check, Done, does, Does, Series, end, next, changedBy, heldAfter, heldBy}
 use Rattle.index_laws.specs.NewRecords.{record-fits, record-ok}
-use Rattle.index.specs.Answers.{Answers}
+use Rattle.index_query.specs.Answers.{Answers}
 use Rattle.index_laws.specs.Answers.{question-answers}
 
 -- a sound index of d features whose live records are rs, in key order
@@ -78,6 +76,10 @@ module _ (d : ℕ) (rs : List Record) (b : List ℕ) (s : Stands d rs b) where
   act-stands (question w n) (suc m) f c h = same-stands c (h .2)
   act-stands check zero f c h = same-stands c (h .1)
   act-stands check (suc n) f c h = same-stands c (h .1)
+
+-- an act on a sound index leaves a sound one
+pub sound-after : (b : List ℕ) → SoundIndex b → (a : Act) (code : ℕ) (f : Found) (c : List ℕ) → does a b code f c → SoundIndex c
+sound-after b s a code f c h = act-stands (viewOf b .d) (live (viewOf b)) b (record { sound = s; features = refl; holds = refl }) a code f c h .sound
 
 -- ---- A SERIES
 

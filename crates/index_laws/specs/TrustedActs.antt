@@ -1,27 +1,25 @@
 -- trusted-same: on a sound index a trusted act, which leaves out the check, is the act. So an application that holds its index alone checks
 -- it once: from a sound index on, any series of trusted acts is the series of the acts.
-use mathlib.Core.Path.{_≡_, refl, sym, ap, _∙_, subst}
+use mathlib.Core.Path.{_≡_, sym, ap, _∙_, subst}
 use mathlib.Core.List.{List, [], _∷_}
 use Prim.Native.Nat.{ℕ, _^_, _≤_, _<_}
 use native.Mathlib.Omega.{arith}
 use lib.ListN.{length}
-use Rattle.pagestore.specs.declared.Record.{Record}
-use Rattle.pagestore.specs.Store.{View, viewOf, Field, fieldAt, features, level, newIndex}
-use Rattle.tree_model.specs.Trees.{live}
+use Rattle.pagestore.specs.Store.{viewOf, Field, fieldAt, features, level, newIndex}
 use Rattle.tree_model.specs.Sound.{Permitted, SoundIndex}
 use Rattle.search.specs.Visit.{Answer as Found}
 use Rattle.search.specs.Questions.{AgreeBut, unreadPages}
 use Rattle.search.proofs.SoundLaws.{tree-level}
 use Rattle.search.proofs.Promises.{agree-field}
-use Rattle.index.specs.Asking.{Question, sought}
-use Rattle.index.specs.AskingLaws.{header-read, unread-same}
-use Rattle.index.specs.Refusals.{First, insertRules, deleteRules, questionRules, checkRules}
-use Rattle.index.specs.RefusalLaws.{first-one, none-fails, Carried, carried-asked, question-sound, question-carried}
-use Rattle.index.specs.Outcomes.{insertedWith, deletedWith, foundWith}
-use Rattle.index.specs.Trusted.{Suits, trustedInsert, trustedDelete, trustedQuestion}
-use Rattle.index.specs.TrustedLaws.{insert-same, delete-same, question-same}
+use Rattle.index_query.specs.Asking.{Question, sought}
+use Rattle.index_query.specs.AskingLaws.{header-read, unread-same}
+use Rattle.index_refusals.specs.Refusals.{First, insertRules, deleteRules, questionRules, checkRules}
+use Rattle.index_refusals.specs.RefusalLaws.{first-one, none-fails, Carried, carried-asked, question-sound, question-carried}
+use Rattle.index_refusals.specs.Outcomes.{insertedWith, deletedWith, foundWith}
+use Rattle.index_refusals.specs.Trusted.{Suits, trustedInsert, trustedDelete, trustedQuestion}
+use Rattle.index_refusals.specs.TrustedLaws.{insert-same, delete-same, question-same}
 use Rattle.index.specs.Acts.{Act, insert, delete, question, check, Done, does, Series, end, next, heldBy}
-use Rattle.index_laws.specs.Series.{Stands, act-stands, new-stands, series}
+use Rattle.index_laws.specs.Series.{Stands, sound-after, new-stands, series}
 
 -- what a trusted act on index b returns and leaves, as its contract says; check is the act itself
 abbrev pub trustedDoes : Act → List ℕ → ℕ → Found → List ℕ → Type 0
@@ -60,9 +58,6 @@ module _ (b : List ℕ) (s : SoundIndex b) where
 
   pub question-equal : (w : Question) (l m n : ℕ) (f g : Found) (c e : List ℕ) → trustedDoes (question w l) b m f c → does (question w l) b n g e → f ≡ g
   question-equal w l m n f g c e h k = h .1 ∙ ap (λ (x : ℕ). foundWith x b w) (trusted-equal (question w l) m n f g c e h k .0) ∙ sym (k .1)
-
-  sound-after : (a : Act) (code : ℕ) (f : Found) (c : List ℕ) → does a b code f c → SoundIndex c
-  sound-after a code f c h = act-stands (viewOf b .d) (live (viewOf b)) b (record { sound = s; features = refl; holds = refl }) a code f c h .sound
 
 -- trusted acts done one after the other, from index b to index c
 pub data TrustedSeries : List ℕ → List Done → List ℕ → Type 0 where

@@ -9,18 +9,15 @@ use Prim.Native.Nat.{ℕ, zero, suc, _^_, _≤_, _<_}
 use native.Mathlib.Omega.{arith}
 use lib.IntN.{ℤ}
 use lib.ListN.{length}
-use Rattle.pagestore.specs.Store.{View, viewOf, newIndex}
-use Rattle.tree_model.specs.Trees.{live}
+use Rattle.pagestore.specs.Store.{newIndex}
 use Rattle.tree_model.specs.Sound.{Permitted, SoundIndex}
-use Rattle.search.specs.Visit.{Answer as Found}
-use Rattle.index.specs.Refusals.{First, liveTimes, insertRules, deleteRules}
-use Rattle.index.specs.RefusalLaws.{first-one}
-use Rattle.index.specs.Outcomes.{unlessRefused, insertedWith, deletedWith, nothingFound}
-use Rattle.index.specs.OutcomeLaws.{left-alone}
-use Rattle.index.specs.Vouched.{vouchedInsert, vouchedDelete, vouchedDeletedWith, LiveAt}
-use Rattle.index.specs.VouchedLaws.{insert-vouched, delete-vouched, deleted-vouched, vouched-live, vouched-number}
-use Rattle.index.specs.Acts.{Act, insert, delete, Done, does, Series, end, next, heldBy}
-use Rattle.index_laws.specs.Series.{Stands, act-stands, new-stands, series}
+use Rattle.index_refusals.specs.Refusals.{First, liveTimes, insertRules, deleteRules}
+use Rattle.index_refusals.specs.RefusalLaws.{first-one}
+use Rattle.index_refusals.specs.Outcomes.{unlessRefused, insertedWith, deletedWith, nothingFound}
+use Rattle.index_vouched.specs.Vouched.{vouchedInsert, vouchedDelete, vouchedDeletedWith, LiveAt}
+use Rattle.index_vouched.specs.VouchedLaws.{insert-vouched, delete-vouched, deleted-vouched, vouched-live, vouched-number}
+use Rattle.index.specs.Acts.{insert, delete, Done, does, Series, end, next, heldBy}
+use Rattle.index_laws.specs.Series.{Stands, sound-after, new-stands, series}
 use Rattle.index_laws.specs.TrustedActs.{trustedDoes, trusted-same}
 
 -- what a vouched insert and a vouched delete on index b return and leave, as their contracts say
@@ -74,9 +71,6 @@ pub data VouchedSeries : List ℕ → List Done → List ℕ → Type 0 where
       → VouchedSeries b (record { act = delete i; code = 0; answer = nothingFound } ∷ os) c
   refuses : {b m c : List ℕ} {os : List Done} (i : ℕ) (p : List ℤ) (code : ℕ) → vouchedDeletes b i p (suc code) m → VouchedSeries m os c → VouchedSeries b os c
   trusts : {b m c : List ℕ} {o : Done} {os : List Done} → trustedDoes (o .act) b (o .code) (o .answer) m → VouchedSeries m os c → VouchedSeries b (o ∷ os) c
-
-sound-after : (b : List ℕ) → SoundIndex b → (a : Act) (code : ℕ) (f : Found) (c : List ℕ) → does a b code f c → SoundIndex c
-sound-after b s a code f c h = act-stands (viewOf b .d) (live (viewOf b)) b (record { sound = s; features = refl; holds = refl }) a code f c h .sound
 
 -- vouched-series: from a sound index on they are acts, and the index stays sound
 pub vouched-series : {b c : List ℕ} {os : List Done} → SoundIndex b → VouchedSeries b os c → Series b os c × SoundIndex c

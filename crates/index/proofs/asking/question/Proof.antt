@@ -4,7 +4,7 @@ use denote.Triple.Spec.{tripleOf}
 use denote.Triple.Table.{entered, cited}
 use Rattle.index.specs.Questions.{QuestionOutcome, Questioned}
 use Rattle.index.specs.QuestionLaws.{question-hands}
-use Rattle.index.proofs.QuestionWalk.{question-meets}
+use Rattle.index_trusted.proofs.QuestionMeets.{question-meets}
 use Rattle.index.proofs.asking.question_outcome as core
 use Rattle.index.proofs.asking.question_outcome.Symbol as core-def
 use Rattle.index.proofs.asking.question_outcome.Symbol.{name as #index·question-outcome}

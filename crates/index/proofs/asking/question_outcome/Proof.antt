@@ -1,12 +1,12 @@
 -- `index::asking::question_outcome` meets its contract: on an index that passes the check the trusted question is the act. Assumes nothing.
 use denote.Ref.{now}
 use borrow.Author.Needs.{needs}
-use Rattle.index.specs.Asking.{questionOf}
-use Rattle.index.specs.Refusals.{questionRules}
-use Rattle.index.specs.Answers.{Answers}
-use Rattle.index.specs.TrustedLaws.{asked-same}
+use Rattle.index_query.specs.Asking.{questionOf}
+use Rattle.index_refusals.specs.Refusals.{questionRules}
+use Rattle.index_query.specs.Answers.{Answers}
+use Rattle.index.specs.QuestionLaws.{asked-same}
 use Rattle.index.proofs.RuleLaws.{checked-sound, question-unsound}
-use Rattle.index.proofs.AskLaws.{asked-refused}
+use Rattle.index_trusted.proofs.AskLaws.{asked-refused}
 use Rattle.index.proofs.asking.question_outcome.Statement.{statement}
 use Rattle.index.proofs.asking.question_outcome.Tie as tie
 

@@ -1,7 +1,7 @@
 -- `index::check` meets its contract. Assumes nothing.
 use borrow.Author.Needs.{needs}
 use borrow.Author.Tests.{not-true, not-false}
-use Rattle.index.specs.OutcomeLaws.{when, unless}
+use Rattle.index_refusals.specs.OutcomeLaws.{when, unless}
 use Rattle.index.specs.CheckAnswers.{check-one, check-passes}
 use Rattle.index.proofs.checking.check.Statement.{statement}
 use Rattle.index.proofs.checking.check.Tie as tie

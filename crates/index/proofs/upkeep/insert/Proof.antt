@@ -2,8 +2,8 @@
 use denote.Ref.{now}
 use borrow.Author.Needs.{needs}
 use mathlib.Core.Path.{refl}
-use Rattle.index.specs.OutcomeLaws.{left-alone}
-use Rattle.index.specs.TrustedLaws.{insert-same}
+use Rattle.index_refusals.specs.OutcomeLaws.{left-alone}
+use Rattle.index_refusals.specs.TrustedLaws.{insert-same}
 use Rattle.index.proofs.RuleLaws.{checked-sound, insert-unsound}
 use Rattle.index.proofs.upkeep.insert.Statement.{statement}
 use Rattle.index.proofs.upkeep.insert.Tie as tie

@@ -1,0 +1,40 @@
+-- `query_of` meets its contract: the point's own slots, laid out with their weights.
+use mathlib.Core.Path.{_≡_, sym}
+use native.Mathlib.Omega.{arith}
+use denote.Ref.{now}
+use lib.ListN.{length, length-take}
+use lib.Seq.{length-take-le}
+use Rattle.index_query.specs.Asking.{questionOf}
+use Rattle.index_query.specs.PointLaws.{query-for}
+use borrow.Author.Needs.{needs}
+use Rattle.lists.specs.Lengths.{unmapped}
+use Rattle.index_query.proofs.query_of.Statement.{statement}
+use Rattle.index_query.proofs.query_of.Tie as tie
+
+slots-of-requires : tie.Need-slots-of-requires
+slots-of-requires c κs = search needs
+
+array-share-prefix-slots : tie.Need-array-share-prefix-slots
+array-share-prefix-slots c = search needs
+
+slice-aggregate-plain-features : tie.Need-slice-aggregate-plain-features
+slice-aggregate-plain-features c = let S = (c .before .before) in let O = (c .before) in
+    let slots : length (O .slots-of .result) ≡ 16 = search (unmapped, needs) in
+    sym (length-take-le (length (now (S .args .point))) (O .slots-of .result) (omega (arith, S .pre .most)))
+
+plain-features-requires : tie.Need-plain-features-requires
+plain-features-requires c κs = let S = (c .before .before) in let O = (c .before) in omega (arith, S .pre .most, length-take (length (now (S .args .point))) (O .slots-of .result))
+
+returns : tie.Need-returns
+returns c = let S = (c .before .before .before) in let O = (c .before .before) in
+    query-for (questionOf (now (S .args .point)) (S .args .what)) (O .slots-of .result) _ (O .slots-of .ensures) (S .pre) (c .plain-features .ensures)
+
+pub query-of-spec : {M : Type 1} → statement M
+query-of-spec =
+    tie.close
+    (tie.spec
+    slots-of-requires
+    array-share-prefix-slots
+    slice-aggregate-plain-features
+    plain-features-requires
+    returns)

@@ -1,0 +1,55 @@
+-- What it means that a question is answered: demands 2 and 3, of the live records and the leaves of a sound index.
+use mathlib.Core.Path.{_≡_, ap}
+use mathlib.Core.Bool.{true}
+use mathlib.Core.List.{List, map}
+use Prim.Native.Nat.{ℕ, _≤_}
+use lib.ListN.{length}
+use Rattle.lists.specs.Basics.{All}
+use Rattle.lists.specs.Sorting.{count}
+use lib.IntN.{ℤ}
+use Rattle.geometry.specs.Points.{distance}
+use Rattle.geometry.specs.Features.{distTo}
+use Rattle.geometry.proofs.SliceLaws.{plain-distance}
+use Rattle.pagestore.specs.declared.Record.{Record}
+use Rattle.pagestore.specs.Store.{viewOf}
+use Rattle.tree_model.specs.Trees.{pointIn, live, leavesOf}
+use Rattle.tree_model.specs.Sound.{SoundIndex}
+use Rattle.search_theory.specs.Nearest.{nearest}
+use Rattle.search.specs.Asked.{distanceTo}
+use Rattle.search.specs.Visit.{Answer as Found, ranking, found}
+use Rattle.search.specs.Questions.{liveCandidates, Called, rowsOf, toRead}
+use Rattle.index_query.specs.Asking.{Question, sought, bare, bareOf}
+use Rattle.index_query.specs.AskingLaws.{all-live, plain-gap, live-rows, called-for, sought-exact}
+
+-- f answers the question w on index b
+pub record Answers (b : List ℕ) (w : Question) (f : Found) : Type 0 where
+  -- the k nearest of the rows of the live candidates, by distance and then by identifier, or all of them if there are fewer
+  pub rows : f .rows ≡ nearest ranking (w .k) (rowsOf (viewOf b) (sought w))
+  -- these are one for each live record that is looked for, with its distance from what is asked
+  pub each : map bare (rowsOf (viewOf b) (sought w)) ≡ map (bareOf w) (liveCandidates (viewOf b) (sought w))
+  -- each live record is looked for, and its distance is the squared distance from the point, as is that of any point of the grid
+  pub all : liveCandidates (viewOf b) (sought w) ≡ live (viewOf b)
+  pub squared : (r : Record) → distanceTo (sought w) r ≡ distance (w .point) (pointIn (length (w .point)) r)
+  pub grid : (x : List ℤ) → distTo (sought w .features) x ≡ distance (w .point) x
+  -- the number of leaves in demand 3's set
+  pub leaves : f .leaves ≡ count (toRead (viewOf b) (sought w)) (leavesOf (viewOf b))
+  -- these are the leaves holding records whose span has a grid point in range no farther from the point than the last row, or all of them when fewer than k candidates live
+  pub set : All (λ t. (toRead (viewOf b) (sought w) t ≡ true → Called (viewOf b) (sought w) t) × (Called (viewOf b) (sought w) t → toRead (viewOf b) (sought w) t ≡ true)) (leavesOf (viewOf b))
+
+-- where nothing is known of the index: it does if the index is sound
+abbrev pub AnswersIfSound : List ℕ → Question → Found → Type 0
+AnswersIfSound b w f = SoundIndex b → Answers b w f
+
+-- what the search finds on a sound index of as many features as the point has coordinates
+pub search-answers : (b : List ℕ) → SoundIndex b → (w : Question) → length (w .point) ≡ viewOf b .d → 1 ≤ w .k → Answers b w (found b (sought w))
+search-answers b s w d one =
+    let e = sought-exact b s w d one in
+    record {
+      rows = ap (λ (f : Found). f .rows) e;
+      each = live-rows w (viewOf b);
+      all = all-live w (viewOf b);
+      squared = plain-gap w;
+      grid = plain-distance (w .point);
+      leaves = ap (λ (f : Found). f .leaves) e;
+      set = called-for b s w d;
+    }

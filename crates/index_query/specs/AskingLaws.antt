@@ -1,0 +1,86 @@
+-- The search's promises, of a question.
+use mathlib.Core.Path.{_≡_, refl, sym, ap, ap₂, _∙_}
+use mathlib.Core.Bool.{true}
+use mathlib.Core.List.{List, [], _∷_, _++_, map}
+use Prim.Native.Nat.{ℕ, suc, _≤_}
+use lib.ListN.{length}
+use Rattle.lists.specs.Basics.{All, concatMap}
+use Rattle.lists.specs.Counts.{mult}
+use Rattle.lists.specs.Sorting.{count, filter}
+use Rattle.lists.specs.SortingLaws.{filter-append}
+use Rattle.lists.specs.ConcatMapLaws.{map-append}
+use Rattle.geometry.specs.Points.{distance}
+use Rattle.geometry.specs.Features.{plain}
+use Rattle.geometry.proofs.SliceLaws.{plain-distance, plain-length}
+use Rattle.pagestore.specs.declared.Record.{Record}
+use Rattle.pagestore.specs.Store.{View, viewOf}
+use Rattle.tree_model.specs.Trees.{Item, leaves, treeOf, live, leavesOf, pointIn}
+use Rattle.tree_model.specs.Sound.{SoundIndex}
+use Rattle.search_theory.specs.Nearest.{nearest}
+use Rattle.search.specs.Asked.{distanceTo, candidate, Askable}
+use Rattle.search.specs.Branches.{rowOf, rowsAmong}
+use Rattle.search.specs.Visit.{ranking, found, leavesRead}
+use Rattle.search.specs.Questions.{rowsFrom, rowsOf, liveCandidates, Exchanged, AgreeBut, Called, readingOrder, toRead, unreadPages}
+use Rattle.search.proofs.AskedLaws.{candidates-all, plain-suits}
+use Rattle.search.proofs.SoundLaws.{leafItems, records-leaves}
+use Rattle.search.proofs.Promises.{found-exact, leaves-read, exchange, unread-header, unread-bytes}
+use Rattle.search.proofs.SetLaws.{set-points}
+use Rattle.index_query.specs.Asking.{Question, sought, bare, bareOf}
+
+-- ---- THE ROWS OF THE LIVE RECORDS
+
+module _ (w : Question) where
+  -- no live record is left out
+  pub all-live : (v : View) → liveCandidates v (sought w) ≡ live v
+  all-live v = candidates-all (sought w) (live v)
+
+  -- the squared Euclidean distance: a plain point's
+  pub plain-gap : (r : Record) → distanceTo (sought w) r ≡ distance (w .point) (pointIn (length (w .point)) r)
+  unfolding distanceTo
+  plain-gap r = plain-distance (w .point) (pointIn (length (plain (w .point))) r) ∙ ap (λ (n : ℕ). distance (w .point) (pointIn n r)) (plain-length (w .point))
+
+  bare-leaf : (n : ℕ) (rs : List Record) → map bare (map (rowOf (sought w) n) rs) ≡ map (bareOf w) rs
+  unfolding rowOf
+  bare-leaf n [] = refl
+  bare-leaf n (r ∷ rs) = ap (λ (xs : List (ℕ × ℕ)). bareOf w r ∷ xs) (bare-leaf n rs)
+
+  bare-rows : (n : ℕ) (ts : List (Item 1)) → map bare (rowsFrom (sought w) n ts) ≡ map (bareOf w) (filter (candidate (sought w)) (concatMap leafItems ts))
+  unfolding rowsFrom rowsAmong concatMap filter
+  bare-rows n [] = refl
+  bare-rows n (t ∷ ts) =
+      let c = candidate (sought w) in
+      map-append bare (map (rowOf (sought w) n) (filter c (t .1))) (rowsFrom (sought w) (suc n) ts)
+      ∙ ap₂ (λ (x y : List (ℕ × ℕ)). x ++ y) (bare-leaf n (filter c (t .1))) (bare-rows (suc n) ts)
+      ∙ sym (ap (map (bareOf w)) (filter-append c (t .1) (concatMap leafItems ts)) ∙ map-append (bareOf w) (filter c (t .1)) (filter c (concatMap leafItems ts)))
+
+  pub live-rows : (v : View) → map bare (rowsOf v (sought w)) ≡ map (bareOf w) (liveCandidates v (sought w))
+  unfolding rowsOf leavesOf live
+  live-rows v =
+      bare-rows 0 (leaves (v .level) (treeOf v)) ∙ ap (λ (rs : List Record). map (bareOf w) (filter (candidate (sought w)) rs)) (sym (records-leaves (v .level) (treeOf v)))
+
+-- ---- WHAT THE SEARCH FINDS
+
+-- on a sound index of as many features as the point has coordinates
+module _ (b : List ℕ) (s : SoundIndex b) (w : Question) (d : length (w .point) ≡ viewOf b .d) where
+  suits : Askable (viewOf b .d) (sought w)
+  suits = plain-suits (viewOf b .d) (w .point) (w .k) d
+
+  pub called-for : All (λ t. (toRead (viewOf b) (sought w) t ≡ true → Called (viewOf b) (sought w) t) × (Called (viewOf b) (sought w) t → toRead (viewOf b) (sought w) t ≡ true)) (leavesOf (viewOf b))
+  called-for = set-points b s (sought w) suits
+
+  module _ (one : 1 ≤ w .k) where
+    pub sought-exact : found b (sought w) ≡ record { rows = nearest ranking (w .k) (rowsOf (viewOf b) (sought w)); leaves = count (toRead (viewOf b) (sought w)) (leavesOf (viewOf b)) }
+    sought-exact = found-exact b s (sought w) suits one
+
+    pub read-ordered : leavesRead b (sought w) ≡ readingOrder (viewOf b) (sought w)
+    read-ordered = leaves-read b s (sought w) suits one
+
+    -- the header is on no unread page
+    pub header-read : mult 0 (unreadPages (viewOf b) (sought w)) ≡ 0
+    header-read = unread-header b s (sought w) suits one
+
+    pub unread-same : (c : List ℕ) → AgreeBut (unreadPages (viewOf b) (sought w)) b c → found c (sought w) ≡ found b (sought w)
+    unread-same c agree = unread-bytes b s (sought w) suits one c agree
+
+    pub exchange-same : (c : List ℕ) → SoundIndex c → viewOf c .d ≡ viewOf b .d → Exchanged (viewOf b .d) (toRead (viewOf b) (sought w)) (leavesOf (viewOf b)) (leavesOf (viewOf c)) → found c (sought w) ≡ found b (sought w)
+    exchange-same c t alike x = exchange b c s t (sought w) suits alike one x .0

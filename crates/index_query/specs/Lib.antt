@@ -1,0 +1,4 @@
+pub mod Asking
+pub mod PointLaws
+pub mod AskingLaws
+pub mod Answers

@@ -1,0 +1,87 @@
+-- The first rule that refuses, from the tests of the code.
+use mathlib.Core.Path.{_≡_, refl, _∙_, subst}
+use mathlib.Core.Bool.{Bool, true}
+use mathlib.Core.Logic.{_≢_, inl, inr}
+use mathlib.Core.List.{List, [], _∷_, _++_}
+use Prim.Native.Nat.{ℕ, _≤_, _<_}
+use native.Mathlib.Omega.{arith}
+use lib.IntN.{ℤ}
+use lib.ListN.{length}
+use Rattle.lists.specs.Tests.{three}
+use Rattle.geometry.specs.Stored.{inRange}
+use Rattle.pagestore.specs.Store.{viewOf, fieldAt, features, total}
+use Rattle.index_query.specs.Asking.{Question}
+use Rattle.index_refusals.specs.Refusals.{Rule, First, zeroId, askedRules}
+use Rattle.index_refusals.specs.RefusalLaws.{Hold, numbered, all-hold, refused-before, refused-after, later}
+use Rattle.index_refusals.specs.Outcomes.{Decides}
+use Rattle.index_refusals.specs.Trusted.{Suits, trustedPoint, trustedInsert, trustedQuestion, pairRules}
+
+-- ---- THE HEADER'S FIELDS
+
+pub features-view : (b : List ℕ) → fieldAt features b ≡ viewOf b .d
+unfolding viewOf
+features-view b = refl
+
+-- whether a point suits an index, by the features read from its header
+pub suits-view : (b : List ℕ) (p : List ℤ) (d : ℕ) (t : Bool) → d ≡ fieldAt features b → Decides ((1 ≤ length p) × (length p ≤ 16) × (length p ≡ d)) t → Decides (Suits b p) t
+suits-view b p d t e h = subst (λ (x : ℕ). Decides ((1 ≤ length p) × (length p ≤ 16) × (length p ≡ x)) t) (e ∙ features-view b) h
+
+pub total-view : (b : List ℕ) → fieldAt total b ≡ viewOf b .total
+unfolding viewOf
+total-view b = refl
+
+-- ---- NUMBERS
+
+pub not-below : (m n : ℕ) → ¬ (m < n) → n ≤ m
+not-below m n w = three m n (λ l. absurd (w l)) (λ e. omega (arith, e)) (λ g. omega (arith, g))
+
+-- ---- RULES OF WHICH NONE REFUSES
+
+pub none-refuses : (rules : List Rule) (n : ℕ) → numbered rules ≡ true → First rules n → n ≡ 0 → Hold rules
+none-refuses rules n w f e = all-hold rules w (subst (First rules) e f)
+
+-- ---- THE POINT
+
+module _ (b : List ℕ) (p : List ℤ) (n : ℕ) (f : First (trustedPoint b p) n) where
+  module _ (i : ℕ) where
+    pub pair-point : n ≢ 0 → First (pairRules b i p) n
+    pair-point w = refused-before (trustedPoint b p) ((zeroId, 1 ≤ i) ∷ []) n w f
+
+    pairs : n ≡ 0 → (m : ℕ) → First ((zeroId, 1 ≤ i) ∷ []) m → First (pairRules b i p) m
+    pairs e m g = refused-after (trustedPoint b p) ((zeroId, 1 ≤ i) ∷ []) m (none-refuses (trustedPoint b p) n refl f e) g
+
+    pub pair-zero : n ≡ 0 → i ≡ 0 → First (pairRules b i p) zeroId
+    pair-zero e z = pairs e zeroId (inl (refl, λ (l : 1 ≤ i). omega (arith, z)))
+
+    pub pair-some : n ≡ 0 → i ≢ 0 → First (pairRules b i p) 0
+    pair-some e w = pairs e 0 (inr (omega (arith, w), refl))
+
+-- ---- THE QUESTION
+
+module _ (b : List ℕ) (w : Question) (lent n : ℕ) (f : First (trustedPoint b (w .point)) n) where
+  pub question-point : n ≢ 0 → First (trustedQuestion b w lent) n
+  question-point z = refused-before (trustedPoint b (w .point)) (askedRules w lent) n z f
+
+  pub question-further : n ≡ 0 → (m : ℕ) → First (askedRules w lent) m → First (trustedQuestion b w lent) m
+  question-further e m g = refused-after (trustedPoint b (w .point)) (askedRules w lent) m (none-refuses (trustedPoint b (w .point)) n refl f e) g
+
+-- ---- THE IDENTIFIER AND ITS POINT
+
+module _ (b : List ℕ) (i : ℕ) (p : List ℤ) (n : ℕ) (f : First (pairRules b i p) n) where
+  pub pair-refuses : (rest : List Rule) → n ≢ 0 → First (pairRules b i p ++ rest) n
+  pair-refuses rest w = refused-before (pairRules b i p) rest n w f
+
+  module _ (e : n ≡ 0) where
+    pub pair-passes : (rest : List Rule) (m : ℕ) → First rest m → First (pairRules b i p ++ rest) m
+    pair-passes rest m g = refused-after (pairRules b i p) rest m (none-refuses (pairRules b i p) n refl f e) g
+
+    pub pair-ident : 1 ≤ i
+    pair-ident = none-refuses (pairRules b i p) n refl f e .1 .1 .1 .1 .0
+
+-- what passes them has a record, whatever rules follow
+pub pair-fits : (b : List ℕ) (i : ℕ) (p : List ℤ) (rest : List Rule) → numbered rest ≡ true → (n : ℕ) → First (pairRules b i p ++ rest) n → n ≡ 0 → (length p ≤ 16) × (inRange p ≡ true)
+pair-fits b i p rest w n f e = let h = none-refuses (pairRules b i p ++ rest) n w f e in (h .1 .1 .0 .1, h .1 .1 .1 .0)
+
+-- the rules of an insert that follow them
+abbrev pub ofInsert : List ℕ → ℕ → List ℤ → List Rule
+ofInsert b i p = later (later (later (later (later (trustedInsert b i p)))))

@@ -1,0 +1,43 @@
+-- `index_refusals::refuse_question` meets its contract: each return names the first condition that fails. Assumes nothing.
+use denote.Ref.{now}
+use borrow.Author.Needs.{needs}
+use mathlib.Core.Path.{refl}
+use mathlib.Core.Logic.{inl, inr}
+use Prim.Native.Nat.{_≤_}
+use native.Mathlib.Omega.{arith}
+use Rattle.index_query.specs.Asking.{questionOf}
+use Rattle.index_refusals.specs.Refusals.{badK, fewRows}
+use Rattle.index_refusals.proofs.RuleLaws.{question-point, question-further}
+use Rattle.index_refusals.proofs.refuse_question.Statement.{statement}
+use Rattle.index_refusals.proofs.refuse_question.Tie as tie
+
+refuse-point-requires : tie.Need-refuse-point-requires
+refuse-point-requires c κs = search needs
+
+returns : tie.Need-returns
+returns c =
+    let a = c .before .before .before .args in question-point (now (a .index)) (questionOf (now (a .point)) (a .what)) (a .lent) _ (c .before .refuse-point .ensures) (c .if1 .taken)
+
+returns-2 : tie.Need-returns-2
+returns-2 c =
+    let a = c .before .before .before .before .before .args in
+    question-further (now (a .index)) (questionOf (now (a .point)) (a .what)) (a .lent) _ (c .before .before .before .refuse-point .ensures) (c .before .before .if1 .left) badK (inl (refl, λ h. let l : 1 ≤ a .what .k = h .0 in omega arith))
+
+returns-3 : tie.Need-returns-3
+returns-3 c =
+    let a = c .before .before .before .before .before .before .before .args in
+    question-further (now (a .index)) (questionOf (now (a .point)) (a .what)) (a .lent) _ (c .before .before .before .before .before .refuse-point .ensures) (c .before .before .before .before .if1 .left) badK (inl (refl, λ h. let l : a .what .k ≤ 64 = h .1 in omega arith))
+
+returns-4 : tie.Need-returns-4
+returns-4 c =
+    let a = c .before .before .before .before .before .before .before .before .before .args in
+    question-further (now (a .index)) (questionOf (now (a .point)) (a .what)) (a .lent) _ (c .before .before .before .before .before .before .before .refuse-point .ensures) (c .before .before .before .before .before .before .if1 .left) fewRows (inr ((omega arith, omega arith), inl (refl, λ (l : a .what .k ≤ a .lent). omega arith)))
+
+returns-5 : tie.Need-returns-5
+returns-5 c =
+    let a = c .before .before .before .before .before .before .before .before .before .args in
+    question-further (now (a .index)) (questionOf (now (a .point)) (a .what)) (a .lent) _ (c .before .before .before .before .before .before .before .refuse-point .ensures) (c .before .before .before .before .before .before .if1 .left) 0 (inr ((omega arith, omega arith), inr (omega arith, refl)))
+
+pub refuse-question-spec : {M : Type 1} → statement M
+refuse-question-spec =
+    tie.close (tie.spec refuse-point-requires returns returns-2 returns-3 returns-4 returns-5)

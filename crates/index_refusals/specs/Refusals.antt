@@ -1,0 +1,134 @@
+-- The refusal table (01): for each act its numbers in their order, each with what has to hold or else that number is returned.
+-- Laid beside the table: a number's condition says the contrary of "given when".
+use mathlib.Core.Path.{_≡_}
+use mathlib.Core.Bool.{true}
+use mathlib.Core.Logic.{_⊎_}
+use mathlib.Core.List.{List, [], _∷_, map}
+use Prim.Native.Nat.{ℕ, _≤_, _<_}
+use lib.Dec.{eqb}
+use lib.IntN.{ℤ}
+use lib.ListN.{length}
+use Rattle.lists.specs.Counts.{mult}
+use Rattle.lists.specs.Sorting.{count}
+use Rattle.geometry.specs.Stored.{slotsOf, inRange}
+use Rattle.pagestore.specs.declared.Record.{Record}
+use Rattle.pagestore.specs.Store.{viewOf, freeAt}
+use Rattle.tree_model.specs.Trees.{identOf, live}
+use Rattle.tree_model.specs.Sound.{Permitted, SoundIndex}
+use Rattle.tree.specs.Insertion.{pagesWanted}
+use Rattle.tree_laws.specs.DeletePromises.{deleteIdent}
+use Rattle.tree_laws.specs.SpacePromises.{treePages}
+use Rattle.index_query.specs.Asking.{Question, maxFeatures, maxRows}
+
+-- a number with its condition
+abbrev pub Rule : Type 1
+Rule = ℕ × Type 0
+
+-- n is the number of the first rule whose condition fails, or 0 where none fails
+abbrev pub First : List Rule → ℕ → Type 0
+First [] n = n ≡ 0
+First (rule ∷ rules) n = ((n ≡ rule .0) × ¬ (rule .1)) ⊎ ((rule .1) × First rules n)
+
+-- the record that an insert brings: its identifier, and its point as it is stored
+abbrev pub recordOf : ℕ → List ℤ → Record
+recordOf i p = record { id = i; coords = slotsOf p }
+
+-- how often the identifier i is live: once or not at all
+abbrev pub liveTimes : List ℕ → ℕ → ℕ
+liveTimes b i = mult i (map identOf (live (viewOf b)))
+
+-- how many pages the delete of identifier i takes for rebalancing out: those in the tree afterwards that are not in it before
+unfoldable pub pagesToRebalance : List ℕ → ℕ → ℕ
+pagesToRebalance b i = count (λ p. eqb (mult p (treePages b)) 0) (treePages (deleteIdent b i))
+
+-- the numbers, by the words of include/epoch_index.h
+
+abbrev pub badLength : ℕ
+badLength = 1
+
+abbrev pub unsound : ℕ
+unsound = 2
+
+abbrev pub badFeatures : ℕ
+badFeatures = 3
+
+abbrev pub badCoordinate : ℕ
+badCoordinate = 4
+
+abbrev pub zeroId : ℕ
+zeroId = 5
+
+abbrev pub alreadyLive : ℕ
+alreadyLive = 6
+
+abbrev pub notLive : ℕ
+notLive = 7
+
+abbrev pub full : ℕ
+full = 8
+
+abbrev pub noPages : ℕ
+noPages = 9
+
+abbrev pub badK : ℕ
+badK = 10
+
+abbrev pub fewRows : ℕ
+fewRows = 11
+
+abbrev pub noPageToEven : ℕ
+noPageToEven = 12
+
+-- the most points of an index
+abbrev pub maxPoints : ℕ
+maxPoints = 65535
+
+-- b: the bytes lent. d: features. i: an identifier. p: a point. w: a question. n: rows lent.
+
+abbrev pub makeRules : ℕ → ℕ → List Rule
+makeRules bytes d =
+    (badLength, Permitted bytes)
+    ∷ (badFeatures, (1 ≤ d) × (d ≤ maxFeatures))
+    ∷ []
+
+abbrev pub insertRules : List ℕ → ℕ → List ℤ → List Rule
+insertRules b i p =
+    (badLength, Permitted (length b))
+    ∷ (unsound, SoundIndex b)
+    ∷ (badFeatures, length p ≡ viewOf b .d)
+    ∷ (badCoordinate, inRange p ≡ true)
+    ∷ (zeroId, 1 ≤ i)
+    ∷ (alreadyLive, liveTimes b i ≡ 0)
+    ∷ (full, length (live (viewOf b)) < maxPoints)
+    ∷ (noPages, pagesWanted b (recordOf i p) ≤ length (freeAt b))
+    ∷ []
+
+abbrev pub deleteRules : List ℕ → ℕ → List Rule
+deleteRules b i =
+    (badLength, Permitted (length b))
+    ∷ (unsound, SoundIndex b)
+    ∷ (zeroId, 1 ≤ i)
+    ∷ (notLive, 0 < liveTimes b i)
+    ∷ (noPageToEven, pagesToRebalance b i ≤ length (freeAt b))
+    ∷ []
+
+-- those of a question that look at no index and not at its point
+abbrev pub askedRules : Question → ℕ → List Rule
+askedRules w n =
+    (badK, (1 ≤ w .k) × (w .k ≤ maxRows))
+    ∷ (fewRows, w .k ≤ n)
+    ∷ []
+
+abbrev pub questionRules : List ℕ → Question → ℕ → List Rule
+questionRules b w n =
+    (badLength, Permitted (length b))
+    ∷ (unsound, SoundIndex b)
+    ∷ (badFeatures, length (w .point) ≡ viewOf b .d)
+    ∷ (badCoordinate, inRange (w .point) ≡ true)
+    ∷ askedRules w n
+
+abbrev pub checkRules : List ℕ → List Rule
+checkRules b =
+    (badLength, Permitted (length b))
+    ∷ (unsound, SoundIndex b)
+    ∷ []

@@ -1,0 +1,86 @@
+-- The acts without the check, for an index that the caller knows to be sound: the act's numbers in its order.
+-- Nothing is known of the bytes here, so some conditions are other ones. 2 asks for the part of soundness that is tested without a look at the pages:
+-- the header's level is one that a sound index can have, and an identifier is looked for along at most 16 ^ 4 paths. 3 asks for d too (01: "d, or the
+-- number of coordinates, is wrong"), and 6, 7 and 8 go by what finding an identifier gives and by the header's total. 12 is left out: which pages
+-- a delete takes is known of sound indexes alone, and there it takes none.
+-- On a sound index each rule is the act's (TrustedLaws).
+use mathlib.Core.Path.{_≡_}
+use mathlib.Core.Bool.{true}
+use mathlib.Core.Logic.{_≢_}
+use mathlib.Core.List.{List, [], _∷_}
+use Prim.Native.Nat.{ℕ, _≤_, _<_}
+use lib.IntN.{ℤ}
+use lib.ListN.{length}
+use Rattle.geometry.specs.Stored.{inRange}
+use Rattle.pagestore.specs.Store.{viewOf, fieldAt, level, freeAt}
+use Rattle.tree_model.specs.Sound.{Permitted}
+use Rattle.tree.specs.Insertion.{pagesWanted}
+use Rattle.tree.specs.Lookup.{findIn}
+use Rattle.index_query.specs.Asking.{Question, maxFeatures}
+use Rattle.index_refusals.specs.Refusals.{Rule, maxPoints, recordOf, askedRules, badLength, unsound, badFeatures, badCoordinate, zeroId, alreadyLive, notLive, full, noPages}
+
+-- the highest level of a root: 65,535 records fill no more
+abbrev pub maxLevel : ℕ
+maxLevel = 4
+
+-- the point p has as many coordinates as the index b has features: 1 to 16
+abbrev pub Suits : List ℕ → List ℤ → Type 0
+Suits b p = (1 ≤ length p) × (length p ≤ maxFeatures) × (length p ≡ viewOf b .d)
+
+abbrev pub trustedInsert : List ℕ → ℕ → List ℤ → List Rule
+trustedInsert b i p =
+    (badLength, Permitted (length b))
+    ∷ (unsound, fieldAt level b ≤ maxLevel)
+    ∷ (badFeatures, Suits b p)
+    ∷ (badCoordinate, inRange p ≡ true)
+    ∷ (zeroId, 1 ≤ i)
+    ∷ (alreadyLive, findIn b i .id ≡ 0)
+    ∷ (full, viewOf b .total < maxPoints)
+    ∷ (noPages, pagesWanted b (recordOf i p) ≤ length (freeAt b))
+    ∷ []
+
+abbrev pub trustedDelete : List ℕ → ℕ → List Rule
+trustedDelete b i =
+    (badLength, Permitted (length b))
+    ∷ (unsound, fieldAt level b ≤ maxLevel)
+    ∷ (zeroId, 1 ≤ i)
+    ∷ (notLive, findIn b i .id ≢ 0)
+    ∷ []
+
+abbrev pub trustedQuestion : List ℕ → Question → ℕ → List Rule
+trustedQuestion b w n =
+    (badLength, Permitted (length b))
+    ∷ (unsound, fieldAt level b ≤ maxLevel)
+    ∷ (badFeatures, Suits b (w .point))
+    ∷ (badCoordinate, inRange (w .point) ≡ true)
+    ∷ askedRules w n
+
+-- those with which insert and question both begin
+abbrev pub trustedPoint : List ℕ → List ℤ → List Rule
+trustedPoint b p =
+    (badLength, Permitted (length b))
+    ∷ (unsound, fieldAt level b ≤ maxLevel)
+    ∷ (badFeatures, Suits b p)
+    ∷ (badCoordinate, inRange p ≡ true)
+    ∷ []
+
+-- those that speak of an identifier and its point, and of room for a record
+abbrev pub pairRules : List ℕ → ℕ → List ℤ → List Rule
+pairRules b i p =
+    (badLength, Permitted (length b))
+    ∷ (unsound, fieldAt level b ≤ maxLevel)
+    ∷ (badFeatures, Suits b p)
+    ∷ (badCoordinate, inRange p ≡ true)
+    ∷ (zeroId, 1 ≤ i)
+    ∷ []
+
+abbrev pub roomRules : List ℕ → ℕ → List ℤ → List Rule
+roomRules b i p =
+    (full, viewOf b .total < maxPoints)
+    ∷ (noPages, pagesWanted b (recordOf i p) ≤ length (freeAt b))
+    ∷ []
+
+-- the numbers of rules, in their order
+abbrev pub numbers : List Rule → List ℕ
+numbers [] = []
+numbers (rule ∷ rules) = rule .0 ∷ numbers rules

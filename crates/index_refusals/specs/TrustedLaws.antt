@@ -1,0 +1,133 @@
+-- On a sound index an act without the check gives the act's number.
+use mathlib.Core.Path.{_≡_, refl, sym, ap, _∙_}
+use mathlib.Core.Logic.{_≢_, inl, inr}
+use mathlib.Core.List.{List, [], _∷_, _++_}
+use Prim.Native.Nat.{ℕ, _≤_, _<_}
+use native.Mathlib.Omega.{arith}
+use lib.IntN.{ℤ}
+use lib.ListN.{length}
+use Rattle.lists.specs.Tests.{decide}
+use Rattle.pagestore.specs.declared.Record.{Record}
+use Rattle.pagestore.specs.Store.{viewOf, fieldAt, level, freeAt}
+use Rattle.tree_model.specs.Trees.{live}
+use Rattle.tree_model.specs.Sound.{Permitted, SoundIndex}
+use Rattle.tree.specs.Lookup.{findIn}
+use Rattle.tree_laws.specs.LookupPromises.{find-ident, find-none}
+use Rattle.search.proofs.SoundLaws.{tree-level}
+use Rattle.index_query.specs.Asking.{Question}
+use Rattle.index_refusals.specs.Refusals.{Rule, First, maxPoints, liveTimes, pagesToRebalance, insertRules, deleteRules, questionRules, askedRules, badLength, unsound, zeroId, notLive, noPageToEven}
+use Rattle.index_refusals.specs.RefusalLaws.{rebalancing-takes-none, all-hold, put-in, later, Carried, asked-carried}
+use Rattle.index_refusals.specs.Trusted.{maxLevel, Suits, trustedInsert, trustedDelete, trustedQuestion, numbers}
+
+-- ---- THE NUMBERS: THE ACT'S, IN ITS ORDER; A DELETE'S BUT FOR 12, ITS LAST
+
+pub insert-numbers : (b : List ℕ) (i : ℕ) (p : List ℤ) → numbers (trustedInsert b i p) ≡ numbers (insertRules b i p)
+insert-numbers b i p = refl
+
+pub delete-numbers : (b : List ℕ) (i : ℕ) → numbers (trustedDelete b i) ++ (noPageToEven ∷ []) ≡ numbers (deleteRules b i)
+delete-numbers b i = refl
+
+pub question-numbers : (b : List ℕ) (w : Question) (n : ℕ) → numbers (trustedQuestion b w n) ≡ numbers (questionRules b w n)
+question-numbers b w n = refl
+
+-- ---- RULES THAT AGREE
+
+-- the same numbers, and conditions that agree where those before them hold
+abbrev Alike : List Rule → List Rule → Type 0
+Alike [] [] = Unit {0}
+Alike [] (y ∷ ys) = ⊥
+Alike (x ∷ xs) [] = ⊥
+Alike (x ∷ xs) (y ∷ ys) = (x .0 ≡ y .0) × (x .1 → y .1) × (y .1 → x .1) × (y .1 → Alike xs ys)
+
+alike-self : (xs : List Rule) → Alike xs xs
+alike-self [] = tt
+alike-self (x ∷ xs) = (refl, λ h. h, λ h. h, λ h. alike-self xs)
+
+first-alike : (xs ys : List Rule) → Alike xs ys → (n : ℕ) → First xs n → First ys n
+first-alike [] [] a n f = f
+first-alike [] (y ∷ ys) a n f = absurd a
+first-alike (x ∷ xs) [] a n f = absurd a
+first-alike (x ∷ xs) (y ∷ ys) a n (inl f) = inl (f .0 ∙ a .0, λ c. f .1 (a .2 c))
+first-alike (x ∷ xs) (y ∷ ys) a n (inr f) = inr (a .1 (f .0), first-alike xs ys (a .3 (a .1 (f .0))) n (f .1))
+
+-- ---- ON A SOUND INDEX
+
+module _ (b : List ℕ) (s : SoundIndex b) where
+  -- rule 2 holds
+  pub level-low : fieldAt level b ≤ maxLevel
+  unfolding viewOf
+  level-low = tree-level b s
+
+  pub suits : (p : List ℤ) → length p ≡ viewOf b .d → Suits b p
+  suits p e = let low : 1 ≤ viewOf b .d = s .d .0 in let high : viewOf b .d ≤ 16 = s .d .1 in (omega arith, omega arith, e)
+
+  not-live : (i : ℕ) → 1 ≤ i → findIn b i .id ≡ 0 → liveTimes b i ≡ 0
+  not-live i l e = decide (liveTimes b i) 0 (λ z. z) (λ w. let z : i ≡ 0 = sym (find-ident b i s (omega (arith, w))) ∙ e in absurd (omega (arith, z)))
+
+  pub not-found : (i : ℕ) → liveTimes b i ≡ 0 → findIn b i .id ≡ 0
+  not-found i z = ap (λ (r : Record). r .id) (find-none b i s z)
+
+  pub insert-same : (i : ℕ) (p : List ℤ) (n : ℕ) → First (trustedInsert b i p) n → First (insertRules b i p) n
+  insert-same i p n (inl e) = inl e
+  insert-same i p n (inr (h, inl e)) = absurd (e .1 level-low)
+  insert-same i p n (inr (h, inr f)) =
+      inr (
+        h,
+        inr (
+          s,
+          first-alike (later (later (trustedInsert b i p))) (later (later (insertRules b i p)))
+              (refl, λ h. h .2, suits p, λ w. (refl, λ h. h, λ h. h, λ w. (refl, λ h. h, λ h. h, λ l. (refl, not-live i l, not-found i, λ w. (refl, λ h. few h, λ h. total h, λ w. (refl, λ h. h, λ h. h, λ w. tt)))))) n (f .1),
+        ),
+      )
+    where
+      few : viewOf b .total < maxPoints → length (live (viewOf b)) < maxPoints
+      few h = omega (arith, s .total)
+
+      total : length (live (viewOf b)) < maxPoints → viewOf b .total < maxPoints
+      total h = omega (arith, s .total)
+
+  -- those of delete but for 12
+  abbrev liveRules : ℕ → List Rule
+  liveRules i =
+      (badLength, Permitted (length b))
+      ∷ (unsound, SoundIndex b)
+      ∷ (zeroId, 1 ≤ i)
+      ∷ (notLive, 0 < liveTimes b i)
+      ∷ []
+
+  live-same : (i n : ℕ) → First (trustedDelete b i) n → First (liveRules i) n
+  live-same i n (inl e) = inl e
+  live-same i n (inr (h, inl e)) = absurd (e .1 level-low)
+  live-same i n (inr (h, inr f)) =
+      inr (
+        h,
+        inr (s, first-alike (later (later (trustedDelete b i))) (later (later (liveRules i))) (refl, λ h. h, λ h. h, λ l. (refl, λ h. is-live h, λ h. is-found l h, λ w. tt)) n (f .1)),
+      )
+    where
+      is-live : findIn b i .id ≢ 0 → 0 < liveTimes b i
+      is-live w = decide (liveTimes b i) 0 (λ z. absurd (w (not-found i z))) (λ h. omega (arith, h))
+
+      is-found : 1 ≤ i → 0 < liveTimes b i → findIn b i .id ≢ 0
+      is-found l h e = omega (arith, not-live i l e)
+
+  -- 12 holds where the identifier is live
+  pub delete-same : (i n : ℕ) → First (trustedDelete b i) n → First (deleteRules b i) n
+  delete-same i n f = put-in (liveRules i) [] (noPageToEven, pagesToRebalance b i ≤ length (freeAt b)) n (λ w. omega (arith, rebalancing-takes-none b i s (w .1 .1 .1 .0))) (live-same i n f)
+
+  pub question-same : (w : Question) (m n : ℕ) → First (trustedQuestion b w m) n → First (questionRules b w m) n
+  question-same w m n (inl e) = inl e
+  question-same w m n (inr (h, inl e)) = absurd (e .1 level-low)
+  question-same w m n (inr (h, inr f)) =
+      inr (
+        h,
+        inr (
+          s,
+          first-alike (later (later (trustedQuestion b w m))) (later (later (questionRules b w m)))
+              (refl, λ h. h .2, suits (w .point), λ h. (refl, λ h. h, λ h. h, λ h. alike-self (askedRules w m))) n (f .1),
+        ),
+      )
+
+-- ---- A QUESTION THAT IS NOT REFUSED
+
+pub trusted-carried : (b : List ℕ) (w : Question) (n : ℕ) → First (trustedQuestion b w n) 0 → Carried (viewOf b .d) w n
+trusted-carried b w n h = let a = all-hold (trustedQuestion b w n) refl h in asked-carried (viewOf b .d) w n (a .1 .1 .0 .2) (a .1 .1 .1 .0) (a .1 .1 .1 .1)

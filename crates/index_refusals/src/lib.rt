@@ -1,0 +1,223 @@
+// The refusal table: which number an act gives, tested in its order. Of the bytes nothing is known here, and number 2 goes by the header's level
+// alone.
+ghost use mathlib.Core.Path.{_≡_};
+ghost use mathlib.Core.Bool.{true};
+ghost use Prim.Native.Nat.{_≤_, _<_};
+ghost use lib.ListN.{length};
+ghost use Rattle.geometry.specs.Stored.{inRange};
+ghost use Rattle.pagestore.specs.Store.{freshAt, freeAt};
+ghost use Rattle.tree_model.specs.Sound.{Permitted};
+ghost use Rattle.index_query.specs.Asking.{questionOf};
+ghost use Rattle.index_refusals.specs.Refusals.{First, makeRules, recordOf};
+ghost use Rattle.index_refusals.specs.Outcomes.{Decides};
+ghost use Rattle.index_refusals.specs.Trusted.{trustedPoint, pairRules, roomRules, trustedInsert, trustedQuestion};
+use geometry::points::slots_of;
+use index_query::Criteria;
+use index_query::MAX_FEATURES;
+use index_query::MAX_ROWS;
+use pagestore::Record;
+use pagestore::features_of;
+use pagestore::free_count;
+use pagestore::fresh_page;
+use pagestore::in_range;
+use pagestore::page_count;
+use pagestore::root_level;
+use pagestore::total_records;
+use tree::find;
+use tree::pages_wanted;
+
+// The numbers that an act gives, and 0 if it is carried out. 12 (no page to even out two leaves) is never given.
+pub const BAD_LENGTH: u32 = 1; // the length is not a permitted number of whole pages
+
+pub const UNSOUND: u32 = 2; // the index is not sound
+
+pub const BAD_FEATURES: u32 = 3; // d, or the number of coordinates, is wrong
+
+pub const BAD_COORDINATE: u32 = 4; // a coordinate is out of range
+
+pub const ZERO_ID: u32 = 5; // identifier 0
+
+pub const ALREADY_LIVE: u32 = 6; // the identifier is live
+
+pub const NOT_LIVE: u32 = 7; // the identifier is not live
+
+pub const FULL: u32 = 8; // as many points are live as may be
+
+pub const NO_PAGES: u32 = 9; // the insert wants more pages than are unused or freed
+
+pub const BAD_K: u32 = 10; // k is out of range
+
+pub const FEW_ROWS: u32 = 11; // fewer than k rows are lent
+
+// The fewest and the most bytes of an index, and those of a page.
+const MIN_BYTES: usize = 2 * PAGE_SIZE;
+
+const MAX_BYTES: usize = 16384 * PAGE_SIZE;
+
+const PAGE_SIZE: usize = 1024;
+
+// The most points of an index, and the highest level of its root.
+const MAX_POINTS: u32 = 65535;
+
+pub const MAX_LEVEL: u8 = 4;
+
+// Whether this many bytes are 2 to 16,384 whole pages.
+pub fn permitted(bytes: usize) -> bool
+    ensures { λ r. ⌜ Decides (Permitted bytes) r ⌝ }
+{
+    if bytes < MIN_BYTES {
+        return false;
+    }
+    if MAX_BYTES < bytes {
+        return false;
+    }
+    bytes % PAGE_SIZE == 0
+}
+
+// The number of a make.
+pub fn refuse_make(bytes: usize, features: u8) -> u32
+    ensures { λ r. ⌜ First (makeRules bytes features) r ⌝ }
+{
+    if !permitted(bytes) {
+        return BAD_LENGTH;
+    }
+    if features < 1 {
+        return BAD_FEATURES;
+    }
+    if MAX_FEATURES < features as usize {
+        return BAD_FEATURES;
+    }
+    0
+}
+
+// Whether a point with so many coordinates suits an index of so many features.
+fn suits(coordinates: usize, features: u8) -> bool
+    ensures { λ r. ⌜ Decides ((1 ≤ coordinates) × (coordinates ≤ 16) × (coordinates ≡ features)) r ⌝ }
+{
+    if coordinates < 1 {
+        return false;
+    }
+    if MAX_FEATURES < coordinates {
+        return false;
+    }
+    coordinates == features as usize
+}
+
+// The first of 1 to 4 that applies to a point.
+fn refuse_point(index: &[u8], point: &[i16]) -> u32
+    ensures { λ r. ⌜ First (trustedPoint (now (index .entry)) (now (point .entry))) r ⌝ }
+{
+    if !permitted(index.len()) {
+        return BAD_LENGTH;
+    }
+    if MAX_LEVEL < root_level(index) {
+        return UNSOUND;
+    }
+    if !suits(point.len(), features_of(index)) {
+        return BAD_FEATURES;
+    }
+    if !geometry::points::in_range(point) {
+        return BAD_COORDINATE;
+    }
+    0
+}
+
+// The number of a question with some rows lent.
+pub fn refuse_question(index: &[u8], point: &[i16], what: Criteria, lent: usize) -> u32
+    ensures { λ r. ⌜ First (trustedQuestion (now (index .entry)) (questionOf (now (point .entry)) what) lent) r ⌝ }
+{
+    let coded = refuse_point(index, point);
+    if coded != 0 {
+        return coded;
+    }
+    if what.k < 1 {
+        return BAD_K;
+    }
+    if MAX_ROWS < what.k {
+        return BAD_K;
+    }
+    if lent < what.k {
+        return FEW_ROWS;
+    }
+    0
+}
+
+// The record of an identifier and a point.
+pub fn record_of(id: u32, point: &[i16]) -> Record
+    requires { ⌜ (length (now point) ≤ 16) × (inRange (now point) ≡ true) ⌝ }
+    ensures { λ r. ⌜ r ≡ recordOf id (now (point .entry)) ⌝ }
+{
+    let slots = slots_of(point);
+    Record {
+        id: id,
+        coords: slots,
+    }
+}
+
+// The first of 1 to 5 that applies to an identifier and its point.
+pub fn refuse_pair(index: &[u8], id: u32, point: &[i16]) -> u32
+    ensures { λ r. ⌜ First (pairRules (now (index .entry)) id (now (point .entry))) r ⌝ }
+{
+    let coded = refuse_point(index, point);
+    if coded != 0 {
+        return coded;
+    }
+    if id == 0 {
+        return ZERO_ID;
+    }
+    0
+}
+
+// The pages never used.
+fn fresh_left(index: &[u8]) -> u32
+    ensures { λ r. ⌜ r ≡ length (freshAt (now (index .entry))) ⌝ }
+{
+    let fresh = fresh_page(index);
+    if in_range(index, fresh) {
+        return page_count(index) - fresh;
+    }
+    0
+}
+
+// Whether fewer pages are free than are wanted. The chain of freed pages is followed only where the pages never used are too few.
+fn too_few(index: &[u8], wanted: u32) -> bool
+    ensures { λ r. ⌜ Decides (length (freeAt (now (index .entry))) < wanted) r ⌝ }
+{
+    if wanted <= fresh_left(index) {
+        return false;
+    }
+    if wanted <= free_count(index) {
+        return false;
+    }
+    true
+}
+
+// The first of 8 and 9 that applies to a record that may be inserted.
+pub fn refuse_room(index: &[u8], id: u32, point: &[i16]) -> u32
+    requires { ⌜ (length (now point) ≤ 16) × (inRange (now point) ≡ true) ⌝ }
+    ensures { λ r. ⌜ First (roomRules (now (index .entry)) id (now (point .entry))) r ⌝ }
+{
+    if MAX_POINTS <= total_records(index) {
+        return FULL;
+    }
+    let x = record_of(id, point);
+    if too_few(index, pages_wanted(index, x)) {
+        return NO_PAGES;
+    }
+    0
+}
+
+// The number of an insert.
+pub fn refuse_insert(index: &[u8], id: u32, point: &[i16]) -> u32
+    ensures { λ r. ⌜ First (trustedInsert (now (index .entry)) id (now (point .entry))) r ⌝ }
+{
+    let coded = refuse_pair(index, id, point);
+    if coded != 0 {
+        return coded;
+    }
+    let found = find(index, id);
+    if found.id != 0 {
+        return ALREADY_LIVE;
+    }
+    refuse_room(index, id, point)
+}

@@ -1,0 +1,37 @@
+-- `index_vouched::insert` meets its contract. Assumes nothing.
+use denote.Ref.{now}
+use borrow.Author.Needs.{needs}
+use mathlib.Core.Path.{refl, ap, _∙_}
+use Rattle.tree.specs.Insertion.{insertInto}
+use Rattle.index_refusals.specs.OutcomeLaws.{carried-out, left-alone}
+use Rattle.index_refusals.specs.Trusted.{roomRules}
+use Rattle.index_refusals.proofs.RuleLaws.{pair-fits}
+use Rattle.index_vouched.proofs.insert.Statement.{statement}
+use Rattle.index_vouched.proofs.insert.Tie as tie
+
+refuse-vouched-requires : tie.Need-refuse-vouched-requires
+refuse-vouched-requires c κs = search needs
+
+record-of-requires : tie.Need-record-of-requires
+record-of-requires c κs = let a = c .before .before .before .before .args in pair-fits (now (a .index)) (a .id) (now (a .point)) (roomRules (now (a .index)) (a .id) (now (a .point))) refl _ (c .before .refuse-vouched .ensures) (c .if1 .taken)
+
+insert-requires : tie.Need-insert-requires
+insert-requires c κs = search needs
+
+same-length : tie.Need-same-length
+same-length c = search needs
+
+returns : tie.Need-returns
+returns c = (
+  c .before .before .before .before .before .before .refuse-vouched .ensures,
+  carried-out _ _ _ _ (c .before .before .before .before .before .if1 .taken) (c .before .before .insert .ensures ∙ ap (insertInto _) (c .before .before .before .before .record-of .ensures)),
+)
+
+same-length-2 : tie.Need-same-length-2
+same-length-2 c = search needs
+
+returns-2 : tie.Need-returns-2
+returns-2 c = (c .before .refuse-vouched .ensures, left-alone _ _ _ _ (c .if1 .left) refl)
+
+pub insert-spec : {M : Type 1} → statement M
+insert-spec = tie.close (tie.spec refuse-vouched-requires record-of-requires insert-requires same-length returns same-length-2 returns-2)

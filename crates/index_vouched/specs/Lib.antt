@@ -1,0 +1,2 @@
+pub mod Vouched
+pub mod VouchedLaws

@@ -1,0 +1,56 @@
+-- Insert and delete without the check and without a look through all leaves for the identifier: the caller vouches for it. The rules are those of
+-- the trusted acts, but for 6 and 7. An insert has no 6: that the identifier is not live is the caller's word. A delete is told the point too (so
+-- 3 and 4 are given), and 7 asks whether that record stands in the leaf to which its key leads.
+use mathlib.Core.Path.{_≡_}
+use mathlib.Core.Bool.{true}
+use mathlib.Core.List.{List, [], _∷_}
+use Prim.Native.Nat.{ℕ, _≤_, _<_}
+use lib.IntN.{ℤ}
+use lib.ListN.{length}
+use Rattle.geometry.specs.Stored.{inRange}
+use Rattle.pagestore.specs.Store.{viewOf, fieldAt, level, freeAt}
+use Rattle.tree_model.specs.Trees.{pointIn}
+use Rattle.tree_model.specs.Sound.{Permitted}
+use Rattle.tree.specs.Insertion.{pagesWanted}
+use Rattle.tree.specs.Deletion.{deleteFrom}
+use Rattle.tree.specs.Lookup.{findIn}
+use Rattle.tree.specs.Keyed.{holdsAt}
+use Rattle.index_refusals.specs.Refusals.{Rule, First, maxPoints, recordOf, liveTimes, badLength, unsound, badFeatures, badCoordinate, zeroId, notLive, full, noPages}
+use Rattle.index_refusals.specs.Outcomes.{unlessRefused, insertedWith}
+use Rattle.index_refusals.specs.Trusted.{maxLevel, Suits}
+
+abbrev pub vouchedInsert : List ℕ → ℕ → List ℤ → List Rule
+vouchedInsert b i p =
+    (badLength, Permitted (length b))
+    ∷ (unsound, fieldAt level b ≤ maxLevel)
+    ∷ (badFeatures, Suits b p)
+    ∷ (badCoordinate, inRange p ≡ true)
+    ∷ (zeroId, 1 ≤ i)
+    ∷ (full, viewOf b .total < maxPoints)
+    ∷ (noPages, pagesWanted b (recordOf i p) ≤ length (freeAt b))
+    ∷ []
+
+abbrev pub vouchedDelete : List ℕ → ℕ → List ℤ → List Rule
+vouchedDelete b i p =
+    (badLength, Permitted (length b))
+    ∷ (unsound, fieldAt level b ≤ maxLevel)
+    ∷ (badFeatures, Suits b p)
+    ∷ (badCoordinate, inRange p ≡ true)
+    ∷ (zeroId, 1 ≤ i)
+    ∷ (notLive, holdsAt b (recordOf i p) ≡ true)
+    ∷ []
+
+-- what a delete with number n leaves; what an insert leaves is `insertedWith`
+abbrev pub vouchedDeletedWith : ℕ → List ℕ → ℕ → List ℤ → List ℕ
+vouchedDeletedWith n b i p = unlessRefused n (deleteFrom b (recordOf i p)) b
+
+-- what an insert and a delete of identifier i with point p on index b return, the number r, and leave, the index c
+abbrev pub VouchedInserted : List ℕ → ℕ → List ℤ → ℕ → List ℕ → Type 0
+VouchedInserted b i p r c = (First (vouchedInsert b i p) r) × (c ≡ insertedWith r b i p)
+
+abbrev pub VouchedDeleted : List ℕ → ℕ → List ℤ → ℕ → List ℕ → Type 0
+VouchedDeleted b i p r c = (First (vouchedDelete b i p) r) × (c ≡ vouchedDeletedWith r b i p)
+
+-- identifier i is live with point p: what a caller vouches for with a delete
+abbrev pub LiveAt : List ℕ → ℕ → List ℤ → Type 0
+LiveAt b i p = (0 < liveTimes b i) × (pointIn (viewOf b .d) (findIn b i) ≡ p)

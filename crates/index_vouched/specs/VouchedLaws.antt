@@ -1,0 +1,121 @@
+-- On a sound index, where what the caller vouches for is true, a vouched insert and a vouched delete give the act's number and leave the act's
+-- bytes; and a delete that is not refused is one that the caller vouches for truly.
+use mathlib.Core.Path.{_≡_, refl, sym, ap, _∙_, subst}
+use mathlib.Core.Bool.{true}
+use mathlib.Core.Logic.{inl, inr}
+use mathlib.Core.List.{List, [], _∷_, map}
+use Prim.Native.Nat.{ℕ, _-_, _≤_, _<_}
+use native.Mathlib.Omega.{arith}
+use lib.Dec.{ltb}
+use lib.IntN.{ℤ, natAbs}
+use lib.ListN.{length, take, length-take}
+use borrow.Author.Tests.{ltb-true, ltb-false, le-leb}
+use Rattle.lists.specs.Basics.{All, none, also}
+use Rattle.lists.specs.Tests.{decide, by-cases}
+use Rattle.geometry.specs.Stored.{coordOf, pointOf, stored, slotsOf, inRange}
+use Rattle.geometry.proofs.StoredLaws.{length-point, coord-magnitude, in-range, slots-back}
+use Rattle.pagestore.specs.Fits.{RecordFits}
+use Rattle.pagestore.specs.Store.{viewOf}
+use Rattle.tree_model.specs.Sound.{RecordOk, SoundIndex}
+use Rattle.tree.specs.Deletion.{deleteFrom}
+use Rattle.tree.specs.Lookup.{findIn}
+use Rattle.tree_laws.specs.LookupPromises.{find-ident}
+use Rattle.tree_laws.specs.KeyedPromises.{Twin, holds-found, found-holds, found-all, found-fits, delete-twin}
+use Rattle.index_refusals.specs.Refusals.{First, recordOf, liveTimes, alreadyLive, notLive, insertRules, deleteRules}
+use Rattle.index_refusals.specs.RefusalLaws.{rebalancing-takes-none, first-one, all-hold, none-fails, put-in}
+use Rattle.index_query.specs.PointLaws.{slots-own}
+use Rattle.index_refusals.specs.Trusted.{pairRules, roomRules}
+use Rattle.index_refusals.specs.TrustedLaws.{level-low, suits, not-found, insert-same}
+use Rattle.index_vouched.specs.Vouched.{vouchedInsert, vouchedDelete, LiveAt}
+
+-- ---- A POINT AND ITS SLOTS
+
+slot-back : (x : ℕ) → stored (coordOf x) ≡ x
+slot-back x =
+    by-cases (ltb x 1000)
+    (λ e. let h = ltb-true x 1000 e in rw e (omega arith))
+    (λ e. let h = ltb-false x 1000 e in rw e (omega arith))
+
+slots-point : (xs : List ℕ) → map stored (pointOf xs) ≡ xs
+unfolding pointOf
+slots-point [] = refl
+slots-point (x ∷ xs) = λ i. slot-back x i ∷ slots-point xs i
+
+point-ranges : {xs : List ℕ} → All (λ c. c ≤ 2000) xs → inRange (pointOf xs) ≡ true
+unfolding pointOf inRange
+point-ranges none = refl
+point-ranges (also {x = x} h t) = rw (le-leb (natAbs (coordOf x)) 1000 (omega (arith, coord-magnitude x))) (point-ranges t)
+
+-- ---- ON A SOUND INDEX
+
+module _ (b : List ℕ) (s : SoundIndex b) (i : ℕ) (p : List ℤ) where
+  -- an identifier that is not live
+  pub insert-vouched : liveTimes b i ≡ 0 → (n : ℕ) → First (vouchedInsert b i p) n → First (insertRules b i p) n
+  insert-vouched z n f =
+      insert-same b s i p n (put-in (pairRules b i p) (roomRules b i p) (alreadyLive, findIn b i .id ≡ 0) n (λ w. not-found b s i z) f)
+
+  -- the record of a live identifier with its point
+  module _ (h : LiveAt b i p) where
+    abbrev slots : List ℕ
+    slots = take (viewOf b .d) (findIn b i .coords)
+
+    fits : RecordFits (findIn b i)
+    fits = found-fits b i s (h .0)
+
+    ok : RecordOk (viewOf b .d) (findIn b i)
+    ok = found-all b i s (h .0) (RecordOk (viewOf b .d)) (s .ranges)
+
+    as-many : length p ≡ viewOf b .d
+    as-many =
+        let e : length (pointOf slots) ≡ length slots = length-point slots in
+        let g : length (pointOf slots) ≡ length p = ap (λ (q : List ℤ). length q) (h .1) in
+        let top : viewOf b .d ≤ 16 = s .d .1 in
+        omega (arith, fits .slots, length-take (viewOf b .d) (findIn b i .coords))
+
+    ranges : inRange p ≡ true
+    ranges = subst (λ (q : List ℤ). inRange q ≡ true) (h .1) (point-ranges (ok .coords))
+
+    some : 1 ≤ i
+    some = subst (λ (j : ℕ). 1 ≤ j) (find-ident b i s (h .0)) (ok .ident)
+
+    twin : Twin (viewOf b .d) (recordOf i p) (findIn b i)
+    twin =
+        let own : take (viewOf b .d) (slotsOf p) ≡ map stored p = subst (λ (n : ℕ). take n (slotsOf p) ≡ map stored p) as-many (slots-own p) in
+        (find-ident b i s (h .0), sym (slots-point slots) ∙ ap (map stored) (h .1) ∙ sym own)
+
+    -- is not refused, by the act or by the vouched delete
+    carried : First (vouchedDelete b i p) 0
+    unfolding viewOf
+    carried = none-fails (vouchedDelete b i p) (s .lent, (level-low b s, (suits b s p as-many, (ranges, (some, (found-holds b s (recordOf i p) (h .0) twin, tt))))))
+
+    deletes : First (deleteRules b i) 0
+    unfolding viewOf
+    deletes = none-fails (deleteRules b i) (s .lent, (s, (some, (h .0, (omega (arith, rebalancing-takes-none b i s (h .0)), tt)))))
+
+    pub delete-vouched : (n : ℕ) → First (vouchedDelete b i p) n → First (deleteRules b i) n
+    delete-vouched n f = subst (First (deleteRules b i)) (first-one (vouchedDelete b i p) 0 n carried f) deletes
+
+    -- and the two leave the same bytes
+    pub deleted-vouched : deleteFrom b (recordOf i p) ≡ deleteFrom b (findIn b i)
+    deleted-vouched = sym (delete-twin b (recordOf i p) (findIn b i) twin)
+
+  -- a vouched delete that is carried out has found its record live
+  pub vouched-live : First (vouchedDelete b i p) 0 → LiveAt b i p
+  vouched-live f =
+      let w = all-hold (vouchedDelete b i p) refl f in
+      let e : length p ≡ viewOf b .d = w .1 .1 .0 .2 in
+      let one : 1 ≤ i = w .1 .1 .1 .1 .0 in
+      let t : Twin (viewOf b .d) (recordOf i p) (findIn b i) = holds-found b s (recordOf i p) (w .1 .1 .1 .1 .1 .0) in
+      let is-live : 0 < liveTimes b i = decide (liveTimes b i) 0 (λ z. let y : i ≡ 0 = sym (t .0) ∙ not-found b s i z in absurd (omega (arith, y))) (λ g. omega (arith, g)) in
+      let back : pointOf (take (viewOf b .d) (slotsOf p)) ≡ p = subst (λ (n : ℕ). pointOf (take n (slotsOf p)) ≡ p) e (slots-back p (in-range p (w .1 .1 .1 .0))) in
+      (is-live, ap pointOf (t .1) ∙ back)
+
+-- where the number is not 0, it is one of 1 to 5 or 7
+pub vouched-number : (b : List ℕ) (i : ℕ) (p : List ℤ) (n : ℕ) → First (vouchedDelete b i p) n → n ≤ notLive
+vouched-number b i p n (inl e) = omega (arith, e .0)
+vouched-number b i p n (inr (a, inl e)) = omega (arith, e .0)
+vouched-number b i p n (inr (a, inr (c, inl e))) = omega (arith, e .0)
+vouched-number b i p n (inr (a, inr (c, inr (d, inl e)))) = omega (arith, e .0)
+vouched-number b i p n (inr (a, inr (c, inr (d, inr (f, inl e))))) = omega (arith, e .0)
+vouched-number b i p n (inr (a, inr (c, inr (d, inr (f, inr (g, inl e)))))) = omega (arith, e .0)
+vouched-number b i p n (inr (a, inr (c, inr (d, inr (f, inr (g, inr e)))))) = omega (arith, e .1)
