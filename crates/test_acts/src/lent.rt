@@ -1,8 +1,8 @@
 // The public question, in rows and with a tally that the program lends.
 ghost use Prim.Native.Nat.{_≤_, _<_};
-ghost use Rattle.index.specs.Asking.{questionOf};
-ghost use Rattle.index.specs.Questions.{Questioned};
 use index::Criteria;
+use index::Returned;
+use index::ask;
 use index_answer::Answer;
 use index_answer::Tally;
 use search_rows::Row;
@@ -10,29 +10,8 @@ use test_parts::places::coordinate;
 use test_parts::show::line;
 use test_parts::show::text;
 
-// An answer, with the rows and the tally after it.
-pub struct Kept {
-    pub answer: Answer,
-    pub rows: [Row; 64],
-    pub tally: Tally,
-}
-
-// Asks with 64 rows and a tally that are held by value, so that callers need no proof by hand.
-fn ask(index: &[u8], point: &[i16], what: Criteria, rows: [Row; 64], tally: Tally) -> Kept
-    ensures { λ r. ⌜ Questioned (now (index .entry)) (questionOf (now (point .entry)) what) rows tally (r .answer) (r .rows) (r .tally) ⌝ }
-{
-    let mut kept = rows;
-    let mut count = tally;
-    let answer = index::question(index, point, what, &mut kept, &mut count);
-    Kept {
-        answer: answer,
-        rows: kept,
-        tally: count,
-    }
-}
-
 // The question for the k nearest of the point n.
-fn ask_at(index: &[u8], n: u16, k: usize, rows: [Row; 64], tally: Tally) -> Kept
+fn ask_at(index: &[u8], n: u16, k: usize, rows: [Row; 64], tally: Tally) -> Returned
     requires { ⌜ n ≤ 17 ⌝ }
 {
     let point = [coordinate(1000 + n)];
@@ -57,7 +36,7 @@ fn show_row(row: Row, id: u64, distance: u64, position: u64) {
 }
 
 // 9 and 8 in the first two rows; the third keeps its contents.
-fn ask_first(index: &[u8], rows: [Row; 64], tally: Tally) -> Kept {
+fn ask_first(index: &[u8], rows: [Row; 64], tally: Tally) -> Returned {
     text(b"public question from 9, k 2\n");
     let kept = ask_at(index, 9, 2, rows, tally);
     show_answer(kept.answer, 0, 2, 2);
