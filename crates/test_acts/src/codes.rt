@@ -1,13 +1,20 @@
 // The refusals of 01, through the acts: lengths, features, coordinates, identifiers, k, rows lent and a damaged byte.
 // An index of 16,777,216 bytes is larger than a program's stack: of the two greatest lengths `index::permitted` is asked, which every act
-// asks first; the lengths 2,047 and 2,048 are lent.
+// asks first; the lengths 2,047 and 2,048 are lent. The index of 2,048 bytes goes from act to act by value.
 ghost use mathlib.Core.Path.{_≡_};
-ghost use Prim.Native.Nat.{_≤_, _<_};
 ghost use lib.ListN.{length};
 use index::Criteria;
 use index_answer::Answer;
+use test_parts::MAX_ROWS;
+use test_parts::PAGE_SIZE;
+use test_parts::answers::show_answer;
 use test_parts::show::line;
 use test_parts::show::text;
+
+// The bytes of the shortest index: 2 pages.
+const SHORTEST: usize = 2048;
+
+const TOO_SHORT: usize = 2047;
 
 // 1 if a length is not permitted.
 fn refused_length(bytes: usize) -> u64 {
@@ -23,8 +30,8 @@ fn show_permitted() {
 
 // The answer to a question with so many rows lent.
 fn answer_to(index: &[u8], point: &[i16], k: usize, lent: usize) -> Answer {
-    let mut distances = [0u64; 64];
-    let mut tags = [0u64; 64];
+    let mut distances = [0u64; MAX_ROWS];
+    let mut tags = [0u64; MAX_ROWS];
     index::question_outcome(
         index,
         point,
@@ -36,152 +43,123 @@ fn answer_to(index: &[u8], point: &[i16], k: usize, lent: usize) -> Answer {
 }
 
 // A question of two coordinates with some rows lent.
-fn ask(index: &[u8], x: i16, y: i16, k: usize, lent: usize) -> Answer {
-    let point = [x, y];
+fn ask(index: &[u8], x: i16, k: usize, lent: usize) -> Answer {
+    let point = [x, 0];
     answer_to(index, &point, k, lent)
 }
 
-fn ask_code(index: &[u8], x: i16, k: usize, lent: usize) -> u64 {
-    let answer = ask(index, x, 0, k, lent);
-    answer.code as u64
+fn try_question(what: &[u8], index: &[u8], x: i16, k: usize, lent: usize, said: u64) {
+    let answer = ask(index, x, k, lent);
+    line(what, answer.code as u64, said);
 }
 
-fn insert(index: &mut [u8], id: u32, x: i16) -> u64
-    ensures { λ r. ⌜ length (now (index .exit)) ≡ length (now (index .entry)) ⌝ }
-{
-    let point = [x, 0];
-    index::insert(index, id, &point) as u64
+// A question of one coordinate, in an index of two.
+fn try_short_question(what: &[u8], index: &[u8], said: u64) {
+    let point = [0i16];
+    let answer = answer_to(index, &point, 0, 0);
+    line(what, answer.code as u64, said);
 }
 
-fn delete(index: &mut [u8], id: u32) -> u64 {
-    index::delete(index, id) as u64
-}
-
-fn check_code(index: &[u8]) -> u64 {
+fn try_check(what: &[u8], index: &[u8], said: u64) {
     let checked = index::check(index);
-    checked.code as u64
+    line(what, checked.code as u64, said);
+}
+
+fn try_make(what: &[u8], index: [u8; SHORTEST], d: u8, said: u64) -> [u8; SHORTEST] {
+    let mut bytes = index;
+    line(what, index::make(&mut bytes, d) as u64, said);
+    bytes
+}
+
+fn insert(index: [u8; SHORTEST], id: u32, point: &[i16], what: &[u8], said: u64) -> [u8; SHORTEST] {
+    let mut bytes = index;
+    line(what, index::insert(&mut bytes, id, point) as u64, said);
+    bytes
+}
+
+fn try_insert(what: &[u8], index: [u8; SHORTEST], id: u32, x: i16, said: u64) -> [u8; SHORTEST] {
+    let point = [x, 0];
+    insert(index, id, &point, what, said)
+}
+
+fn try_delete(what: &[u8], index: [u8; SHORTEST], id: u32, said: u64) -> [u8; SHORTEST] {
+    let mut bytes = index;
+    line(what, index::delete(&mut bytes, id) as u64, said);
+    bytes
 }
 
 // The five acts in bytes of a length that is not permitted.
 fn short_acts(index: &mut [u8]) {
+    let point = [0i16, 0];
     line(b"make in 2047 bytes", index::make(index, 2) as u64, 1);
-    line(b"insert in 2047 bytes", insert(index, 1, 0), 1);
-    line(b"delete in 2047 bytes", delete(index, 1), 1);
-}
-
-fn short_looks(index: &[u8]) {
-    line(b"question in 2047 bytes", ask_code(index, 0, 1, 64), 1);
-    line(b"check in 2047 bytes", check_code(index), 1);
+    line(
+        b"insert in 2047 bytes",
+        index::insert(index, 1, &point) as u64,
+        1,
+    );
+    line(b"delete in 2047 bytes", index::delete(index, 1) as u64, 1);
 }
 
 fn short() {
-    let mut index = [0u8; 2047];
+    let mut index = [0u8; SHORTEST - 1];
     short_acts(&mut index);
-    short_looks(&index);
+    try_question(b"question in 2047 bytes", &index, 0, 1, 64, 1);
+    try_check(b"check in 2047 bytes", &index, 1);
 }
 
-// The shortest index: 2 pages.
-fn least(index: &mut [u8]) {
-    line(b"make in 2048 bytes, d 0", index::make(index, 0) as u64, 3);
-    line(
-        b"make in 2048 bytes, d 17",
-        index::make(index, 17) as u64,
-        3,
-    );
-    line(
-        b"make in 2048 bytes, d 16",
-        index::make(index, 16) as u64,
-        0,
-    );
+// The features: 0 and 17 are refused. The index left has two.
+fn make_all(index: [u8; SHORTEST]) -> [u8; SHORTEST] {
+    let a = try_make(b"make in 2048 bytes, d 0", index, 0, 3);
+    let b = try_make(b"make in 2048 bytes, d 17", a, 17, 3);
+    let c = try_make(b"make in 2048 bytes, d 16", b, 16, 0);
+    try_make(b"make in 2048 bytes, d 2", c, 2, 0)
 }
 
-fn show_answer(answer: Answer, rows: u64, leaves: u64) {
-    line(b"  code", answer.code as u64, 0);
-    line(b"  rows", answer.count as u64, rows);
-    line(b"  leaves read", answer.leaves as u64, leaves);
-}
-
-// An index of two features, empty.
-fn start(index: &mut [u8]) {
-    line(b"make in 2048 bytes, d 2", index::make(index, 2) as u64, 0);
-    line(b"check", check_code(index), 0);
+fn look_empty(index: &[u8]) {
+    try_check(b"check", index, 0);
     text(b"question on the empty index, k 64\n");
-    show_answer(ask(index, 0, 0, 64, 64), 0, 0);
+    show_answer(ask(index, 0, 64, 64), 0, 0, 0);
 }
 
 // The ends of the ranges.
-fn ends(index: &mut [u8]) {
-    line(b"insert at 1000", insert(index, 1, 1000), 0);
-    line(b"insert at -1000", insert(index, 2, -1000), 0);
-    line(b"insert of 4294967295", insert(index, 4294967295, 1000), 0);
+fn insert_ends(index: [u8; SHORTEST]) -> [u8; SHORTEST] {
+    let a = try_insert(b"insert at 1000", index, 1, 1000, 0);
+    let b = try_insert(b"insert at -1000", a, 2, -1000, 0);
+    try_insert(b"insert of 4294967295", b, 4294967295, 1000, 0)
 }
 
-fn refused_inserts(index: &mut [u8]) {
-    line(b"insert at 1001", insert(index, 3, 1001), 4);
-    line(b"insert at -1001", insert(index, 3, -1001), 4);
-    line(b"insert of 0 at 1001", insert(index, 0, 1001), 4);
+fn refused_inserts(index: [u8; SHORTEST]) -> [u8; SHORTEST] {
+    let a = try_insert(b"insert at 1001", index, 3, 1001, 4);
+    let b = try_insert(b"insert at -1001", a, 3, -1001, 4);
+    let c = try_insert(b"insert of 0 at 1001", b, 0, 1001, 4);
+    let e = try_insert(b"insert of 0", c, 0, 5, 5);
+    let f = try_insert(b"insert of 1 again", e, 1, 5, 6);
+    try_insert(b"insert of 4294967295 again", f, 4294967295, 5, 6)
 }
 
-fn refused_identifiers(index: &mut [u8]) {
-    line(b"insert of 0", insert(index, 0, 5), 5);
-    line(b"insert of 1 again", insert(index, 1, 5), 6);
-    line(
-        b"insert of 4294967295 again",
-        insert(index, 4294967295, 5),
-        6,
-    );
+fn refused_points(index: [u8; SHORTEST]) -> [u8; SHORTEST] {
+    let three = [0i16, 0, 0];
+    let one = [0i16];
+    let a = insert(index, 3, &three, b"insert of 3 coordinates", 3);
+    insert(a, 3, &one, b"insert of 1 coordinate", 3)
 }
 
-fn insert_three(index: &mut [u8]) -> u64 {
-    let point = [0i16, 0, 0];
-    index::insert(index, 3, &point) as u64
-}
-
-fn insert_single(index: &mut [u8]) -> u64 {
-    let point = [0i16];
-    index::insert(index, 3, &point) as u64
-}
-
-fn refused_points(index: &mut [u8]) {
-    line(b"insert of 3 coordinates", insert_three(index), 3);
-    line(b"insert of 1 coordinate", insert_single(index), 3);
-}
-
-fn refused_deletes(index: &mut [u8]) {
-    line(b"delete of 0", delete(index, 0), 5);
-    line(b"delete of 3", delete(index, 3), 7);
-}
-
-fn ask_single(index: &[u8]) -> u64 {
-    let point = [0i16];
-    let answer = answer_to(index, &point, 0, 0);
-    answer.code as u64
+fn refused_changes(index: [u8; SHORTEST]) -> [u8; SHORTEST] {
+    let a = refused_points(refused_inserts(index));
+    let b = try_delete(b"delete of 0", a, 0, 5);
+    try_delete(b"delete of 3", b, 3, 7)
 }
 
 fn refused_questions(index: &[u8]) {
-    line(b"question with k 0", ask_code(index, 0, 0, 64), 10);
-    line(b"question with k 65", ask_code(index, 0, 65, 100), 10);
-    line(
-        b"question with k 65, no row lent",
-        ask_code(index, 0, 65, 0),
-        10,
-    );
-    line(
-        b"question with k 3, 2 rows lent",
-        ask_code(index, 0, 3, 2),
-        11,
-    );
-    line(b"question from 1001, k 0", ask_code(index, 1001, 0, 0), 4);
-    line(b"question from -1001", ask_code(index, -1001, 1, 64), 4);
-    line(b"question of 1 coordinate", ask_single(index), 3);
+    try_question(b"question with k 0", index, 0, 0, 64, 10);
+    try_question(b"question with k 65", index, 0, 65, 100, 10);
+    try_question(b"question with k 65, no row lent", index, 0, 65, 0, 10);
+    try_question(b"question with k 3, 2 rows lent", index, 0, 3, 2, 11);
+    try_question(b"question from 1001, k 0", index, 1001, 0, 0, 4);
+    try_question(b"question from -1001", index, -1001, 1, 64, 4);
+    try_short_question(b"question of 1 coordinate", index, 3);
     text(b"question from (1000, 0), k 2, 2 rows lent\n");
-    show_answer(ask(index, 1000, 0, 2, 2), 2, 1);
-}
-
-fn refused_changes(index: &mut [u8]) {
-    refused_inserts(index);
-    refused_identifiers(index);
-    refused_points(index);
+    show_answer(ask(index, 1000, 2, 2), 0, 2, 1);
 }
 
 // How many bytes of two runs differ.
@@ -199,55 +177,39 @@ fn changed(a: &[u8], b: &[u8]) -> u64
     n
 }
 
-// Sets the count of the root leaf to 17.
-fn damage(index: &mut [u8]) {
-    if 1025 < index.len() {
-        index[1025] = 17;
-    }
-}
-
-fn damaged_acts(index: &mut [u8]) {
-    line(b"insert on a damaged index", insert(index, 9, 0), 2);
-    line(b"delete on a damaged index", delete(index, 1), 2);
+// The index with the count of its root leaf set to 17.
+fn damage(index: [u8; SHORTEST]) -> [u8; SHORTEST] {
+    let mut bytes = index;
+    bytes[PAGE_SIZE + 1] = 17;
+    bytes
 }
 
 fn damaged_looks(index: &[u8]) {
-    line(b"question on a damaged index", ask_code(index, 0, 1, 64), 2);
+    try_question(b"question on a damaged index", index, 0, 1, 64, 2);
     let checked = index::check(index);
     line(b"check of a damaged index", checked.code as u64, 2);
     line(b"  page", checked.page as u64, 1);
 }
 
-fn damaged(index: &mut [u8]) {
-    damage(index);
-    damaged_acts(index);
-    damaged_looks(index);
-}
-
-fn prepare(index: &mut [u8]) {
-    least(index);
-    start(index);
-    ends(index);
-}
-
-fn refuse(index: &mut [u8]) {
-    refused_changes(index);
-    refused_deletes(index);
-    refused_questions(index);
+fn damaged(index: [u8; SHORTEST]) {
+    let a = try_insert(b"insert on a damaged index", index, 9, 0, 2);
+    let b = try_delete(b"delete on a damaged index", a, 1, 2);
+    damaged_looks(&b);
 }
 
 pub fn run() {
     text(b"lengths and refusals\n");
     show_permitted();
     short();
-    let mut index = [0u8; 2048];
-    prepare(&mut index);
-    let before = index;
-    refuse(&mut index);
+    let empty = make_all([0u8; SHORTEST]);
+    look_empty(&empty);
+    let before = insert_ends(empty);
+    let after = refused_changes(before);
+    refused_questions(&after);
     line(
         b"bytes changed by these refusals",
-        changed(&before, &index),
+        changed(&before, &after),
         0,
     );
-    damaged(&mut index);
+    damaged(damage(after));
 }

@@ -1,65 +1,57 @@
 // The public question, in rows and with a tally that the program lends.
-ghost use Prim.Native.Nat.{_≤_, _<_};
+ghost use Prim.Native.Nat.{_≤_};
 use index::Criteria;
 use index::Returned;
 use index::ask;
-use index_answer::Answer;
 use index_answer::Tally;
 use search_rows::Row;
+use test_parts::MAX_COORDINATE;
+use test_parts::MAX_ROWS;
+use test_parts::answers::show_answer;
+use test_parts::answers::show_position;
+use test_parts::answers::show_row;
+use test_parts::answers::show_tally;
 use test_parts::places::coordinate;
-use test_parts::show::line;
 use test_parts::show::text;
 
 // The question for the k nearest of the point n.
-fn ask_at(index: &[u8], n: u16, k: usize, rows: [Row; 64], tally: Tally) -> Returned
+fn ask_at(index: &[u8], n: u16, k: usize, rows: [Row; MAX_ROWS], tally: Tally) -> Returned
     requires { ⌜ n ≤ 17 ⌝ }
 {
-    let point = [coordinate(1000 + n)];
+    let point = [coordinate(MAX_COORDINATE + n)];
     ask(index, &point, Criteria { k: k }, rows, tally)
 }
 
-fn show_answer(answer: Answer, code: u64, rows: u64, leaves: u64) {
-    line(b"  code", answer.code as u64, code);
-    line(b"  rows", answer.count as u64, rows);
-    line(b"  leaves read", answer.leaves as u64, leaves);
-}
-
-fn show_tally(tally: Tally, questions: u64, leaves: u64) {
-    line(b"  questions tallied", tally.questions as u64, questions);
-    line(b"  leaves tallied", tally.leaves as u64, leaves);
-}
-
-fn show_row(row: Row, id: u64, distance: u64, position: u64) {
-    line(b"  identifier of a row", row.id as u64, id);
-    line(b"  its distance", row.distance, distance);
-    line(b"  its position", row.position as u64, position);
+fn show_row_at(row: Row, id: u64, distance: u64, position: u64) {
+    show_row(row, id, distance);
+    show_position(row, position);
 }
 
 // 9 and 8 in the first two rows; the third keeps its contents.
-fn ask_first(index: &[u8], rows: [Row; 64], tally: Tally) -> Returned {
+fn ask_first(index: &[u8], rows: [Row; MAX_ROWS], tally: Tally) -> Returned {
     text(b"public question from 9, k 2\n");
     let kept = ask_at(index, 9, 2, rows, tally);
     show_answer(kept.answer, 0, 2, 2);
     show_tally(kept.tally, 1, 2);
     let after = kept.rows;
-    show_row(after[0], 9, 0, 0);
-    show_row(after[1], 8, 1, 0);
-    show_row(after[2], 7, 7, 7);
+    show_row_at(after[0], 9, 0, 0);
+    show_row_at(after[1], 8, 1, 0);
+    show_row_at(after[2], 7, 7, 7);
     kept
 }
 
 // A refusal leaves rows and tally as they are.
-fn ask_refused(index: &[u8], rows: [Row; 64], tally: Tally) {
+fn ask_refused(index: &[u8], rows: [Row; MAX_ROWS], tally: Tally) {
     text(b"public question from 9, k 65\n");
     let kept = ask_at(index, 9, 65, rows, tally);
     show_answer(kept.answer, 10, 0, 0);
     show_tally(kept.tally, 1, 2);
     let after = kept.rows;
-    show_row(after[0], 9, 0, 0);
+    show_row_at(after[0], 9, 0, 0);
 }
 
 // 17 is in the second leaf; a full tally stays as it is.
-fn ask_full(index: &[u8], rows: [Row; 64]) {
+fn ask_full(index: &[u8], rows: [Row; MAX_ROWS]) {
     let full = Tally {
         questions: 4294967295,
         leaves: 4294967295,
@@ -69,8 +61,8 @@ fn ask_full(index: &[u8], rows: [Row; 64]) {
     show_answer(kept.answer, 0, 1, 1);
     show_tally(kept.tally, 4294967295, 4294967295);
     let after = kept.rows;
-    show_row(after[0], 17, 0, 1);
-    show_row(after[1], 8, 1, 0);
+    show_row_at(after[0], 17, 0, 1);
+    show_row_at(after[1], 8, 1, 0);
 }
 
 // Questions on the index of 1 to 17.
@@ -84,7 +76,7 @@ pub fn run(index: &[u8]) {
         questions: 0,
         leaves: 0,
     };
-    let kept = ask_first(index, [mark; 64], none);
+    let kept = ask_first(index, [mark; MAX_ROWS], none);
     let rows = kept.rows;
     ask_refused(index, rows, kept.tally);
     ask_full(index, rows);

@@ -7,8 +7,14 @@ use index::Criteria;
 use index_answer::Answer;
 use pagestore::free_count;
 use pagestore::fresh_page;
-use pagestore::leaf_at;
 use search_rows::row_of;
+use test_parts::MAX_COORDINATE;
+use test_parts::MAX_ROWS;
+use test_parts::PAGE_SIZE;
+use test_parts::answers::show_answer;
+use test_parts::answers::show_leaf;
+use test_parts::answers::show_row;
+use test_parts::listing::MAX_LEAVES;
 use test_parts::listing::list_leaves;
 use test_parts::places::coordinate;
 use test_parts::show::line;
@@ -18,7 +24,7 @@ use test_parts::show::text;
 fn insert_one(index: &mut [u8], n: u16) -> u32
     requires { ⌜ n ≤ 17 ⌝ }
 {
-    let point = [coordinate(1000 + n)];
+    let point = [coordinate(MAX_COORDINATE + n)];
     index::insert(index, n as u32, &point)
 }
 
@@ -41,37 +47,20 @@ fn insert_up_to(index: &mut [u8], n: u16) -> u64
     done
 }
 
-// The records of a leaf: how many, the first and the last.
-fn show_leaf(index: &[u8], page: u32, n: usize, first: u32, last: u32) {
-    let leaf = leaf_at(index, page);
-    line(b"  records of the leaf", leaf.count as u64, n as u64);
-    let x = leaf.records[0];
-    line(b"  the first", x.id as u64, first as u64);
-    let m = leaf.count;
-    if m == 0 {
-        return;
-    }
-    if 16 < m {
-        return;
-    }
-    let y = leaf.records[m - 1];
-    line(b"  the last", y.id as u64, last as u64);
-}
-
 // Two leaves: 1 to n, and those after it, of which there are 8.
-fn show_two(index: &[u8], n: u32)
+fn show_two(index: &[u8], n: u64)
     requires { ⌜ n ≤ 9 ⌝ }
 {
-    let mut pages = [0u32; 1024];
+    let mut pages = [0u32; MAX_LEAVES];
     let leaves = list_leaves(index, &mut pages);
     line(b"  leaves", leaves as u64, 2);
-    show_leaf(index, pages[0], n as usize, 1, n);
+    show_leaf(index, pages[0], n, 1, n);
     show_leaf(index, pages[1], 8, n + 1, n + 8);
 }
 
 // One leaf: 1 to 15.
 fn show_one(index: &[u8]) {
-    let mut pages = [0u32; 1024];
+    let mut pages = [0u32; MAX_LEAVES];
     let leaves = list_leaves(index, &mut pages);
     line(b"  leaves", leaves as u64, 1);
     show_leaf(index, pages[0], 15, 1, 15);
@@ -98,44 +87,32 @@ fn show_check(index: &[u8]) {
 fn ask(index: &[u8], n: u16, k: usize, distances: &mut [u64], tags: &mut [u64]) -> Answer
     requires { ⌜ (n ≤ 17) × (length (now distances) ≡ 64) × (length (now tags) ≡ 64) ⌝ }
 {
-    let point = [coordinate(1000 + n)];
-    index::question_outcome(index, &point, Criteria { k: k }, 64, distances, tags)
-}
-
-fn show_answer(answer: Answer, rows: u64, leaves: u64) {
-    line(b"  code", answer.code as u64, 0);
-    line(b"  rows", answer.count as u64, rows);
-    line(b"  leaves read", answer.leaves as u64, leaves);
-}
-
-fn show_row(near: u64, tag: u64, id: u64, distance: u64) {
-    let row = row_of(near, tag);
-    line(b"  identifier of a row", row.id as u64, id);
-    line(b"  its distance", row.distance, distance);
+    let point = [coordinate(MAX_COORDINATE + n)];
+    index::question_outcome(index, &point, Criteria { k: k }, MAX_ROWS, distances, tags)
 }
 
 fn ask_nine(index: &[u8]) {
-    let mut distances = [0u64; 64];
-    let mut tags = [0u64; 64];
+    let mut distances = [0u64; MAX_ROWS];
+    let mut tags = [0u64; MAX_ROWS];
     text(b"from 9, k 1\n");
     let one = ask(index, 9, 1, &mut distances, &mut tags);
-    show_answer(one, 1, 1);
+    show_answer(one, 0, 1, 1);
     text(b"from 9, k 2\n");
     let two = ask(index, 9, 2, &mut distances, &mut tags);
-    show_answer(two, 2, 2);
-    show_row(distances[0], tags[0], 9, 0);
-    show_row(distances[1], tags[1], 8, 1);
+    show_answer(two, 0, 2, 2);
+    show_row(row_of(distances[0], tags[0]), 9, 0);
+    show_row(row_of(distances[1], tags[1]), 8, 1);
 }
 
 fn ask_one(index: &[u8]) {
-    let mut distances = [0u64; 64];
-    let mut tags = [0u64; 64];
+    let mut distances = [0u64; MAX_ROWS];
+    let mut tags = [0u64; MAX_ROWS];
     text(b"from 1, k 9\n");
     let nine = ask(index, 1, 9, &mut distances, &mut tags);
-    show_answer(nine, 9, 1);
+    show_answer(nine, 0, 9, 1);
     text(b"from 1, k 18\n");
     let all = ask(index, 1, 18, &mut distances, &mut tags);
-    show_answer(all, 17, 2);
+    show_answer(all, 0, 17, 2);
 }
 
 fn delete_one(index: &mut [u8]) {
@@ -183,9 +160,9 @@ fn fewer(index: &mut [u8]) {
 }
 
 pub fn run() {
-    let mut three = [0u8; 3072];
+    let mut three = [0u8; 3 * PAGE_SIZE];
     three_pages(&mut three);
-    let mut four = [0u8; 4096];
+    let mut four = [0u8; 4 * PAGE_SIZE];
     four_pages(&mut four);
     questions(&four);
     lent::run(&four);

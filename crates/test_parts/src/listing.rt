@@ -2,10 +2,14 @@
 ghost use mathlib.Core.Path.{_≡_};
 ghost use Prim.Native.Nat.{_≤_, _<_};
 ghost use lib.ListN.{length};
+use crate::MAX_ITEMS;
 use pagestore::Inner;
 use pagestore::inner_at;
 use pagestore::root_level;
 use pagestore::root_page;
+
+// The most leaves listed.
+pub const MAX_LEAVES: usize = 1024;
 
 // Puts one page at the end of the list of `at` pages, if there is room.
 fn put_page(pages: &mut [u32], at: usize, page: u32) -> usize
@@ -26,10 +30,11 @@ fn child(inner: Inner, i: usize) -> u32
     e.child
 }
 
-pub fn at_most_16(n: usize) -> usize
+// A count of items as it can be: no page has more than 16.
+pub fn item_count(n: usize) -> usize
     ensures { λ r. ⌜ r ≤ 16 ⌝ }
 {
-    if n < 16 { n } else { 16 }
+    if n < MAX_ITEMS { n } else { MAX_ITEMS }
 }
 
 // Puts the children of a page at the end of the list.
@@ -37,7 +42,7 @@ fn put_children(pages: &mut [u32], at: usize, inner: Inner) -> usize
     requires { ⌜ at ≤ length (now pages) ⌝ }
     ensures { λ r. ⌜ (r ≤ length (now (pages .entry))) × (length (now (pages .exit)) ≡ length (now (pages .entry))) ⌝ }
 {
-    let n = at_most_16(inner.count);
+    let n = item_count(inner.count);
     let mut end = at;
     let mut i = 0;
     while i < n {
@@ -66,7 +71,7 @@ fn list_under(index: &[u8], level: u8, pages: &mut [u32], n: usize) -> usize
     requires { ⌜ (n ≤ length (now pages)) × (length (now pages) ≡ 1024) ⌝ }
     ensures { λ r. ⌜ (r ≤ 1024) × (length (now (pages .exit)) ≡ 1024) ⌝ }
 {
-    let mut below = [0u32; 1024];
+    let mut below = [0u32; MAX_LEAVES];
     let mut left = level;
     let mut end = n;
     while 0 < left {

@@ -2,37 +2,30 @@
 ghost use mathlib.Core.Path.{_≡_};
 ghost use Prim.Native.Nat.{_≤_, _<_};
 ghost use lib.ListN.{length};
-use crate::comparing::Asked;
-use crate::comparing::Seen;
-use crate::comparing::ask_from;
+ghost use Rattle.test_model.specs.Comparing.{Arrays, Fits};
+use crate::asking::ask_from;
 use crate::filling::delete_points;
 use crate::filling::insert_points;
-use crate::numbers::CLUSTERED;
-use crate::numbers::TIED;
-use crate::numbers::WIDE;
-use crate::numbers::draw;
-use crate::numbers::leap;
-use crate::scan::live_count;
-use std::num::wrapping_add_u64;
+use test_model::Asked;
+use test_model::Batch;
+use test_model::PAIRS;
+use test_model::POINTS;
+use test_model::Seen;
+use test_model::batches::asked_k;
+use test_model::batches::asked_kind;
+use test_model::batches::batch_seed;
+use test_model::batches::both;
+use test_model::batches::report;
+use test_model::numbers::CLUSTERED;
+use test_model::numbers::TIED;
+use test_model::numbers::WIDE;
+use test_model::numbers::draw;
+use test_model::numbers::leap;
+use test_model::scan::live_count;
+use test_parts::MAX_FEATURES;
+use test_parts::PAGE_SIZE;
+use test_parts::listing::MAX_LEAVES;
 use test_parts::listing::list_leaves;
-use test_parts::show;
-
-// A batch: the features, the points and how they lie, and how many questions are asked at each stage.
-struct Batch {
-    d: usize,
-    points: usize,
-    kind: u32,
-    questions: u32,
-}
-
-// Every fourth question of a batch is asked from anywhere.
-fn asked_kind(kind: u32, seed: u64) -> u32 {
-    if seed % 4 == 0 { WIDE } else { kind }
-}
-
-fn asked_k(seed: u64) -> usize {
-    (seed / 1024 % 64) as usize + 1
-}
 
 // Asks one question, with arrays of its own.
 fn ask_one(
@@ -44,11 +37,11 @@ fn ask_one(
     leaves: usize,
     seed: u64,
 ) -> Seen
-    requires { ⌜ (1 ≤ b .d) × (b .d ≤ 16) × (leaves ≤ length (now pages)) × (length (now live) ≡ 1024) × (length (now places) ≡ 16384) ⌝ }
+    requires { ⌜ Fits b × (leaves ≤ length (now pages)) × Arrays (now places) (now live) ⌝ }
 {
-    let mut q = [0u16; 16];
-    let mut distances = [0u64; 1024];
-    let mut table = [0u64; 32032];
+    let mut q = [0u16; MAX_FEATURES];
+    let mut distances = [0u64; POINTS];
+    let mut table = [0u64; PAIRS];
     draw(&mut q, asked_kind(b.kind, seed), (seed % 5) as usize, seed);
     let asked = Asked {
         d: b.d,
@@ -68,21 +61,6 @@ fn ask_one(
     )
 }
 
-fn both(a: Seen, b: Seen) -> Seen {
-    Seen {
-        rows: wrapping_add_u64(a.rows, b.rows),
-        leaves: wrapping_add_u64(a.leaves, b.leaves),
-        differences: wrapping_add_u64(a.differences, b.differences),
-    }
-}
-
-// Another number for each batch.
-fn batch_seed(b: Batch, seed: u64) -> u64 {
-    let kind = (b.kind % 16) as u64;
-    let d = (b.d % 32) as u64;
-    leap(seed % 65536 + 100 * kind + d)
-}
-
 // Asks the questions of a batch.
 fn ask_all(
     index: &[u8],
@@ -93,7 +71,7 @@ fn ask_all(
     leaves: usize,
     seed: u64,
 ) -> Seen
-    requires { ⌜ (1 ≤ b .d) × (b .d ≤ 16) × (leaves ≤ length (now pages)) × (length (now live) ≡ 1024) × (length (now places) ≡ 16384) ⌝ }
+    requires { ⌜ Fits b × (leaves ≤ length (now pages)) × Arrays (now places) (now live) ⌝ }
 {
     let n = b.questions;
     let mut s = batch_seed(b, seed);
@@ -111,36 +89,11 @@ fn ask_all(
     seen
 }
 
-fn show_kind(kind: u32) {
-    if kind == WIDE {
-        show::text(b" wide");
-    }
-    if kind == CLUSTERED {
-        show::text(b" clustered");
-    }
-    if kind == TIED {
-        show::text(b" tied");
-    }
-}
-
-fn report(b: Batch, points: usize, refused: u64, seen: Seen) {
-    show::text(b"full scan:");
-    show::field(b"d", b.d as u64);
-    show_kind(b.kind);
-    show::field(b"acts refused", refused);
-    show::field(b"points", points as u64);
-    show::field(b"questions", b.questions as u64);
-    show::field(b"rows compared", seen.rows);
-    show::field(b"leaves read", seen.leaves);
-    show::field(b"differences", seen.differences);
-    show::text(b"\n");
-}
-
 // Questions on an index as it is, after acts of which some were refused.
 fn stage(index: &[u8], places: &[u16], live: &[u8], b: Batch, refused: u64, seed: u64)
-    requires { ⌜ (1 ≤ b .d) × (b .d ≤ 16) × (length (now live) ≡ 1024) × (length (now places) ≡ 16384) ⌝ }
+    requires { ⌜ Fits b × Arrays (now places) (now live) ⌝ }
 {
-    let mut pages = [0u32; 1024];
+    let mut pages = [0u32; MAX_LEAVES];
     let leaves = list_leaves(index, &mut pages);
     let seen = ask_all(index, places, live, &pages, b, leaves, seed);
     report(b, live_count(live), refused, seen);
@@ -148,8 +101,8 @@ fn stage(index: &[u8], places: &[u16], live: &[u8], b: Batch, refused: u64, seed
 
 // All points are inserted.
 fn fill(index: &mut [u8], places: &mut [u16], live: &mut [u8], b: Batch, seed: u64)
-    requires { ⌜ (1 ≤ b .d) × (b .d ≤ 16) × (b .points ≤ 1024) × (length (now live) ≡ 1024) × (length (now places) ≡ 16384) ⌝ }
-    ensures { λ r. ⌜ (length (now (live .exit)) ≡ 1024) × (length (now (places .exit)) ≡ 16384) ⌝ }
+    requires { ⌜ Fits b × Arrays (now places) (now live) ⌝ }
+    ensures { λ r. ⌜ Arrays (now (places .exit)) (now (live .exit)) ⌝ }
 {
     index::make(index, b.d as u8);
     draw(places, b.kind, 0, seed);
@@ -159,7 +112,7 @@ fn fill(index: &mut [u8], places: &mut [u16], live: &mut [u8], b: Batch, seed: u
 
 // Every third point is deleted.
 fn thin_out(index: &mut [u8], places: &[u16], live: &mut [u8], b: Batch, first: usize, seed: u64)
-    requires { ⌜ (1 ≤ b .d) × (b .d ≤ 16) × (first ≤ 3) × (length (now live) ≡ 1024) × (length (now places) ≡ 16384) ⌝ }
+    requires { ⌜ Fits b × (first ≤ 3) × Arrays (now places) (now live) ⌝ }
     ensures { λ r. ⌜ length (now (live .exit)) ≡ 1024 ⌝ }
 {
     let refused = delete_points(index, live, first);
@@ -168,14 +121,14 @@ fn thin_out(index: &mut [u8], places: &[u16], live: &mut [u8], b: Batch, first: 
 
 // Those deleted are inserted again.
 fn refill(index: &mut [u8], places: &[u16], live: &mut [u8], b: Batch, seed: u64)
-    requires { ⌜ (1 ≤ b .d) × (b .d ≤ 16) × (b .points ≤ 1024) × (length (now live) ≡ 1024) × (length (now places) ≡ 16384) ⌝ }
+    requires { ⌜ Fits b × Arrays (now places) (now live) ⌝ }
 {
     let refused = insert_points(index, places, live, b.points, b.d);
     stage(index, places, live, b, refused, seed);
 }
 
 fn run_on(index: &mut [u8], places: &mut [u16], live: &mut [u8], b: Batch)
-    requires { ⌜ (1 ≤ b .d) × (b .d ≤ 16) × (b .points ≤ 1024) × (length (now live) ≡ 1024) × (length (now places) ≡ 16384) ⌝ }
+    requires { ⌜ Fits b × Arrays (now places) (now live) ⌝ }
 {
     fill(index, places, live, b, 12345);
     thin_out(index, places, live, b, 1, 777);
@@ -185,11 +138,11 @@ fn run_on(index: &mut [u8], places: &mut [u16], live: &mut [u8], b: Batch)
 
 // A batch in an index of 256 pages.
 fn run_batch(b: Batch)
-    requires { ⌜ (1 ≤ b .d) × (b .d ≤ 16) × (b .points ≤ 1024) ⌝ }
+    requires { ⌜ Fits b ⌝ }
 {
-    let mut index = [0u8; 262144];
-    let mut places = [0u16; 16384];
-    let mut live = [0u8; 1024];
+    let mut index = [0u8; 256 * PAGE_SIZE];
+    let mut places = [0u16; MAX_FEATURES * POINTS];
+    let mut live = [0u8; POINTS];
     run_on(&mut index, &mut places, &mut live, b);
 }
 

@@ -2,21 +2,25 @@
 ghost use mathlib.Core.Path.{_≡_};
 ghost use Prim.Native.Nat.{_≤_, _<_, _*_, _+_};
 ghost use lib.ListN.{length};
-use crate::numbers::id_of;
-use crate::numbers::point_at;
+ghost use Rattle.test_model.specs.Comparing.{Points};
+use test_model::numbers::id_of;
+use test_model::numbers::point_at;
+use test_parts::MAX_FEATURES;
 
 fn insert_point(index: &mut [u8], places: &[u16], p: usize, d: usize) -> u32
     requires { ⌜ (d ≤ 16) × (16 * p + 16 ≤ length (now places)) ⌝ }
     ensures { λ r. ⌜ length (now (index .exit)) ≡ length (now (index .entry)) ⌝ }
 {
-    let point = point_at(places, 16 * p);
+    let point = point_at(places, MAX_FEATURES * p);
     index::insert(index, id_of(p), &point[..d])
 }
 
 // Inserts point p if it is not live. Returns 1 if it is refused.
 fn insert_if(index: &mut [u8], places: &[u16], live: &mut [u8], p: usize, d: usize) -> u64
-    requires { ⌜ (d ≤ 16) × (p < length (now live)) × (length (now places) ≡ 16 * length (now live)) ⌝ }
-    ensures { λ r. ⌜ (r ≤ 1) × (length (now (index .exit)) ≡ length (now (index .entry))) × (length (now (live .exit)) ≡ length (now (live .entry))) ⌝ }
+    requires { ⌜ (d ≤ 16) × (p < length (now live)) × Points (now places) (now live) ⌝ }
+    ensures { λ r. ⌜
+        (r ≤ 1) × (length (now (index .exit)) ≡ length (now (index .entry))) × (length (now (live .exit)) ≡ length (now (live .entry)))
+        ⌝ }
 {
     if live[p] != 0 {
         return 0;
@@ -30,8 +34,10 @@ fn insert_if(index: &mut [u8], places: &[u16], live: &mut [u8], p: usize, d: usi
 
 // Inserts the first n points that are not live. Returns how many were refused.
 pub fn insert_points(index: &mut [u8], places: &[u16], live: &mut [u8], n: usize, d: usize) -> u64
-    requires { ⌜ (d ≤ 16) × (n ≤ length (now live)) × (length (now places) ≡ 16 * length (now live)) ⌝ }
-    ensures { λ r. ⌜ (length (now (index .exit)) ≡ length (now (index .entry))) × (length (now (live .exit)) ≡ length (now (live .entry))) ⌝ }
+    requires { ⌜ (d ≤ 16) × (n ≤ length (now live)) × Points (now places) (now live) ⌝ }
+    ensures { λ r. ⌜
+        (length (now (index .exit)) ≡ length (now (index .entry))) × (length (now (live .exit)) ≡ length (now (live .entry)))
+        ⌝ }
 {
     let mut refused: u64 = 0;
     let mut p = 0;
@@ -45,7 +51,9 @@ pub fn insert_points(index: &mut [u8], places: &[u16], live: &mut [u8], n: usize
 // Deletes point p if it is live. Returns 1 if that is refused.
 fn delete_if(index: &mut [u8], live: &mut [u8], p: usize) -> u64
     requires { ⌜ p < length (now live) ⌝ }
-    ensures { λ r. ⌜ (r ≤ 1) × (length (now (index .exit)) ≡ length (now (index .entry))) × (length (now (live .exit)) ≡ length (now (live .entry))) ⌝ }
+    ensures { λ r. ⌜
+        (r ≤ 1) × (length (now (index .exit)) ≡ length (now (index .entry))) × (length (now (live .exit)) ≡ length (now (live .entry)))
+        ⌝ }
 {
     if live[p] == 0 {
         return 0;
@@ -60,7 +68,9 @@ fn delete_if(index: &mut [u8], live: &mut [u8], p: usize) -> u64
 // Deletes every third point, from `first` on. Returns how many were refused.
 pub fn delete_points(index: &mut [u8], live: &mut [u8], first: usize) -> u64
     requires { ⌜ (length (now live) ≤ 65536) × (first ≤ length (now live)) ⌝ }
-    ensures { λ r. ⌜ (length (now (index .exit)) ≡ length (now (index .entry))) × (length (now (live .exit)) ≡ length (now (live .entry))) ⌝ }
+    ensures { λ r. ⌜
+        (length (now (index .exit)) ≡ length (now (index .entry))) × (length (now (live .exit)) ≡ length (now (live .entry)))
+        ⌝ }
 {
     let mut refused: u64 = 0;
     let mut p = first;

@@ -1,10 +1,7 @@
 // Many questions compared with a full scan. A line gives what was compared; the file `stdout` has the lines as they should be.
+mod asking;
 mod batches;
-mod comparing;
 mod filling;
-mod leaves;
-mod numbers;
-mod scan;
 
 fn main() {
     batches::run();

@@ -11,8 +11,8 @@ Inv-loop pages₀ at inner n end₀ i₀ pages end i = (n ≤ 16) × (i ≤ n) �
 abbrev μ-loop : tie.MeasureT-loop
 μ-loop pages₀ at inner n end₀ i₀ pages end i = n - i
 
-at-most-16-requires : tie.Need-at-most-16-requires Inv-loop μ-loop
-at-most-16-requires c κs = search needs
+item-count-requires : tie.Need-item-count-requires Inv-loop μ-loop
+item-count-requires c κs = search needs
 
 loop-holds : tie.Need-loop-holds Inv-loop μ-loop
 loop-holds c = search needs
@@ -44,7 +44,7 @@ put-children-spec =
     (tie.spec
     Inv-loop
     μ-loop
-    at-most-16-requires
+    item-count-requires
     loop-holds
     child-requires
     put-page-requires

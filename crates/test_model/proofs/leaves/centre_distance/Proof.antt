@@ -1,0 +1,58 @@
+use borrow.Author.Needs.{needs}
+use Prim.Native.Nat.{_-_, _*_, _≤_}
+use lib.ListN.{length}
+use Rattle.test_model.proofs.leaves.centre_distance.Statement.{statement}
+use Rattle.test_model.proofs.leaves.centre_distance.Tie as tie
+
+abbrev Inv-loop : tie.InvT-loop
+Inv-loop q sum₀ m₀ sum m = (m ≤ length q) × (sum ≤ 4294967296 * m)
+
+abbrev μ-loop : tie.MeasureT-loop
+μ-loop q sum₀ m₀ sum m = length q - m
+
+loop-holds : tie.Need-loop-holds Inv-loop μ-loop
+loop-holds c = search needs
+
+mul-beyond : tie.Need-mul-beyond Inv-loop μ-loop
+mul-beyond c = search needs
+
+shared-slice-read-beyond : tie.Need-shared-slice-read-beyond Inv-loop μ-loop
+shared-slice-read-beyond c = search needs
+
+beyond-requires : tie.Need-beyond-requires Inv-loop μ-loop
+beyond-requires c κs = search needs
+
+square-requires : tie.Need-square-requires Inv-loop μ-loop
+square-requires c κs = search needs
+
+add-sum : tie.Need-add-sum Inv-loop μ-loop
+add-sum c = search needs
+
+add-m : tie.Need-add-m Inv-loop μ-loop
+add-m c = search needs
+
+loop-less : tie.Need-loop-less Inv-loop μ-loop
+loop-less c = search needs
+
+loop-again : tie.Need-loop-again Inv-loop μ-loop
+loop-again c = search needs
+
+returns : tie.Need-returns Inv-loop μ-loop
+returns c = search needs
+
+pub centre-distance-spec : {M : Type 1} → statement M
+centre-distance-spec =
+    tie.close
+    (tie.spec
+    Inv-loop
+    μ-loop
+    loop-holds
+    mul-beyond
+    shared-slice-read-beyond
+    beyond-requires
+    square-requires
+    add-sum
+    add-m
+    loop-less
+    loop-again
+    returns)

@@ -1,0 +1,59 @@
+// Batches of points: what is asked of each, and what is reported.
+use crate::Batch;
+use crate::Seen;
+use crate::numbers::CLUSTERED;
+use crate::numbers::TIED;
+use crate::numbers::WIDE;
+use crate::numbers::leap;
+use std::num::wrapping_add_u64;
+use test_parts::MAX_ROWS;
+use test_parts::show;
+
+// Every fourth question of a batch is asked from anywhere.
+pub fn asked_kind(kind: u32, seed: u64) -> u32 {
+    if seed % 4 == 0 { WIDE } else { kind }
+}
+
+pub fn asked_k(seed: u64) -> usize {
+    (seed / 1024 % MAX_ROWS as u64) as usize + 1
+}
+
+pub fn both(a: Seen, b: Seen) -> Seen {
+    Seen {
+        rows: wrapping_add_u64(a.rows, b.rows),
+        leaves: wrapping_add_u64(a.leaves, b.leaves),
+        differences: wrapping_add_u64(a.differences, b.differences),
+    }
+}
+
+// Another number for each batch.
+pub fn batch_seed(b: Batch, seed: u64) -> u64 {
+    let kind = (b.kind % 16) as u64;
+    let d = (b.d % 32) as u64;
+    leap(seed % 65536 + 100 * kind + d)
+}
+
+fn show_kind(kind: u32) {
+    if kind == WIDE {
+        show::text(b" wide");
+    }
+    if kind == CLUSTERED {
+        show::text(b" clustered");
+    }
+    if kind == TIED {
+        show::text(b" tied");
+    }
+}
+
+pub fn report(b: Batch, points: usize, refused: u64, seen: Seen) {
+    show::text(b"full scan:");
+    show::field(b"d", b.d as u64);
+    show_kind(b.kind);
+    show::field(b"acts refused", refused);
+    show::field(b"points", points as u64);
+    show::field(b"questions", b.questions as u64);
+    show::field(b"rows compared", seen.rows);
+    show::field(b"leaves read", seen.leaves);
+    show::field(b"differences", seen.differences);
+    show::text(b"\n");
+}

@@ -1,0 +1,40 @@
+// What a question must give, worked out apart from the index and its search: points drawn by a generator of numbers, a full scan of them,
+// the leaves whose bound is at most a distance, and an answer compared with these.
+use test_parts::MAX_FEATURES;
+
+pub mod batches;
+pub mod comparing;
+pub mod leaves;
+pub mod numbers;
+pub mod scan;
+
+// The points of a batch, at most.
+pub const POINTS: usize = 1024;
+
+// The heights of a pyramid: 0 to 1,000.
+pub const HEIGHTS: usize = 1001;
+// The pairs of a pyramid and a height.
+pub const PAIRS: usize = 2 * MAX_FEATURES * HEIGHTS;
+
+// What a question asks for: the features, k, the number of points that are live and of leaves.
+pub struct Asked {
+    pub d: usize,
+    pub k: usize,
+    pub live: usize,
+    pub leaves: usize,
+}
+
+// What came: the rows and the leaves read, and how many of them differ from the full scan.
+pub struct Seen {
+    pub rows: u64,
+    pub leaves: u64,
+    pub differences: u64,
+}
+
+// A batch: the features, the points and how they lie, and how many questions are asked at each stage.
+pub struct Batch {
+    pub d: usize,
+    pub points: usize,
+    pub kind: u32,
+    pub questions: u32,
+}

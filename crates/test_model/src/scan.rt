@@ -1,0 +1,125 @@
+// A full scan of the points, written apart from the index and its search: every distance, and the nearest by repeated minimum.
+// The mark of a point is 1 while it is live.
+ghost use mathlib.Core.Path.{_≡_};
+ghost use Prim.Native.Nat.{_≤_, _<_, _*_, _+_, max};
+ghost use lib.ListN.{length};
+use crate::numbers::id_of;
+use test_parts::MAX_FEATURES;
+
+// The distance of a point that is not live, or was taken.
+pub const FAR: u64 = 18446744073709551615;
+
+fn wide(x: u16) -> u64
+    ensures { λ r. ⌜ r < 65536 ⌝ }
+{
+    x as u64
+}
+
+pub fn gap(a: u16, b: u16) -> u64
+    ensures { λ r. ⌜ r < 65536 ⌝ }
+{
+    if a < b { wide(b - a) } else { wide(a - b) }
+}
+
+pub fn square(g: u64) -> u64
+    requires { ⌜ g < 65536 ⌝ }
+    ensures { λ r. ⌜ r < 4294967296 ⌝ }
+{
+    g * g
+}
+
+// The squared distance from q of the point whose places begin at `at`.
+fn distance(places: &[u16], at: usize, q: &[u16]) -> u64
+    requires { ⌜ (length (now q) ≤ 16) × (at + 16 ≤ length (now places)) ⌝ }
+{
+    let mut sum: u64 = 0;
+    let mut m = 0;
+    while m < q.len() {
+        sum += square(gap(places[at + m], q[m]));
+        m += 1;
+    }
+    sum
+}
+
+fn distance_if(live: u8, places: &[u16], at: usize, q: &[u16]) -> u64
+    requires { ⌜ (length (now q) ≤ 16) × (at + 16 ≤ length (now places)) ⌝ }
+{
+    if live == 0 {
+        return FAR;
+    }
+    distance(places, at, q)
+}
+
+// The distances of all points from q.
+pub fn measure(distances: &mut [u64], places: &[u16], live: &[u8], q: &[u16])
+    requires { ⌜ (length (now q) ≤ 16) × (length (now places) ≡ 16 * length (now live)) × (length (now distances) ≡ length (now live)) ⌝ }
+    ensures { λ r. ⌜ length (now (distances .exit)) ≡ length (now (distances .entry)) ⌝ }
+{
+    let mut p = 0;
+    while p < live.len() {
+        distances[p] = distance_if(live[p], places, p * MAX_FEATURES, q);
+        p += 1;
+    }
+}
+
+// The nearer of two points, the one of the lower identifier at equal distances.
+fn nearer(a: u64, p: usize, b: u64, q: usize) -> usize
+    ensures { λ r. ⌜ r ≤ max p q ⌝ }
+{
+    if a < b {
+        return p;
+    }
+    if b < a {
+        return q;
+    }
+    if id_of(p) < id_of(q) { p } else { q }
+}
+
+// The point of the least distance, and of these that of the lowest identifier.
+fn least(distances: &[u64]) -> usize
+    requires { ⌜ 0 < length (now distances) ⌝ }
+    ensures { λ r. ⌜ r < length (now (distances .entry)) ⌝ }
+{
+    let mut best = 0;
+    let mut p = 1;
+    while p < distances.len() {
+        best = nearer(distances[p], p, distances[best], best);
+        p += 1;
+    }
+    best
+}
+
+// What the scan finds next.
+pub struct Near {
+    pub distance: u64,
+    pub id: u32,
+}
+
+// Takes the nearest point that is left.
+pub fn take(distances: &mut [u64]) -> Near
+    requires { ⌜ 0 < length (now distances) ⌝ }
+    ensures { λ r. ⌜ length (now (distances .exit)) ≡ length (now (distances .entry)) ⌝ }
+{
+    let p = least(distances);
+    let d = distances[p];
+    distances[p] = FAR;
+    Near {
+        distance: d,
+        id: id_of(p),
+    }
+}
+
+// How many points are live.
+pub fn live_count(live: &[u8]) -> usize
+    ensures { λ r. ⌜ r ≤ length (now (live .entry)) ⌝ }
+{
+    let mut n = 0;
+    let mut p = 0;
+    while p < live.len() {
+        if live[p] != 0 {
+            n += 1;
+        }
+        p += 1;
+    }
+    n
+}
