@@ -7,20 +7,20 @@ use Prim.Native.Nat.{ℕ, suc, _+_, _-_, _≤_, _<_}
 use native.Mathlib.Omega.{arith}
 use lib.ListN.{length, take, drop}
 use lib.Seq.{drop-length}
-use lib.Dec.{leb}
-use borrow.Author.Tests.{leb-true, leb-false}
 use Rattle.lists.specs.Basics.{if}
 use Rattle.lists.specs.Tests.{false-true, by-cases}
-use Rattle.acts_text.specs.Bytes.{Written}
-use Rattle.acts_step.specs.Steps.{mostPrinted}
-use Rattle.acts_step.specs.Advances.{Ready, Closes, Takes, Advances, Flushed, Hands, adds, flush, both, Fresh}
+use Rattle.acts_fields.specs.Bytes.{Written}
+use Rattle.acts_output.specs.Puts.{mostPrinted}
+use Rattle.acts_buffer.specs.Room.{Flushed}
+use Rattle.acts_step.specs.Advances.{Ready, Closes, Takes, Advances, Hands, adds, flush, both, Fresh}
 use Rattle.acts_step.specs.Advances as step
 use Rattle.acts_step.specs.Texts.{Prints}
-use Rattle.acts_step.specs.declared.Progress.{Progress}
-use Rattle.acts_step.proofs.PutLaws.{written-then}
+use Rattle.acts_buffer.specs.declared.Progress.{Progress}
+use Rattle.acts_output.proofs.PutLaws.{written-then}
 use Rattle.acts_step.proofs.AdvanceLaws.{advances-none, advances-then, takes-advances, written-none, hands-none, hands-more}
 use Rattle.acts_step.proofs.PrintLaws.{text-prints, text-ends}
-use Rattle.acts.specs.Running.{Fits, Placed, Open, Full, Cleared, roomy, flushed, broken, Ran, Through, Stopped, UsedUp, Taken, Closed, stays, closed, fails, early, late, Printed, Whole}
+use Rattle.acts_buffer.specs.Room.{Open, Full, Cleared, roomy, flushed, broken}
+use Rattle.acts.specs.Running.{Fits, Ran, Through, Stopped, UsedUp, Taken, Closed, stays, closed, fails, early, late, Printed, Whole}
 
 -- ---- THE LINES OF A CHUNK
 
@@ -103,24 +103,6 @@ chunk-done index₀ held₀ chunk out₀ s index held out t y w = record {
 }
 
 -- ---- ROOM FOR A LINE
-
-pub room-tested : (space : ℕ) (s : Progress) → s .end ≤ space → s .number ≤ 18446744073709551614
-    → (leb mostPrinted (space - s .end) ≡ true → Open space s) × (leb mostPrinted (space - s .end) ≡ false → Full space s)
-room-tested space s fit n = (
-  λ e. let h : mostPrinted ≤ space - s .end = leb-true mostPrinted (space - s .end) e in record { room = omega arith; numbers = omega arith },
-  λ e. let h : space - s .end < mostPrinted = leb-false mostPrinted (space - s .end) e in inl (omega arith),
-)
-
--- there was none, and there is a number for the line
-pub flush-makes : (out : List ℕ) (s r : Progress) → Full (length out) s → mostPrinted ≤ length out → Flushed s r → r .number ≤ 18446744073709551614 → Cleared out s r
-flush-makes out s r (inl e) most f n = let z = f .empty in flushed e f (record { room = omega arith; numbers = omega arith })
-flush-makes out s r (inr e) most f n = let z = f .number in absurd (omega arith)
-
--- there is no number for the line
-pub flush-ends : (out : List ℕ) (s t r : Progress) → 18446744073709551614 < t .number → Flushed s t → Placed t false (t .at) 0 r → Cleared out s r
-flush-ends out s t r n f p =
-    let z = f .number in
-    broken (omega arith) (record { d = p .d ∙ f .d; number = p .number ∙ f .number; held = p .held ∙ f .held; at = p .placed ∙ f .at; empty = p .ends }) (p .goes)
 
 -- a run that ends there had no room or no number
 cleared-full : {out : List ℕ} {s t : Progress} → Cleared out s t → s .going ≡ true → t .going ≡ false → Full (length out) s × Flushed s t

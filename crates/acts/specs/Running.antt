@@ -1,15 +1,18 @@
--- What holds while the program runs: its buffers are large enough, its lines are done, and what they print stands in the output buffer or was handed over.
+-- What holds while the program runs: its buffers are large enough, its lines are done, and what they print stands in the output buffer or
+-- was handed over.
 use mathlib.Core.Path.{_≡_}
 use mathlib.Core.Logic.{_⊎_}
-use mathlib.Core.Bool.{Bool, true, false}
+use mathlib.Core.Bool.{true, false}
 use mathlib.Core.List.{List, [], _++_}
 use Prim.Native.Nat.{ℕ, _+_, _≤_, _<_}
 use lib.ListN.{length, take, drop}
-use Rattle.acts_text.specs.Bytes.{Written}
-use Rattle.acts_step.specs.Steps.{indexBytes, mostPrinted}
-use Rattle.acts_step.specs.Advances.{Closes, Advances, Flushed, Hands, Fresh}
+use Rattle.acts_fields.specs.Bytes.{Written}
+use Rattle.acts_output.specs.Puts.{mostPrinted}
+use Rattle.acts_step.specs.Steps.{indexBytes}
+use Rattle.acts_buffer.specs.Room.{Flushed, Open, Full, Cleared}
+use Rattle.acts_step.specs.Advances.{Closes, Advances, Hands, Fresh}
 use Rattle.acts_step.specs.Texts.{Prints}
-use Rattle.acts_step.specs.declared.Progress.{Progress}
+use Rattle.acts_buffer.specs.declared.Progress.{Progress}
 
 -- between two calls: a 64-page index, at most 257 bytes held of the current line, and an output buffer that has room for what a line prints
 pub record Fits (index held out : List ℕ) (s : Progress) : Type 0 where
@@ -18,31 +21,6 @@ pub record Fits (index held out : List ℕ) (s : Progress) : Type 0 where
   pub few : s .held ≤ 257
   pub space : s .end ≤ length out
   pub most : mostPrinted ≤ length out
-
--- r is s with these places
-pub record Placed (s : Progress) (going : Bool) (at end : ℕ) (r : Progress) : Type 0 where
-  pub d : r .d ≡ s .d
-  pub number : r .number ≡ s .number
-  pub held : r .held ≡ s .held
-  pub placed : r .at ≡ at
-  pub ends : r .end ≡ end
-  pub goes : r .going ≡ going
-
--- a line can be done: the buffer, of this length, has room for what it prints, and the line number behind it has 64 bits
-pub record Open (space : ℕ) (s : Progress) : Type 0 where
-  pub room : s .end + mostPrinted ≤ space
-  pub numbers : s .number < 18446744073709551615
-
--- none can be done
-abbrev pub Full : ℕ → Progress → Type 0
-Full space s = (space < s .end + mostPrinted) ⊎ (18446744073709551615 ≤ s .number)
-
--- room is made for a line: there was room; or there was none, and all that stood in the buffer is handed over; or it is, and the run ends, since line
--- numbers are used up
-pub data Cleared (out : List ℕ) (s r : Progress) : Type 0 where
-  roomy : Open (length out) s → r ≡ s → Cleared out s r
-  flushed : length out < s .end + mostPrinted → Flushed s r → Open (length out) r → Cleared out s r
-  broken : 18446744073709551615 ≤ s .number → Flushed s r → r .going ≡ false → Cleared out s r
 
 -- the lines of a chunk are done, from s .at on: the text that they print is written in the buffer behind what stood there, and every other byte of the
 -- buffer is as before. A run that goes on stops at the chunk's end, or where a line cannot be done. b, held, out: index, line and buffer before it

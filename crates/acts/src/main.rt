@@ -1,73 +1,21 @@
-// The acts program (01): runs the acts of a text, read from standard input, on a 64-page index, and writes what they print to standard output.
+// The acts program (01): runs the acts of a text, read from standard input, on a 64-page index, and writes what they print to standard
+// output.
 ghost use mathlib.Core.Path.{_≡_};
-ghost use mathlib.Core.Bool.{true, false};
 ghost use Prim.Native.Nat.{_≤_};
 ghost use lib.ListN.{length};
 ghost use Rattle.io.specs.Counts.{Counts};
-ghost use Rattle.acts_step.specs.Steps.{indexBytes, mostPrinted};
-ghost use Rattle.acts_step.specs.Advances.{Flushed};
-ghost use Rattle.acts.specs.Running.{Fits, Placed, Open, Full, Cleared, Ran, UsedUp, Taken, Closed, Whole};
-use acts_step::Progress;
+ghost use Rattle.acts_output.specs.Puts.{mostPrinted};
+ghost use Rattle.acts_step.specs.Steps.{indexBytes};
+ghost use Rattle.acts.specs.Running.{Fits, Ran, UsedUp, Taken, Closed, Whole};
+use acts_buffer::Progress;
+use acts_buffer::flush;
+use acts_buffer::has_room;
+use acts_buffer::make_room;
+use acts_buffer::placed;
 use acts_step::end_input;
 use acts_step::take_line;
+use acts_text::input::KEPT;
 use libc::STDIN_FILENO;
-use libc::STDOUT_FILENO;
-
-// The most bytes that a line of input prints.
-const ROOM: usize = 6720;
-
-// The last number that a line may have; no input comes to it.
-const LAST: u64 = 18446744073709551614;
-
-// The progress with other places of chunk and output.
-fn placed(s: Progress, going: bool, at: usize, end: usize) -> Progress
-    ensures { λ r. ⌜ Placed s going at end r ⌝ }
-{
-    Progress {
-        going: going,
-        d: s.d,
-        number: s.number,
-        held: s.held,
-        at: at,
-        end: end,
-    }
-}
-
-// Hands over what is printed, to be written. Where that fails the run does not go on.
-fn flush(out: &[u8], s: Progress) -> Progress
-    requires { ⌜ s .end ≤ length (now out) ⌝ }
-    ensures { λ r. ⌜ Flushed s r ⌝ }
-{
-    let end = s.end;
-    let is_written = io::write_all(STDOUT_FILENO, &out[..end]);
-    placed(s, s.going && is_written, s.at, 0)
-}
-
-// Whether a line can be done: there is room for what it prints, and a number for it.
-fn has_room(s: Progress, space: usize) -> bool
-    requires { ⌜ s .end ≤ space ⌝ }
-    ensures { λ r. ⌜ (r ≡ true → Open space s) × (r ≡ false → Full space s) ⌝ }
-{
-    if LAST < s.number {
-        return false;
-    }
-    ROOM <= space - s.end
-}
-
-// Makes room for a line. Where it has no number the run does not go on.
-fn make_room(out: &[u8], s: Progress) -> Progress
-    requires { ⌜ (s .end ≤ length (now out)) × (mostPrinted ≤ length (now out)) ⌝ }
-    ensures { λ r. ⌜ Cleared (now (out .entry)) s r ⌝ }
-{
-    if has_room(s, out.len()) {
-        return s;
-    }
-    let t = flush(out, s);
-    if LAST < t.number {
-        return placed(t, false, t.at, 0);
-    }
-    t
-}
 
 // Does the lines that end in a chunk, from `s.at` on, as far as there is room for what they print.
 fn run_chunk(
@@ -78,7 +26,10 @@ fn run_chunk(
     s: Progress,
 ) -> Progress
     requires { ⌜ Fits (now index) (now held) (now out) s × (s .at ≤ length (now chunk)) ⌝ }
-    ensures { λ r. ⌜ Ran (now (index .entry)) (now (held .entry)) (now (chunk .entry)) (now (out .entry)) s (now (index .exit)) (now (held .exit)) (now (out .exit)) r ⌝ }
+    ensures { λ r. ⌜
+        Ran (now (index .entry)) (now (held .entry)) (now (chunk .entry)) (now (out .entry)) s
+        (now (index .exit)) (now (held .exit)) (now (out .exit)) r
+        ⌝ }
 {
     let mut t = s;
     while t.going && t.at < chunk.len() && has_room(t, out.len()) {
@@ -90,7 +41,10 @@ fn run_chunk(
 // Does all lines that end in a chunk, and hands over what they print where there is no room for more.
 fn use_up(index: &mut [u8], held: &mut [u8], chunk: &[u8], out: &mut [u8], s: Progress) -> Progress
     requires { ⌜ Fits (now index) (now held) (now out) s ⌝ }
-    ensures { λ r. ⌜ UsedUp (now (index .entry)) (now (held .entry)) (now (chunk .entry)) (now (out .entry)) s (now (index .exit)) (now (held .exit)) (now (out .exit)) r ⌝ }
+    ensures { λ r. ⌜
+        UsedUp (now (index .entry)) (now (held .entry)) (now (chunk .entry)) (now (out .entry)) s
+        (now (index .exit)) (now (held .exit)) (now (out .exit)) r
+        ⌝ }
 {
     let mut t = placed(s, s.going, 0, s.end);
     while t.going && t.at < chunk.len() {
@@ -120,7 +74,10 @@ fn run_input(
     s: Progress,
 ) -> Progress
     requires { ⌜ Fits (now index) (now held) (now out) s ⌝ }
-    ensures { λ r. ⌜ Taken (now (index .entry)) (now (held .entry)) (now (out .entry)) s (now (index .exit)) (now (held .exit)) (now (out .exit)) r ⌝ }
+    ensures { λ r. ⌜
+        Taken (now (index .entry)) (now (held .entry)) (now (out .entry)) s
+        (now (index .exit)) (now (held .exit)) (now (out .exit)) r
+        ⌝ }
 {
     let mut t = s;
     let mut turns = u64::MAX;
@@ -171,7 +128,7 @@ fn main() {
     let mut index = io::large_buffer();
     let mut chunk = io::large_buffer();
     let mut out = io::large_buffer();
-    let mut held = [0u8; 257];
+    let mut held = [0u8; KEPT];
     let r = run(&mut index, &mut held, &mut chunk, &mut out);
     flush(&out, r);
 }

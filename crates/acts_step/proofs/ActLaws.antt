@@ -17,10 +17,12 @@ use Rattle.index.specs.Asking.{Question}
 use Rattle.index.specs.Acts.{Act, insert, delete, question}
 use Rattle.index.specs.Questions.{QuestionOutcome}
 use Rattle.acts_text.specs.declared.ActLine.{ActLine}
-use Rattle.acts_text.specs.Bytes.{Written}
-use Rattle.acts_text.specs.Output.{resultLine}
-use Rattle.acts_step.specs.Printed.{rowLines, answerLines}
-use Rattle.acts_step.specs.Steps.{rowsLent, mostPrinted, pointOf, questionIn, askedBy, Acted, Asks, Puts}
+use Rattle.acts_fields.specs.Bytes.{Written}
+use Rattle.acts_output.specs.Output.{resultLine}
+use Rattle.acts_output.specs.Output.{rowLines}
+use Rattle.acts_step.specs.Printed.{answerLines}
+use Rattle.acts_output.specs.Puts.{rowsLent, mostPrinted, Puts}
+use Rattle.acts_step.specs.Steps.{pointOf, questionIn, askedBy, Acted, Replies}
 
 module _ (b c out out' : List ℕ) (n code at r : ℕ) (room : r ≤ at + 105) where
   pub inserted : (i : ℕ) (p : List ℤ) → i < 2 ^ 32 → First (insertRules b i p) code → c ≡ insertedWith code b i p → Written out out' at r (resultLine n code i 0 0)
@@ -74,7 +76,7 @@ module _ (b : List ℕ) (w : Question) (ds ts : List ℕ) (o : Answer) (a : Ques
 
   module _ (n : ℕ) (out out' : List ℕ) (at r : ℕ) where
     pub asked-none : o .count ≡ 0 → Written out out' at r (resultLine n (o .code) 0 0 (o .leaves)) → r ≤ at + 105
-        → Puts (Asks w b n) mostPrinted out out' at r
+        → Puts (Replies w b n) mostPrinted out out' at r
     asked-none z t room = record {
       text = resultLine n (o .code) 0 0 (o .leaves);
       says = record {
@@ -88,7 +90,7 @@ module _ (b : List ℕ) (w : Question) (ds ts : List ℕ) (o : Answer) (a : Ques
     }
 
     pub asked-some : o .count ≢ 0 → Puts (λ t. t ≡ rowLines n 0 (o .leaves) (rowsIn ds ts (o .count))) mostPrinted out out' at r
-        → Puts (Asks w b n) mostPrinted out out' at r
+        → Puts (Replies w b n) mostPrinted out out' at r
     asked-some z t =
         let some : length (answer .rows) ≢ 0 = λ e. z (a .count ∙ e) in
         let zero : o .code ≡ 0 = rows-zero b w (o .code) some in

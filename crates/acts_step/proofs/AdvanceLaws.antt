@@ -8,12 +8,12 @@ use Prim.Native.Nat.{ℕ, _+_, _≤_}
 use native.Mathlib.Omega.{arith}
 use lib.ListN.{length, take, drop, length-append, take-append-drop}
 use lib.Seq.{take-at, length-take-le, drop-length}
-use Rattle.acts_text.specs.Bytes.{Written}
+use Rattle.acts_fields.specs.Bytes.{Written}
 use Rattle.acts_text.specs.Input.{ended, current}
 use Rattle.acts_text.proofs.InputLaws.{ended-append, current-append}
 use Rattle.acts_step.specs.Advances.{Does, Waits, Goes, Takes, Goings, Advances, Hands, adds, flush, both}
 use Rattle.acts_step.specs.Advances as goings
-use Rattle.acts_step.specs.declared.Progress.{Progress}
+use Rattle.acts_buffer.specs.declared.Progress.{Progress}
 
 -- ---- BYTES IN THE BUFFER
 

@@ -1,4 +1,3 @@
-pub mod PutLaws
 pub mod ActLaws
 pub mod StepLaws
 pub mod TakeLaws

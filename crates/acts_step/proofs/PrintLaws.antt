@@ -21,7 +21,7 @@ use Rattle.acts_step.specs.Advances.{Does, first, later, Closes, closed,
 use Rattle.acts_step.specs.Advances as goings
 use Rattle.acts_step.specs.Texts.{Tabulated, firstOf, laterOf, Prints}
 use Rattle.acts_step.specs.Texts as texts
-use Rattle.acts_step.specs.declared.Progress.{Progress}
+use Rattle.acts_buffer.specs.declared.Progress.{Progress}
 use Rattle.acts_step.proofs.StepLaws.{lent, few-features}
 use Rattle.acts_step.proofs.AdvanceLaws.{advances-more, written-taken, text-handed}
 use Rattle.acts_step.proofs.TextLaws.{runs-append, runs-kept, runs-series, text-stands}

@@ -12,14 +12,15 @@ use Rattle.index.specs.Refusals.{First, makeRules}
 use Rattle.index.specs.RefusalLaws.{first-one, none-fails}
 use Rattle.index.specs.Outcomes.{madeWith}
 use Rattle.acts_text.specs.declared.ActLine.{ActLine}
-use Rattle.acts_text.specs.Bytes.{Written}
+use Rattle.acts_fields.specs.Bytes.{Written}
 use Rattle.acts_text.specs.Lines.{actOf}
 use Rattle.acts_text.specs.Names.{namesIn}
-use Rattle.acts_text.specs.Output.{heading, resultLine}
+use Rattle.acts_output.specs.Output.{heading, resultLine}
 use Rattle.acts_text.proofs.LineLaws.{act-writes}
 use Rattle.acts_text.proofs.NameLaws.{names-writes}
-use Rattle.acts_step.specs.Steps.{indexBytes, mostPrinted, askedBy, Acted, Steps, passed, acted, Begins, ends, begins, Puts}
-use Rattle.acts_step.proofs.PutLaws.{written-then}
+use Rattle.acts_output.specs.Puts.{mostPrinted, Puts}
+use Rattle.acts_step.specs.Steps.{indexBytes, askedBy, Acted, Steps, passed, acted, Begins, ends, begins}
+use Rattle.acts_output.proofs.PutLaws.{written-then}
 
 -- ---- A LINE OF VALUES
 

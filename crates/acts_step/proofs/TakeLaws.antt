@@ -10,9 +10,10 @@ use lib.ListN.{length, take, drop, length-take}
 use Rattle.acts_text.specs.declared.Fed.{Fed}
 use Rattle.acts_text.specs.Input.{Feeds, piece, ended, current}
 use Rattle.acts_text.proofs.InputLaws.{feeds-line, feeds-on}
-use Rattle.acts_step.specs.Steps.{mostPrinted, Steps, Begins, Puts}
+use Rattle.acts_output.specs.Puts.{mostPrinted, Puts}
+use Rattle.acts_step.specs.Steps.{Steps, Begins}
 use Rattle.acts_step.specs.Advances.{Does, first, later, Ended, Within, Takes}
-use Rattle.acts_step.specs.declared.Progress.{Progress}
+use Rattle.acts_buffer.specs.declared.Progress.{Progress}
 
 -- a text that says P says Q, where P gives Q
 puts-map : {P Q : List ℕ → Type 0} → ((t : List ℕ) → P t → Q t) → (m : ℕ) (out out' : List ℕ) (at r : ℕ) → Puts P m out out' at r → Puts Q m out out' at r

@@ -1,6 +1,6 @@
 -- Texts of acts. `runs-append`, `runs-split`: lines one after the other. `runs-kept`: what is kept of each line says the same. `text-stands`: after any text the
 -- index is sound and holds the records inserted and not deleted since. `text-question`: a question's lines are the k nearest of them.
-use mathlib.Core.Path.{_≡_, refl, sym, ap, _∙_, subst}
+use mathlib.Core.Path.{_≡_, sym, ap, _∙_, subst}
 use mathlib.Core.List.{List, [], _∷_, _++_, map, append-assoc}
 use Prim.Native.Nat.{ℕ, suc, _+_, _≤_}
 use native.Mathlib.Omega.{arith}
@@ -32,29 +32,6 @@ runs-append {d = d} {n = n} {m = m} {c = c} {t = t} {ys = ys} texts.end q = subs
 runs-append {d = d} {n = n} {m = m} {c = c} {t = t} {ys = ys} (texts.next {s = s} {t = u} {l = l} {ls = ls} h r) q =
     subst (Tabulated d _ n (l ∷ (ls ++ ys)) c) (sym (append-assoc s u t))
     (texts.next h (runs-append r (subst (λ (k : ℕ). Tabulated d m k ys c t) (sym (number-on n (length ls))) q)))
-
--- what a text comes to behind its first lines: the index met, and what has been printed
-pub record Met (d n : ℕ) (b : List ℕ) (xs ys : List (List ℕ)) (c t : List ℕ) : Type 0 where
-  pub met : List ℕ
-  pub text : List ℕ
-  pub more : List ℕ
-  pub before : Tabulated d b n xs met text
-  pub after : Tabulated d met (n + length xs) ys c more
-  pub prints : t ≡ text ++ more
-
-pub runs-split : {d n : ℕ} {b c t : List ℕ} (xs ys : List (List ℕ)) → Tabulated d b n (xs ++ ys) c t → Met d n b xs ys c t
-runs-split {d = d} {n = n} {b = b} {c = c} {t = t} [] ys r =
-    record { met = b; text = []; more = t; before = texts.end; after = subst (λ (k : ℕ). Tabulated d b k ys c t) (let e : n ≡ n + 0 = omega arith in e) r; prints = refl }
-runs-split {d = d} {n = n} {c = c} (x ∷ xs) ys (texts.next {s = s} h r) =
-    let w = runs-split xs ys r in
-    record {
-      met = w .met;
-      text = s ++ w .text;
-      more = w .more;
-      before = texts.next h (w .before);
-      after = subst (λ (k : ℕ). Tabulated d (w .met) k ys c (w .more)) (number-on n (length xs)) (w .after);
-      prints = ap (λ (u : List ℕ). s ++ u) (w .prints) ∙ sym (append-assoc s (w .text) (w .more));
-    }
 
 -- ---- WHAT IS KEPT OF A LINE
 

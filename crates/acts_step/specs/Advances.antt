@@ -6,11 +6,13 @@ use mathlib.Core.List.{List, [], _∷_, _++_}
 use Prim.Native.Nat.{ℕ, suc, _+_, _≤_, _<_}
 use lib.Dec.{eqb}
 use lib.ListN.{length, take, drop}
-use Rattle.acts_text.specs.Bytes.{Written}
+use Rattle.acts_fields.specs.Bytes.{Written}
 use Rattle.acts_text.specs.Input.{ended, current}
 use Rattle.acts_text.specs.Lines.{limit}
-use Rattle.acts_step.specs.Steps.{indexBytes, mostPrinted, Steps, Begins, Puts}
-use Rattle.acts_step.specs.declared.Progress.{Progress}
+use Rattle.acts_output.specs.Puts.{mostPrinted, Puts}
+use Rattle.acts_step.specs.Steps.{indexBytes, Steps, Begins}
+use Rattle.acts_buffer.specs.Room.{Flushed}
+use Rattle.acts_buffer.specs.declared.Progress.{Progress}
 
 -- a 64-page index, room for what a line prints, and a next line number that has 64 bits
 pub record Ready (index out : List ℕ) (s : Progress) : Type 0 where
@@ -75,14 +77,6 @@ pub record Advances (b held i : List ℕ) (s : Progress) (c held' i' : List ℕ)
   pub ends : ended (take (s .held) held) i ≡ lines ++ ended (take (r .held) held') i'
   pub rest : current (take (s .held) held) i ≡ current (take (r .held) held') i'
   pub does : Goings (s .d) (s .number) b (s .going) lines (r .d) (r .number) c (r .going) t
-
--- r is s with nothing in the output buffer; whether the run goes on is told by r
-pub record Flushed (s r : Progress) : Type 0 where
-  pub d : r .d ≡ s .d
-  pub number : r .number ≡ s .number
-  pub held : r .held ≡ s .held
-  pub at : r .at ≡ s .at
-  pub empty : r .end ≡ 0
 
 -- from progress s to progress r on the input i, of which i' is left, with w handed over to be written
 pub data Hands : (b held out i : List ℕ) → Progress → (c held' out' i' : List ℕ) → Progress → List ℕ → Type 0 where

@@ -1,15 +1,10 @@
 -- What the acts program prints for an act (01, "The acts program").
-use mathlib.Core.List.{List, [], _∷_, _++_}
+use mathlib.Core.List.{List, [], _∷_}
 use Prim.Native.Nat.{ℕ}
 use Rattle.search_rows.specs.declared.Row.{Row}
 use Rattle.search.specs.Visit.{Answer as Found}
 use Rattle.index.specs.Acts.{Act, insert, delete, question, check}
-use Rattle.acts_text.specs.Output.{resultLine}
-
--- one line per row. n: the line's number.
-unfoldable pub rowLines : ℕ → ℕ → ℕ → List Row → List ℕ
-rowLines n code leaves [] = []
-rowLines n code leaves (x ∷ xs) = resultLine n code (x .id) (x .distance) leaves ++ rowLines n code leaves xs
+use Rattle.acts_output.specs.Output.{resultLine, rowLines}
 
 -- a question's rows; with no rows, or refused, one line with identifier and distance 0
 abbrev pub answerLines : ℕ → ℕ → ℕ → List Row → List ℕ

@@ -3,7 +3,7 @@ use mathlib.Core.Path.{_≡_}
 use mathlib.Core.Logic.{_≢_}
 use mathlib.Core.Bool.{true, false}
 use mathlib.Core.List.{List, _++_}
-use Prim.Native.Nat.{ℕ, _+_, _*_, _≤_}
+use Prim.Native.Nat.{ℕ}
 use lib.Dec.{eqb}
 use lib.IntN.{ℤ}
 use lib.ListN.{take}
@@ -13,23 +13,15 @@ use Rattle.search.specs.Visit.{Answer as Found}
 use Rattle.index.specs.Asking.{Question, nearestOf}
 use Rattle.index.specs.Acts.{Act, insert, delete, question, does}
 use Rattle.acts_text.specs.declared.ActLine.{ActLine}
-use Rattle.acts_text.specs.Bytes.{Written}
 use Rattle.acts_text.specs.Lines.{actOf}
 use Rattle.acts_text.specs.Names.{namesIn}
-use Rattle.acts_text.specs.Output.{heading, resultLine}
+use Rattle.acts_output.specs.Output.{heading, resultLine}
+use Rattle.acts_output.specs.Puts.{rowsLent}
 use Rattle.acts_step.specs.Printed.{printed}
 
 -- a 64-page index
 abbrev pub indexBytes : ℕ
 indexBytes = 65536
-
--- the rows lent to a question
-abbrev pub rowsLent : ℕ
-rowsLent = 64
-
--- the most bytes that a line of input prints: a line of output has at most 105
-abbrev pub mostPrinted : ℕ
-mostPrinted = rowsLent * 105
 
 -- the coordinates that a line gives
 abbrev pub pointOf : ActLine → List ℤ
@@ -51,8 +43,8 @@ pub record Acted (x : Act) (b : List ℕ) (n : ℕ) (c t : List ℕ) : Type 0 wh
   pub prints : t ≡ printed n x code answer
 
 -- line n asks the question w of index b and prints t
-abbrev pub Asks : Question → List ℕ → ℕ → List ℕ → Type 0
-Asks w b n t = Acted (question w rowsLent) b n b t
+abbrev pub Replies : Question → List ℕ → ℕ → List ℕ → Type 0
+Replies w b n t = Acted (question w rowsLent) b n b t
 
 -- line n of values, l, on index b of d features: it leaves index c and prints t
 pub data Steps (d : ℕ) (b : List ℕ) (n : ℕ) (l c t : List ℕ) : Type 0 where
@@ -66,10 +58,3 @@ pub data Begins (b l : List ℕ) (d : ℕ) (c t : List ℕ) : Type 0 where
   ends : namesIn l ≡ 0 → d ≡ 0 → c ≡ b → t ≡ heading ++ resultLine 1 13 0 0 0 → Begins b l d c t
   -- readable: the output's names, and an empty index of the d features named
   begins : d ≢ 0 → d ≡ namesIn l → c ≡ newIndex b d → t ≡ heading → Begins b l d c t
-
--- a text of which P holds is written in out from index at on, up to index r, and leaves out'; it has at most m bytes
-pub record Puts (P : List ℕ → Type 0) (m : ℕ) (out out' : List ℕ) (at r : ℕ) : Type 0 where
-  pub text : List ℕ
-  pub says : P text
-  pub written : Written out out' at r text
-  pub room : r ≤ at + m

@@ -3,15 +3,18 @@ ghost use mathlib.Core.Path.{_≡_};
 ghost use Prim.Native.Nat.{_≤_};
 ghost use lib.ListN.{length};
 ghost use Rattle.acts_step.specs.Advances.{Ready, Ended, Within, Takes, Closes};
-use crate::Progress;
 use crate::lines::first_line;
 use crate::lines::step;
+use acts_buffer::Progress;
 use acts_text::input::feed;
 
 // The current line has ended, and these are its bytes: the first line begins, or an act is done.
 pub fn end_line(index: &mut [u8], line: &[u8], out: &mut [u8], s: Progress) -> Progress
     requires { ⌜ Ready (now index) (now out) s ⌝ }
-    ensures { λ r. ⌜ Ended (now (index .entry)) (now (line .entry)) (now (out .entry)) s (now (index .exit)) (now (out .exit)) r × (r .at ≡ s .at) ⌝ }
+    ensures { λ r. ⌜
+        Ended (now (index .entry)) (now (line .entry)) (now (out .entry)) s (now (index .exit)) (now (out .exit)) r
+        × (r .at ≡ s .at)
+        ⌝ }
 {
     if s.number == 1 {
         let begun = first_line(index, line, out, s.end);
@@ -45,7 +48,10 @@ pub fn take_line(
     s: Progress,
 ) -> Progress
     requires { ⌜ Ready (now index) (now out) s × Within (now held) (now chunk) s ⌝ }
-    ensures { λ r. ⌜ Takes (now (index .entry)) (now (held .entry)) (now (chunk .entry)) (now (out .entry)) s (now (index .exit)) (now (held .exit)) (now (out .exit)) r ⌝ }
+    ensures { λ r. ⌜
+        Takes (now (index .entry)) (now (held .entry)) (now (chunk .entry)) (now (out .entry)) s
+        (now (index .exit)) (now (held .exit)) (now (out .exit)) r
+        ⌝ }
 {
     let fed = feed(held, s.held, chunk, s.at);
     let n = fed.held;

@@ -15,14 +15,3 @@ pub struct Begun {
     pub d: usize,
     pub at: usize,
 }
-
-// Where a run stands: whether it goes on, the features named, the number of the current line, how many of its bytes are held, where the chunk
-// goes on, and where the output goes on.
-pub struct Progress {
-    pub going: bool,
-    pub d: usize,
-    pub number: u64,
-    pub held: usize,
-    pub at: usize,
-    pub end: usize,
-}

@@ -13,23 +13,11 @@ use lib.Seq.{drop-cons, drop-drop, sets}
 use borrow.Author.Tests.{ltb-true, ltb-false, lt-ltb, le-ltb, eq-eqb, ne-eqb}
 use Rattle.lists.specs.Basics.{if}
 use Rattle.lists.specs.Tests.{false-true, by-cases}
-use Rattle.acts_text.specs.Bytes.{space, until}
-use Rattle.acts_text.specs.Fields.{bad, withDigit, valueFrom, illFormed, natural, negative, signed}
-use Rattle.acts_text.specs.Lines.{limit, most, leading, fieldLength, cell, row, noneBad, readableCells, cells, coordinates, unreadable, actOf}
+use Rattle.acts_fields.specs.Bytes.{space, until}
+use Rattle.acts_fields.specs.Fields.{bad, withDigit, valueFrom, illFormed, natural, negative, signed}
+use Rattle.acts_text.specs.Lines.{limit, maxFeatures, leading, fieldLength, cell, row, noneBad, readableCells, cells, coordinates, unreadable, actOf}
 use Rattle.acts_text.specs.declared.ActLine.{ActLine}
-use Rattle.acts_text.proofs.DigitLaws.{drop-end}
-
-pub until-here : (b : ℕ) (l : List ℕ) (i : ℕ) → i < length l → getD l i 0 ≡ b → until b (drop i l) ≡ 0
-unfolding until
-until-here b l i h e = rw (drop-cons l i 0 h, eq-eqb (getD l i 0) b e)
-
-pub until-on : (b : ℕ) (l : List ℕ) (i : ℕ) → i < length l → getD l i 0 ≢ b → until b (drop i l) ≡ suc (until b (drop (i + 1) l))
-unfolding until
-until-on b l i h e = rw (drop-cons l i 0 h, ne-eqb (getD l i 0) b e, add-one)
-
-pub until-end : (b : ℕ) (l : List ℕ) (i : ℕ) → length l ≤ i → until b (drop i l) ≡ 0
-unfolding until
-until-end b l i h = rw (drop-end l i h)
+use Rattle.acts_fields.proofs.DigitLaws.{drop-end}
 
 pub cell-act : (v j : ℕ) (f : List ℕ) → j ≡ 0 → v ≡ natural 3 f → v ≡ cell j f
 unfolding cell
@@ -107,20 +95,20 @@ pub act-long : (d : ℕ) (l : List ℕ) → limit < length l → unreadable ≡ 
 unfolding actOf
 act-long d l h = rw (lt-ltb limit (length l) h)
 
-pub act-wide : (d : ℕ) (l : List ℕ) → length l ≤ limit → most < d → unreadable ≡ actOf d l
+pub act-wide : (d : ℕ) (l : List ℕ) → length l ≤ limit → maxFeatures < d → unreadable ≡ actOf d l
 unfolding actOf
-act-wide d l h k = rw (le-ltb limit (length l) h, lt-ltb most d k)
+act-wide d l h k = rw (le-ltb limit (length l) h, lt-ltb maxFeatures d k)
 
-pub act-bad : (d : ℕ) (l : List ℕ) → length l ≤ limit → d ≤ most → readableCells (cells (3 + d) l) ≡ false → unreadable ≡ actOf d l
+pub act-bad : (d : ℕ) (l : List ℕ) → length l ≤ limit → d ≤ maxFeatures → readableCells (cells (3 + d) l) ≡ false → unreadable ≡ actOf d l
 unfolding actOf
-act-bad d l h k e = rw (le-ltb limit (length l) h, le-ltb most d k, e)
+act-bad d l h k e = rw (le-ltb limit (length l) h, le-ltb maxFeatures d k, e)
 
-pub act-good : (d : ℕ) (l v : List ℕ) (cs : List ℤ) (a i k : ℕ) → length l ≤ limit → d ≤ most → v ≡ cells (3 + d) l → readableCells v ≡ true
+pub act-good : (d : ℕ) (l v : List ℕ) (cs : List ℤ) (a i k : ℕ) → length l ≤ limit → d ≤ maxFeatures → v ≡ cells (3 + d) l → readableCells v ≡ true
     → a ≡ getD v 0 0 → i ≡ getD v 1 0 → k ≡ getD v 2 0 → cs ≡ coordinates v
     → _≡_ {A = ActLine} (record { readable = true; act = a; id = i; k = k; d = d; coords = cs }) (actOf d l)
 unfolding actOf
 act-good d l v cs a i k h m e r p q t u =
-    rw (le-ltb limit (length l) h, le-ltb most d m, sym (ap readableCells e) ∙ r, p, q, t, u, e)
+    rw (le-ltb limit (length l) h, le-ltb maxFeatures d m, sym (ap readableCells e) ∙ r, p, q, t, u, e)
 
 -- ---- readable values have 32 bits
 

@@ -7,12 +7,10 @@ use lib.Dec.{eqb}
 use lib.IntN.{pos, negsuc}
 use lib.ListN.{replicate, drop}
 use Rattle.lists.specs.Basics.{if, tabulate}
-use Rattle.acts_text.specs.Bytes.{until}
-use Rattle.acts_text.specs.Decimal.{decimal}
-use Rattle.acts_text.specs.Fields.{withDigit, valueFrom, illFormed, natural, negative, signed, ofBits}
+use Rattle.acts_fields.specs.Bytes.{until}
+use Rattle.acts_fields.specs.Fields.{withDigit, valueFrom, illFormed, natural, negative, signed, ofBits}
 use Rattle.acts_text.specs.Lines.{fieldLength, cell, row, cells, noneBad, readableCells, coordinates, actOf}
 use Rattle.acts_text.specs.Names.{isPrefix, featuresIn, namesIn}
-use Rattle.acts_text.specs.Output.{field, resultLine}
 use Rattle.acts_text.specs.Input.{before, linesOf}
 use Rattle.acts_text.specs.Examples.{unreadables, unnamed, wholeCase}
 
@@ -44,11 +42,6 @@ whole-acts : map (actOf 2) (drop 1 (linesOf wholeCase))
     ∷ []
 unfolding before linesOf until withDigit valueFrom illFormed natural negative signed ofBits fieldLength cell row cells noneBad readableCells coordinates tabulate actOf
 whole-acts = refl
-
--- `5 0 7 80000 1`
-whole-result : resultLine 5 0 7 80000 1 ≡ 53 ∷ 32 ∷ 48 ∷ 32 ∷ 55 ∷ 32 ∷ 56 ∷ 48 ∷ 48 ∷ 48 ∷ 48 ∷ 32 ∷ 49 ∷ 10 ∷ []
-unfolding resultLine field decimal
-whole-result = refl
 
 -- no line, one empty line, one line, a line and an empty one
 cut-none : linesOf [] ≡ []

@@ -12,10 +12,10 @@ use lib.Seq.{take-all, take-at, take-append-add, drop-drop}
 use borrow.Author.Tests.{eqb-true, eqb-false, ltb-true, ltb-false, ne-eqb}
 use Rattle.lists.specs.Basics.{All, none, also, all-append}
 use Rattle.lists.specs.Tests.{by-cases}
-use Rattle.acts_text.specs.Bytes.{newline, until, Stored}
+use Rattle.acts_fields.specs.Bytes.{newline, until, Stored}
 use Rattle.acts_text.specs.Input.{before, linesOf, kept, ended, current, lastLine, piece, Feeds}
 use Rattle.acts_text.specs.declared.Fed.{Fed}
-use Rattle.acts_text.proofs.StoreLaws.{written}
+use Rattle.acts_fields.proofs.StoreLaws.{written}
 
 -- a line goes up to its newline
 pub lines-line : {l : List ℕ} → All (λ b. b ≢ newline) l → (s : List ℕ) → linesOf (l ++ (newline ∷ s)) ≡ l ∷ linesOf s
@@ -68,11 +68,6 @@ pub lines-kept : (s : List ℕ) → map kept (linesOf s) ≡ ended [] s ++ lastL
 lines-kept s = lines-from none s
 
 -- ---- one step
-
-until-le : (b : ℕ) (s : List ℕ) → until b s ≤ length s
-unfolding until
-until-le b [] = omega arith
-until-le b (x ∷ s) = by-cases (eqb x b) (λ e. rw e (omega arith)) (λ e. rw e (omega (arith, until-le b s)))
 
 abbrev Ends : List ℕ → List ℕ → Type 0
 Ends l s = (ended (kept l) s ≡ kept (l ++ take (until newline s) s) ∷ ended [] (drop (suc (until newline s)) s)) × (current (kept l) s ≡ current [] (drop (suc (until newline s)) s))

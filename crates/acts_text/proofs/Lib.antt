@@ -1,10 +1,6 @@
-pub mod DigitLaws
-pub mod BitLaws
 pub mod CellLaws
 pub mod PrefixLaws
-pub mod StoreLaws
 pub mod InputLaws
-pub mod FieldLaws
 pub mod RowLaws
 pub mod LineLaws
 pub mod NameLaws

@@ -14,14 +14,14 @@ use Rattle.lists.specs.Basics.{All, none, also}
 use Rattle.lists.specs.Tabulated.{tabulate-ext, tabulate-take}
 use Rattle.lists.specs.ConcatMapLaws.{map-append}
 use Rattle.lists.specs.Tests.{false-true, by-cases}
-use Rattle.acts_text.specs.Decimal.{text, signedText}
-use Rattle.acts_text.specs.Fields.{bad, ofBits}
-use Rattle.acts_text.specs.Lines.{most, row, noneBad, readableCells, cells, coordinates, limit, unreadable, actOf}
+use Rattle.acts_fields.specs.Decimal.{text, signedText}
+use Rattle.acts_fields.specs.Fields.{bad, ofBits}
+use Rattle.acts_text.specs.Lines.{maxFeatures, row, noneBad, readableCells, cells, coordinates, limit, unreadable, actOf}
 use Rattle.acts_text.specs.Grammar.{joined, lineText, Coordinate, Ranged}
 use Rattle.acts_text.specs.Input.{kept}
 use Rattle.acts_text.specs.declared.ActLine.{ActLine}
 use Rattle.acts_text.proofs.CellLaws.{readable-none-bad, act-long, act-wide, act-bad, act-good}
-use Rattle.acts_text.proofs.FieldLaws.{bits-low, bits-high, room, length-decimal}
+use Rattle.acts_fields.proofs.FieldLaws.{bits-low, bits-high, room, length-decimal}
 use Rattle.acts_text.proofs.RowLaws.{cellText, cellRoom, texts, RoomFrom, done, next, length-row, bad-head, bad-tail, row-room, row-writes, row-reads}
 
 -- ---- the values of a line, by name
@@ -146,17 +146,17 @@ module _ (d a i k : ℕ) (cs : List ℕ) (few : d ≤ 16) (len : length cs ≡ d
 
 record Parts (d : ℕ) (l : List ℕ) : Type 0 where
   short : length l ≤ limit
-  few : d ≤ most
+  few : d ≤ maxFeatures
   good : readableCells (cells (3 + d) l) ≡ true
 
 parts : (d : ℕ) (l : List ℕ) → actOf d l .readable ≡ true → Parts d l
 parts d l h = by-cases (ltb limit (length l))
     (λ e. not-this (act-long d l (ltb-true limit (length l) e)))
-    (λ e. by-cases (ltb most d)
-    (λ t. not-this (act-wide d l (ltb-false limit (length l) e) (ltb-true most d t)))
+    (λ e. by-cases (ltb maxFeatures d)
+    (λ t. not-this (act-wide d l (ltb-false limit (length l) e) (ltb-true maxFeatures d t)))
     (λ t. by-cases (readableCells (cells (3 + d) l))
-    (λ u. record { short = ltb-false limit (length l) e; few = ltb-false most d t; good = u })
-    (λ u. not-this (act-bad d l (ltb-false limit (length l) e) (ltb-false most d t) u))))
+    (λ u. record { short = ltb-false limit (length l) e; few = ltb-false maxFeatures d t; good = u })
+    (λ u. not-this (act-bad d l (ltb-false limit (length l) e) (ltb-false maxFeatures d t) u))))
   where
     not-this : unreadable ≡ actOf d l → Parts d l
     not-this p = false-true (ap (λ (x : ActLine). x .readable) p ∙ h)

@@ -13,7 +13,7 @@ use borrow.Author.Tests.{eqb-true, eqb-false, ltb-true, ltb-false, ne-eqb}
 use Rattle.lists.specs.Basics.{if}
 use Rattle.lists.specs.Tests.{false-true, by-cases}
 use Rattle.lists.specs.Equal.{same, same-is}
-use Rattle.acts_text.specs.Decimal.{decimal}
+use Rattle.acts_fields.specs.Decimal.{decimal}
 use Rattle.acts_text.specs.Names.{names, allNames, isPrefix, featuresIn, namesIn}
 use Rattle.acts_text.specs.Input.{kept}
 use Rattle.acts_text.proofs.PrefixLaws.{names-in, names-out, prefix-long}

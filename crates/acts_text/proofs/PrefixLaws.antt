@@ -12,7 +12,7 @@ use lib.Seq.{drop-cons}
 use borrow.Author.Tests.{le-leb, lt-leb, eq-eqb, ne-eqb}
 use Rattle.lists.specs.Tests.{by-cases}
 use Rattle.acts_text.specs.Names.{lead, ten, isPrefix, allNames, featuresIn, namesIn}
-use Rattle.acts_text.proofs.DigitLaws.{drop-end}
+use Rattle.acts_fields.proofs.DigitLaws.{drop-end}
 
 pub prefix-on : (l t : List ℕ) (i : ℕ) → i < length l → i < length t → getD l i 0 ≡ getD t i 0 → isPrefix (drop i l) (drop i t) ≡ isPrefix (drop (i + 1) l) (drop (i + 1) t)
 unfolding isPrefix

@@ -12,14 +12,14 @@ use lib.Seq.{take-length, take-at, split-at}
 use borrow.Author.Tests.{eqb-true, eqb-false, ltb-true, ltb-false, lt-ltb, eq-eqb, ne-eqb}
 use Rattle.lists.specs.Basics.{if, All, none, also}
 use Rattle.lists.specs.Tests.{false-true, by-cases}
-use Rattle.acts_text.specs.Bytes.{space, until}
-use Rattle.acts_text.specs.Decimal.{text, signedText}
-use Rattle.acts_text.specs.Fields.{bad, natural, signed, ofBits}
-use Rattle.acts_text.specs.Lines.{leading, fieldLength, cell, row, noneBad, cells}
+use Rattle.acts_fields.specs.Bytes.{until}
+use Rattle.acts_fields.specs.Decimal.{text, signedText}
+use Rattle.acts_fields.specs.Fields.{bad, natural, signed, ofBits}
+use Rattle.acts_text.specs.Lines.{leading, fieldLength, cell, row, noneBad}
 use Rattle.acts_text.specs.Grammar.{joined}
-use Rattle.acts_text.proofs.DigitLaws.{drop-end, natural-bad, ill-formed-none}
+use Rattle.acts_fields.proofs.DigitLaws.{drop-end, natural-bad, ill-formed-none}
 use Rattle.acts_text.proofs.CellLaws.{field-length-word}
-use Rattle.acts_text.proofs.FieldLaws.{natural-reads, natural-writes, signed-reads, signed-writes, digits, room}
+use Rattle.acts_fields.proofs.FieldLaws.{natural-reads, natural-writes, signed-reads, signed-writes, digits}
 
 -- ---- cells
 

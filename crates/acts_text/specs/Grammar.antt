@@ -1,4 +1,5 @@
--- Which lines of values are readable (01, "The acts program"): those that are the decimal writings of values in their ranges, joined by one space.
+-- Which lines of values are readable (01, "The acts program"): those that are the decimal writings of values in their ranges, joined by
+-- one space.
 -- `LineLaws.act-reads` and `act-writes` show that the reader goes by exactly this; `NameLaws` shows the same of the line of names.
 use Prim.Native.Nat.{ℕ, _-_, _≤_}
 use mathlib.Core.Path.{_≡_}
@@ -7,9 +8,9 @@ use mathlib.Core.List.{List, [], _∷_, _++_, map}
 use lib.IntN.{ℤ, pos, negsuc}
 use lib.ListN.{length, take, drop, replicate}
 use Rattle.lists.specs.Basics.{All}
-use Rattle.acts_text.specs.Bytes.{space}
-use Rattle.acts_text.specs.Decimal.{text, signedText}
-use Rattle.acts_text.specs.Lines.{most}
+use Rattle.acts_fields.specs.Bytes.{space}
+use Rattle.acts_fields.specs.Decimal.{text, signedText}
+use Rattle.acts_text.specs.Lines.{maxFeatures}
 use Rattle.acts_text.specs.declared.ActLine.{ActLine}
 
 -- fields with one space between
@@ -33,6 +34,6 @@ pub record Ranged (d : ℕ) (a : ActLine) : Type 0 where
   pub acts : (1 ≤ a .act) × (a .act ≤ 3)
   pub ids : a .id ≤ 4294967295
   pub ks : a .k ≤ 4294967295
-  pub named : (a .d ≡ d) × (d ≤ most)
+  pub named : (a .d ≡ d) × (d ≤ maxFeatures)
   pub coordinate : All Coordinate (take d (a .coords))
-  pub slots : (length (a .coords) ≡ most) × (drop d (a .coords) ≡ replicate (most - d) (pos 0))
+  pub slots : (length (a .coords) ≡ maxFeatures) × (drop d (a .coords) ≡ replicate (maxFeatures - d) (pos 0))

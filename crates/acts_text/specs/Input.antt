@@ -5,7 +5,7 @@ use mathlib.Core.List.{List, [], _∷_, _++_}
 use lib.Dec.{ltb, eqb}
 use lib.ListN.{length, take, drop}
 use Rattle.lists.specs.Basics.{if}
-use Rattle.acts_text.specs.Bytes.{newline, until, Written}
+use Rattle.acts_fields.specs.Bytes.{newline, until, Written}
 use Rattle.acts_text.specs.Lines.{limit}
 use Rattle.acts_text.specs.declared.Fed.{Fed}
 

@@ -1,9 +1,5 @@
-pub mod Bytes
-pub mod Decimal
-pub mod Fields
 pub mod Lines
 pub mod Grammar
 pub mod Names
-pub mod Output
 pub mod Input
 pub mod Examples

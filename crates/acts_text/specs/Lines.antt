@@ -8,8 +8,8 @@ use lib.IntN.{ℤ, pos}
 use lib.ListN.{length, getD, drop, take, replicate}
 use lib.Seq.{sets}
 use Rattle.lists.specs.Basics.{if, tabulate}
-use Rattle.acts_text.specs.Bytes.{space, until}
-use Rattle.acts_text.specs.Fields.{bad, natural, signed, ofBits}
+use Rattle.acts_fields.specs.Bytes.{space, until}
+use Rattle.acts_fields.specs.Fields.{bad, natural, signed, ofBits}
 use Rattle.acts_text.specs.declared.ActLine.{ActLine}
 
 -- the most bytes of a readable line
@@ -17,8 +17,8 @@ abbrev pub limit : ℕ
 limit = 256
 
 -- the most coordinates
-abbrev pub most : ℕ
-most = 16
+abbrev pub maxFeatures : ℕ
+maxFeatures = 16
 
 -- the columns before the coordinates: act, id, k
 abbrev pub leading : ℕ
@@ -39,7 +39,7 @@ row (suc n) j l = cell j (take (fieldLength n l) l) ∷ row n (j + 1) (drop (suc
 
 -- the values of n columns, then zeros
 unfoldable pub cells : ℕ → List ℕ → List ℕ
-cells n l = sets (replicate (leading + most) 0) 0 (row n 0 l)
+cells n l = sets (replicate (leading + maxFeatures) 0) 0 (row n 0 l)
 
 -- none of the values is bad
 unfoldable pub noneBad : List ℕ → Bool
@@ -52,11 +52,11 @@ readableCells vs = if (eqb (getD vs 0 0) 0) false (noneBad vs)
 
 -- the coordinates among the values
 unfoldable pub coordinates : List ℕ → List ℤ
-coordinates vs = tabulate most (λ i. ofBits (getD vs (leading + i) 0))
+coordinates vs = tabulate maxFeatures (λ i. ofBits (getD vs (leading + i) 0))
 
 -- what an unreadable line gives
 abbrev pub unreadable : ActLine
-unreadable = record { readable = false; act = 0; id = 0; k = 0; d = 0; coords = replicate most (pos 0) }
+unreadable = record { readable = false; act = 0; id = 0; k = 0; d = 0; coords = replicate maxFeatures (pos 0) }
 
 -- what readable values say, d of them coordinates
 abbrev pub lineOf : ℕ → List ℕ → ActLine
@@ -64,5 +64,5 @@ lineOf d vs = record { readable = true; act = getD vs 0 0; id = getD vs 1 0; k =
 
 -- what a line says, where d coordinates are named
 unfoldable pub actOf : ℕ → List ℕ → ActLine
-actOf d l = if (ltb limit (length l)) unreadable (if (ltb most d) unreadable
+actOf d l = if (ltb limit (length l)) unreadable (if (ltb maxFeatures d) unreadable
     (if (readableCells (cells (leading + d) l)) (lineOf d (cells (leading + d) l)) unreadable))

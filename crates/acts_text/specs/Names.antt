@@ -6,8 +6,8 @@ use mathlib.Core.List.{List, [], _∷_, _++_}
 use lib.Dec.{leb, eqb}
 use lib.ListN.{length}
 use Rattle.lists.specs.Basics.{if}
-use Rattle.acts_text.specs.Bytes.{space}
-use Rattle.acts_text.specs.Decimal.{text}
+use Rattle.acts_fields.specs.Bytes.{space}
+use Rattle.acts_fields.specs.Decimal.{text}
 
 -- `act id k`, and for each of d coordinates a space, `c` and its number
 unfoldable pub names : ℕ → List ℕ

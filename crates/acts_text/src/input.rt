@@ -5,11 +5,11 @@ ghost use lib.ListN.{length};
 ghost use Rattle.acts_text.specs.Lines.{limit};
 ghost use Rattle.acts_text.specs.Input.{Feeds};
 use crate::Fed;
-use crate::bytes::NEWLINE;
-use crate::bytes::find;
-use crate::bytes::past;
-use crate::bytes::put_bytes;
 use crate::lines::LIMIT;
+use acts_fields::bytes::NEWLINE;
+use acts_fields::bytes::find;
+use acts_fields::bytes::past;
+use acts_fields::bytes::put_bytes;
 
 // The bytes kept of a line: one more than a readable line has.
 pub const KEPT: usize = LIMIT + 1;

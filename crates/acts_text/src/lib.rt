@@ -1,11 +1,10 @@
-// The acts text (01, "The acts program"): reads the line of names and the lines of values, cuts input into lines, writes the output's lines.
+// The acts text (01, "The acts program"): reads the line of names and the lines of values, and cuts input into lines.
 // Every function takes any bytes; one that writes asks only for room in the lent buffer.
-mod bytes;
-mod fields;
+use lines::MAX_FEATURES;
+
 pub mod input;
 pub mod lines;
 pub mod names;
-pub mod output;
 
 // What a line of values says. An unreadable line has 0 in every field but the first; slots past d hold 0.
 pub struct ActLine {
@@ -14,7 +13,7 @@ pub struct ActLine {
     pub id: u32,
     pub k: u32,
     pub d: usize,
-    pub coords: [i16; 16],
+    pub coords: [i16; MAX_FEATURES],
 }
 
 // How far a chunk of input took the current line.

@@ -2,24 +2,25 @@
 ghost use mathlib.Core.Path.{_≡_};
 ghost use Prim.Native.Nat.{_+_, _≤_};
 ghost use lib.ListN.{length, drop};
-ghost use Rattle.acts_text.specs.Lines.{leading, most, fieldLength, cell, cells, noneBad, readableCells, coordinates, unreadable, actOf};
+ghost use Rattle.acts_text.specs.Lines.{leading, maxFeatures, fieldLength, cell, cells, noneBad, readableCells};
+ghost use Rattle.acts_text.specs.Lines.{coordinates, unreadable, actOf};
 use crate::ActLine;
-use crate::bytes::SPACE;
-use crate::bytes::find;
-use crate::bytes::past;
-use crate::fields::BAD;
-use crate::fields::of_bits;
-use crate::fields::read_natural;
-use crate::fields::read_signed;
+use acts_fields::bytes::SPACE;
+use acts_fields::bytes::find;
+use acts_fields::bytes::past;
+use acts_fields::fields::BAD;
+use acts_fields::fields::of_bits;
+use acts_fields::fields::read_natural;
+use acts_fields::fields::read_signed;
 
 // The most bytes of a readable line.
 pub const LIMIT: usize = 256;
 // The most coordinates.
-pub const MOST: usize = 16;
+pub const MAX_FEATURES: usize = 16;
 // The columns before the coordinates: act, id, k.
 pub const LEADING: usize = 3;
 // The columns of a line with the most coordinates.
-const COLUMNS: usize = LEADING + MOST;
+const COLUMNS: usize = LEADING + MAX_FEATURES;
 
 // Where the field at index at ends, if n more fields come behind it.
 fn field_end(line: &[u8], at: usize, n: usize) -> usize
@@ -48,7 +49,7 @@ fn read_cell(f: &[u8], j: usize) -> u64
 
 // The values of a line's columns, then zeros.
 fn read_cells(line: &[u8], d: usize) -> [u64; COLUMNS]
-    requires { ⌜ d ≤ most ⌝ }
+    requires { ⌜ d ≤ maxFeatures ⌝ }
     ensures { λ r. ⌜ r ≡ cells (leading + d) (now (line .entry)) ⌝ }
 {
     let n = LEADING + d;
@@ -81,20 +82,20 @@ fn none_bad(v: &[u64]) -> bool
 
 // Whether all columns are readable, and the act is not 0.
 fn readable_cells(v: &[u64]) -> bool
-    requires { ⌜ length (now v) ≡ leading + most ⌝ }
+    requires { ⌜ length (now v) ≡ leading + maxFeatures ⌝ }
     ensures { λ r. ⌜ r ≡ readableCells (now (v .entry)) ⌝ }
 {
     if v[0] == 0 { false } else { none_bad(v) }
 }
 
 // The coordinates among the values.
-fn coordinates_of(v: &[u64]) -> [i16; MOST]
-    requires { ⌜ length (now v) ≡ leading + most ⌝ }
+fn coordinates_of(v: &[u64]) -> [i16; MAX_FEATURES]
+    requires { ⌜ length (now v) ≡ leading + maxFeatures ⌝ }
     ensures { λ r. ⌜ r ≡ coordinates (now (v .entry)) ⌝ }
 {
-    let mut c = [0i16; MOST];
+    let mut c = [0i16; MAX_FEATURES];
     let mut i = 0;
-    while i < MOST {
+    while i < MAX_FEATURES {
         c[i] = of_bits(v[LEADING + i]);
         i += 1;
     }
@@ -119,7 +120,7 @@ fn no_line() -> ActLine
         id: 0,
         k: 0,
         d: 0,
-        coords: [0i16; MOST],
+        coords: [0i16; MAX_FEATURES],
     }
 }
 
@@ -130,7 +131,7 @@ pub fn read_act(line: &[u8], d: usize) -> ActLine
     if LIMIT < line.len() {
         return no_line();
     }
-    if MOST < d {
+    if MAX_FEATURES < d {
         return no_line();
     }
     let v = read_cells(line, d);

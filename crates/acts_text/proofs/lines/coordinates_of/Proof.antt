@@ -5,7 +5,7 @@ use mir.Syntax.{w16}
 use mathlib.Core.Path.{_∙_, _≡_, refl}
 use Rattle.lists.specs.Basics.{tabulate}
 use Rattle.lists.specs.Tabulated.{tabulate-more, tabulate-done}
-use Rattle.acts_text.specs.Fields.{ofBits}
+use Rattle.acts_fields.specs.Fields.{ofBits}
 use Rattle.acts_text.specs.Lines.{coordinates}
 use lib.ListN.{length, take, getD}
 use lib.IntN.{ℤ}

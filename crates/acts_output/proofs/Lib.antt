@@ -1,0 +1,3 @@
+pub mod OutputLaws
+pub mod PutLaws
+pub mod ExampleLaws

@@ -1,0 +1,37 @@
+// The lines of a question's rows.
+ghost use mathlib.Core.Path.{_≡_};
+ghost use Prim.Native.Nat.{_+_, _≤_};
+ghost use lib.ListN.{length};
+ghost use Rattle.search_rows.specs.Held.{rowsIn};
+ghost use Rattle.acts_output.specs.Output.{rowLines};
+ghost use Rattle.acts_output.specs.Puts.{rowsLent, mostPrinted, Puts};
+use crate::put_result;
+use search_rows::row_of;
+
+// A line for each of the first rows of distances and tags.
+pub fn put_rows(
+    out: &mut [u8],
+    at: usize,
+    number: u64,
+    leaves: u64,
+    distances: &[u64],
+    tags: &[u64],
+    count: usize,
+) -> usize
+    requires { ⌜
+        (at + mostPrinted ≤ length (now out)) × (count ≤ rowsLent) × (count ≤ length (now distances)) × (count ≤ length (now tags))
+        ⌝ }
+    ensures { λ r. ⌜
+        Puts (λ t. t ≡ rowLines number 0 leaves (rowsIn (now (distances .entry)) (now (tags .entry)) count))
+        mostPrinted (now (out .entry)) (now (out .exit)) at r
+        ⌝ }
+{
+    let mut end = at;
+    let mut i = 0;
+    while i < count {
+        let row = row_of(distances[i], tags[i]);
+        end = put_result(out, end, number, 0, row.id as u64, row.distance, leaves);
+        i += 1;
+    }
+    end
+}
