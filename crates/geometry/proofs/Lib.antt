@@ -10,13 +10,3 @@ pub mod BoundLaws
 pub mod ExampleLaws
 pub mod KeyLaws
 pub mod LoopLaws
-pub mod QuestionLaws
-pub mod PackedLaws
-pub mod AskLaws
-pub mod RowLaws
-pub mod TableLaws
-pub mod WholeLaws
-pub mod SlopeLaws
-pub mod LaneLaws
-pub mod FillLaws
-pub mod OneLaws

@@ -10,8 +10,8 @@ use native.Mathlib.Numerals.{add-one}
 use borrow.Author.Tests.{eq-eqb, ne-eqb, leb-true, leb-false}
 use lib.Dec.{leb, ltb}
 use lib.IntN.{ℤ, pos, natAbs}
-use lib.ListN.{length, getD, take, drop, set, replicate, length-append, length-map, length-replicate, drop-of-length-le}
-use lib.Seq.{drop-cons, take-length, length-take-le}
+use lib.ListN.{length, getD, take, drop, set, replicate, drop-of-length-le}
+use lib.Seq.{drop-cons, take-length}
 use Rattle.lists.specs.Basics.{if}
 use Rattle.lists.specs.Tests.{by-cases}
 use Rattle.geometry.proofs.StoredLaws.{length-point, point-at, coord-gap, coord-neg}
@@ -110,6 +110,10 @@ range-end p m l = rw (drop-of-length-le p {i = m} l)
 pub square-fits : (g : ℕ) → g < 65536 → g * g < 4294967296
 square-fits g h = let k : g ≤ 65535 = omega arith in let s : g * g ≤ 4294836225 = mul-le-mul k k in omega arith
 
+-- a weight of 16 bits times a square of 32
+pub weight-fits : (w c : ℕ) → w < 65536 → c < 4294967296 → w * c < 281474976710656
+weight-fits w c h k = let a : w ≤ 65535 = omega arith in let b : c ≤ 4294967295 = omega arith in let s : w * c ≤ 281470681677825 = mul-le-mul a b in omega arith
+
 -- one slot more
 slots-set : (m n v : ℕ) (p : List ℤ) → m < length p → v ≡ stored (getD p m (pos 0)) → set (map stored (take m p) ++ replicate (suc n) 0) m v ≡ map stored (take (suc m) p) ++ replicate n 0
 slots-set m n v [] l e = absurd (let z : m < 0 = l in omega arith)
@@ -125,10 +129,6 @@ slots-more p m v l k e =
 pub slots-end : (p : List ℤ) (m : ℕ) → m ≡ length p → map stored (take m p) ++ replicate (16 - m) 0 ≡ slotsOf p
 unfolding slotsOf
 slots-end p m e = rw (e, take-length p)
-
-pub slots-length : (p : List ℤ) (m : ℕ) → m ≤ length p → length p ≤ 16 → length (map stored (take m p) ++ replicate (16 - m) 0) ≡ 16
-slots-length p m l k =
-    omega (arith, length-append (map stored (take m p)) (replicate (16 - m) 0), length-map (take m p) stored, length-take-le m p l, length-replicate {A = ℕ} (16 - m) 0)
 
 -- the greatest lead of a point
 pub top-is : (p : List ℕ) (r : ℕ) → 0 < length p → r ≡ topLead 0 (pointOf p) → r ≡ heightOf (pointOf p) * 16 + (15 - axisOf (pointOf p))

@@ -8,7 +8,7 @@ use native.Mathlib.Nat.{add-comm}
 use borrow.Author.Tests.{le-ltb, lt-ltb, ltb-true, ltb-false, le-leb, lt-leb, leb-true}
 use lib.Dec.{leb, ltb}
 use lib.IntN.{ℤ, pos, negsuc, natAbs, _+ℤ_, _-ℤ_}
-use lib.ListN.{length, getD, take, drop, replicate}
+use lib.ListN.{length, getD, take, replicate}
 use lib.Signed.{ltZ, leZ}
 use mir.Syntax.{w16}
 use mir.Val.{SFits, toZ, ofZ}

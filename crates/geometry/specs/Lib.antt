@@ -3,7 +3,4 @@ pub mod Features
 pub mod Stored
 pub mod Keys
 pub mod Slices
-pub mod Questions
-pub mod Tables
-pub mod Lanes
 pub mod Examples

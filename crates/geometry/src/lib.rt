@@ -1,10 +1,16 @@
 // The geometry of the index: keys, the pyramid and height of a point, squared distance, the bound of a span.
-pub mod bounds;
-mod heights;
 pub mod keys;
 pub mod points;
-mod slices;
-mod tables;
+
+// The most features of an index, and the greatest magnitude of a coordinate, which a stored coordinate has added to it.
+pub const MAX_FEATURES: usize = 16;
+
+pub const MAX_COORDINATE: u16 = 1000;
+
+// The range of a coordinate as a caller has it.
+pub const MIN_SIGNED: i16 = -MAX_SIGNED;
+
+pub const MAX_SIGNED: i16 = MAX_COORDINATE as i16;
 
 // A pyramid number counts regions and a height counts steps from the centre; neither stands for the other.
 pub struct Pyramid(pub u8);

@@ -10,6 +10,10 @@ ghost use Rattle.lists.specs.Basics.{if};
 ghost use Rattle.geometry.specs.Points.{heightOf, axisOf, pyramidOf};
 ghost use Rattle.geometry.specs.Stored.{coordOf, pointOf, stored, slotsOf, inRange};
 use crate::Height;
+use crate::MAX_COORDINATE;
+use crate::MAX_FEATURES;
+use crate::MAX_SIGNED;
+use crate::MIN_SIGNED;
 use crate::Pair;
 use crate::Pyramid;
 
@@ -17,10 +21,10 @@ use crate::Pyramid;
 fn within(c: i16) -> bool
     ensures { λ r. ⌜ r ≡ leb (natAbs c) 1000 ⌝ }
 {
-    if c < -1000 {
+    if c < MIN_SIGNED {
         return false;
     }
-    c <= 1000
+    c <= MAX_SIGNED
 }
 
 // Whether every coordinate of a point is in range.
@@ -43,15 +47,15 @@ fn slot(c: i16) -> u16
     requires { ⌜ natAbs c ≤ 1000 ⌝ }
     ensures { λ r. ⌜ r ≡ stored c ⌝ }
 {
-    (c + 1000) as u16
+    (c + MAX_SIGNED) as u16
 }
 
 // What a record holds of a point.
-pub fn slots_of(p: &[i16]) -> [u16; 16]
+pub fn slots_of(p: &[i16]) -> [u16; MAX_FEATURES]
     requires { ⌜ (length (now p) ≤ 16) × (inRange (now p) ≡ true) ⌝ }
     ensures { λ r. ⌜ r ≡ slotsOf (now (p .entry)) ⌝ }
 {
-    let mut slots = [0u16; 16];
+    let mut slots = [0u16; MAX_FEATURES];
     let mut m = 0;
     while m < p.len() {
         let c = p[m];
@@ -91,7 +95,7 @@ pub fn greater(a: u16, b: u16) -> u16
 pub fn magnitude(x: u16) -> u16
     ensures { λ r. ⌜ (r ≡ natAbs (coordOf x)) × (r ≤ 64535) ⌝ }
 {
-    apart(x, 1000)
+    apart(x, MAX_COORDINATE)
 }
 
 fn highest(a: u32, b: u32) -> u32
@@ -139,7 +143,7 @@ pub fn pair_of(p: &[u16]) -> Pair
     let top = top_lead(p);
     let h = (top / 16) as u16;
     let j = 15 - (top % 16) as usize;
-    let below = p[j] < 1000;
+    let below = p[j] < MAX_COORDINATE;
     let i = pyramid_no(j, p.len(), below);
     Pair {
         pyramid: Pyramid(i),

@@ -1,0 +1,2 @@
+// The bound of a span for a question.
+pub mod bounds;

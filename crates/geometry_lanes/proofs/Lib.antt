@@ -1,0 +1,3 @@
+pub mod SlopeLaws
+pub mod LaneLaws
+pub mod TurnLaws

@@ -1,0 +1,6 @@
+pub mod QuestionLaws
+pub mod PackedLaws
+pub mod AskLaws
+pub mod RowLaws
+pub mod TableLaws
+pub mod WholeLaws

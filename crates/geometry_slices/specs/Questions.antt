@@ -1,0 +1,112 @@
+-- A question as the code holds it: a list of numbers for each part, coordinates as they are stored.
+use mathlib.Core.Path.{_≡_}
+use mathlib.Core.List.{List, [], _∷_}
+use Prim.Native.Nat.{ℕ, zero, suc, max, _+_, _*_, _-_, _≤_, _<_}
+use lib.Dec.{leb, ltb, eqb}
+use lib.ListN.{length, getD, take, drop}
+use Rattle.lists.specs.Basics.{if, indicator}
+use Rattle.geometry.specs.Features.{Feature}
+use Rattle.geometry.specs.Slices.{Nearest, lowestOf, leastIn}
+use Rattle.geometry.specs.Stored.{coordOf}
+
+-- the question that stored ranges and their weights stand for
+unfoldable pub featuresOf : List ℕ → List ℕ → List ℕ → List Feature
+featuresOf [] hs ws = []
+featuresOf (l ∷ ls) [] ws = []
+featuresOf (l ∷ ls) (h ∷ hs) [] = []
+featuresOf (l ∷ ls) (h ∷ hs) (w ∷ ws) = record { low = coordOf l; high = coordOf h; weight = w } ∷ featuresOf ls hs ws
+
+-- `reachOf` of each coordinate, from the stored numbers
+abbrev pub reachAt : ℕ → ℕ → ℕ
+reachAt l h = suc (max (l - 1000) (1000 - h))
+
+unfoldable pub reachesOf : List ℕ → List ℕ → List ℕ
+reachesOf [] hs = []
+reachesOf (l ∷ ls) [] = []
+reachesOf (l ∷ ls) (h ∷ hs) = reachAt l h ∷ reachesOf ls hs
+
+-- what is lent for a question: at most 16 ranges with their weights, and their reaches, computed once
+pub record Prepared (low high weight reach : List ℕ) : Type 0 where
+  pub few : length low ≤ 16
+  pub highs : length high ≡ length low
+  pub weights : length weight ≡ length low
+  pub alike : length reach ≡ length low
+  pub reaches : reach ≡ reachesOf low high
+
+-- a question as one list: low ends from place 0 on, high ends, weights and reaches from the places named here; the last part ends the list
+abbrev pub highsFrom : ℕ
+highsFrom = 16
+
+abbrev pub weightsFrom : ℕ
+weightsFrom = 32
+
+abbrev pub reachesFrom : ℕ
+reachesFrom = 48
+
+abbrev pub sizeOf : List ℕ → ℕ
+sizeOf a = length a - reachesFrom
+
+abbrev pub partFrom : ℕ → List ℕ → List ℕ
+partFrom s a = take (sizeOf a) (drop s a)
+
+unfoldable pub askedOf : List ℕ → List Feature
+askedOf a = featuresOf (partFrom 0 a) (partFrom highsFrom a) (partFrom weightsFrom a)
+
+pub record Packed (a : List ℕ) : Type 0 where
+  pub whole : length a ≡ reachesFrom + sizeOf a
+  pub parts : Prepared (partFrom 0 a) (partFrom highsFrom a) (partFrom weightsFrom a) (partFrom reachesFrom a)
+
+-- r holds the question of these ranges and weights: its list is lent up to the last reach
+pub record LaidOut (low high weight r : List ℕ) : Type 0 where
+  pub places : length r ≡ 64
+  pub packed : Packed (take (reachesFrom + length low) r)
+  pub same : askedOf (take (reachesFrom + length low) r) ≡ featuresOf low high weight
+
+-- the places of a question's tables: what is kept of its pyramids' heights, and of whole pyramids
+abbrev pub nearPlaces : ℕ
+nearPlaces = 288
+
+abbrev pub wholePlaces : ℕ
+wholePlaces = 32
+
+-- f 0 + .. + f (n - 1)
+unfoldable pub sumTo : ℕ → (ℕ → ℕ) → ℕ
+sumTo zero f = 0
+sumTo (suc n) f = sumTo n f + f n
+
+-- what coordinate m has to come down from beside axis j: magnitudes before the axis stay below the height; nothing on the axis, and past the last
+unfoldable pub rowAt : List ℕ → ℕ → ℕ → ℕ
+rowAt a j m = if (eqb m j) 0 (getD a (reachesFrom + m) 0 - indicator (ltb j m))
+
+-- where the row of axis j stands in near, and how many of its places are summed
+abbrev pub rowFrom : ℕ → ℕ
+rowFrom j = 32 + 16 * j
+
+abbrev pub widthOf : ℕ → ℕ
+widthOf d = if (leb d 1) 0 (if (leb d 4) 4 (if (leb d 8) 8 16))
+
+-- what place m of a row that stands at a place of near costs at height h
+abbrev pub rowCost : List ℕ → List ℕ → ℕ → ℕ → ℕ → ℕ
+rowCost a near at h m = getD a (weightsFrom + m) 0 * ((getD near (at + m) 0 - h) * (getD near (at + m) 0 - h))
+
+-- ys is xs with g of each place and of what was there stored in n places, from a place on
+pub record Filled (g : ℕ → ℕ → ℕ) (at n : ℕ) (xs ys : List ℕ) : Type 0 where
+  pub long : length ys ≡ length xs
+  pub inside : (x : ℕ) → at ≤ x → x < at + n → getD ys x 0 ≡ g x (getD xs x 0)
+  pub before : (x : ℕ) → x < at → getD ys x 0 ≡ getD xs x 0
+  pub after : (x : ℕ) → at + n ≤ x → getD ys x 0 ≡ getD xs x 0
+
+-- a question, and in near the row of each axis
+pub record Rows (a near : List ℕ) : Type 0 where
+  pub packed : Packed a
+  pub places : length near ≡ nearPlaces
+  pub row : (j m : ℕ) → j < sizeOf a → m < widthOf (sizeOf a) → getD near (rowFrom j + m) 0 ≡ rowAt a j m
+
+-- and, from place 0 of near on, the nearest height of each of its pyramids
+pub record Heights (a near : List ℕ) : Type 0 where
+  pub rows : Rows a near
+  pub nearest : Nearest (askedOf a) near
+
+-- the least distance to each whole pyramid
+abbrev pub Wholes : List ℕ → List ℕ → Type 0
+Wholes a whole = (i : ℕ) → i < sizeOf a + sizeOf a → getD whole i 0 ≡ leastIn (askedOf a) i (lowestOf (length (askedOf a)) i) 1000

@@ -1,0 +1,34 @@
+// A question as one list.
+ghost use mathlib.Core.Path.{_≡_};
+ghost use Prim.Native.Nat.{_≤_};
+ghost use lib.ListN.{length};
+ghost use Rattle.geometry_slices.specs.Questions.{reachAt, LaidOut};
+use crate::HIGHS_FROM;
+use crate::REACHES_FROM;
+use crate::WEIGHTS_FROM;
+use geometry::MAX_COORDINATE;
+use geometry::points::gap;
+
+// How far out a stored range is: one more than its least magnitude.
+fn reach_at(low: u16, high: u16) -> u16
+    ensures { λ r. ⌜ r ≡ reachAt low high ⌝ }
+{
+    gap(low, high, MAX_COORDINATE) + 1
+}
+
+// A question as one list: low ends, high ends, weights, and how far out each range is; it is lent up to the last of these.
+pub fn ask(low: &[u16], high: &[u16], weight: &[u16]) -> [u16; 64]
+    requires { ⌜ (length (now low) ≤ 16) × (length (now high) ≡ length (now low)) × (length (now weight) ≡ length (now low)) ⌝ }
+    ensures { λ r. ⌜ LaidOut (now (low .entry)) (now (high .entry)) (now (weight .entry)) r ⌝ }
+{
+    let mut asked = [0u16; 64];
+    let mut m = 0;
+    while m < low.len() {
+        asked[m] = low[m];
+        asked[HIGHS_FROM + m] = high[m];
+        asked[WEIGHTS_FROM + m] = weight[m];
+        asked[REACHES_FROM + m] = reach_at(low[m], high[m]);
+        m += 1;
+    }
+    asked
+}

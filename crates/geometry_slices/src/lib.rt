@@ -1,0 +1,16 @@
+// A question as the code holds it, and the least distance to the grid points of one pyramid and height.
+pub mod asked;
+pub mod slices;
+pub mod tables;
+
+use geometry::MAX_FEATURES;
+
+// A question's list has low ends from place 0 on, high ends, weights and reaches from these; the last part ends the list.
+pub const HIGHS_FROM: usize = MAX_FEATURES;
+
+pub const WEIGHTS_FROM: usize = 2 * MAX_FEATURES;
+
+pub const REACHES_FROM: usize = 3 * MAX_FEATURES;
+
+// Its table near has the nearest height of each pyramid from place 0 on, and from this one a row for each axis.
+pub const ROWS_FROM: usize = 2 * MAX_FEATURES;
