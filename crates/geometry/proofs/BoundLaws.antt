@@ -1,6 +1,6 @@
 -- `boundOf` is the bound (01) of every span of two real pairs, and the only one; it is below the distance of every point of the span.
 use mathlib.Core.Path.{_≡_, refl, _∙_}
-use mathlib.Core.Bool.{Bool, true, false}
+use mathlib.Core.Bool.{Bool}
 use mathlib.Core.Logic.{inl, inr, _≢_}
 use mathlib.Core.List.{List, [], _∷_}
 use Prim.Native.Nat.{ℕ, zero, suc, min, max, _+_, _-_, _*_, _≤_, _<_}
@@ -8,9 +8,9 @@ use native.Mathlib.Omega.{arith}
 use native.Mathlib.Nat.{le-antisymm, le-trans, le-of-eq, le-refl, mul-le-mul}
 use lib.IntN.{ℤ, pos, natAbs}
 use lib.ListN.{length}
-use Rattle.geometry.proofs.IntLaws.{neg-abs}
 use Rattle.geometry.proofs.GapLaws.{gap-le}
 use Rattle.geometry.proofs.ConvexLaws.{at-convex}
+use Rattle.geometry.proofs.SliceLaws.{axis-abs}
 use Rattle.geometry.proofs.HeightLaws.{from-below, least-height, clamp-value}
 use Rattle.geometry.proofs.SpanLaws.{SpanLeast, LeastOver, span-one, span-more, span-bound, lowest-from, lowest-le-one, real-at, real-up}
 use Rattle.geometry.specs.Points.{PairLe}
@@ -141,10 +141,6 @@ side-le : (W k : ℕ) (fs : List Feature) → Asks W fs → sideBy k fs ≤ W * 
 unfolding sideBy
 side-le W k [] r = omega arith
 side-le W k (f ∷ fs) r = omega (arith, zero-gap W f k (r .0), side-le W k fs (r .1))
-
-axis-abs : (s : Bool) (h : ℕ) → natAbs (onAxis s h) ≡ h
-axis-abs false h = refl
-axis-abs true h = neg-abs h
 
 slice-le : (W j : ℕ) (s : Bool) (h : ℕ) (fs : List Feature) → Asks W fs → h ≤ 1000 → sliceBy j s h fs ≤ W * 2997999 + W * 1002001 * length fs
 unfolding sliceBy

@@ -86,9 +86,10 @@ onAxis-neg false h t = refl
 onAxis-neg true zero t = absurd t
 onAxis-neg true (suc h) t = refl
 
-onAxis-abs : (s : Bool) (h : ℕ) → natAbs (onAxis s h) ≡ h
-onAxis-abs false h = refl
-onAxis-abs true h = neg-abs h
+-- the magnitude of height h on an axis
+pub axis-abs : (s : Bool) (h : ℕ) → natAbs (onAxis s h) ≡ h
+axis-abs false h = refl
+axis-abs true h = neg-abs h
 
 next-axis : (j : ℕ) (s : Bool) (h : ℕ) → HasPoints (suc j) s h → (1 ≤ h) × HasPoints j s h
 next-axis j s zero t = absurd t
@@ -97,7 +98,7 @@ next-axis j s (suc h) t = (omega arith, tt)
 pub nearSlice-in : (j : ℕ) (s : Bool) (h : ℕ) (fs : List Feature) → j < length fs → HasPoints j s h → InSlice j s h (nearSlice j s h fs)
 unfolding nearSlice
 nearSlice-in j s h [] l t = absurd (let z : 1 ≤ 0 = omega arith in omega arith)
-nearSlice-in zero s h (f ∷ fs) l t = ((onAxis-neg s h t, onAxis-abs s h), nearSide-in h fs)
+nearSlice-in zero s h (f ∷ fs) l t = ((onAxis-neg s h t, axis-abs s h), nearSide-in h fs)
 nearSlice-in (suc j) s h (f ∷ fs) l t =
     let d = next-axis j s h t in (omega (arith, near-in (h - 1) (f .low), d .0), nearSlice-in j s h fs (omega arith) (d .1))
 

@@ -8,12 +8,14 @@ use native.Mathlib.Nat.{add-comm}
 use borrow.Author.Tests.{le-ltb, lt-ltb, ltb-true, ltb-false, le-leb, lt-leb, leb-true}
 use lib.Dec.{leb, ltb}
 use lib.IntN.{ℤ, pos, negsuc, natAbs, _+ℤ_, _-ℤ_}
-use lib.ListN.{length, getD, take, replicate}
+use lib.ListN.{length, getD, take, replicate, length-map}
+use lib.Seq.{take-at}
 use lib.Signed.{ltZ, leZ}
 use mir.Syntax.{w16}
 use mir.Val.{SFits, toZ, ofZ}
 use mir.Facts.{toZ-ofZ}
-use Rattle.lists.specs.Basics.{if}
+use Rattle.lists.specs.Basics.{if, All, none, also}
+use Rattle.lists.specs.Tests.{by-cases}
 use Rattle.geometry.proofs.IntLaws.{lower, gap-pos, gap-parts}
 use Rattle.geometry.specs.Features.{upper}
 use Rattle.geometry.specs.Points.{InRange, isNeg}
@@ -21,10 +23,10 @@ use Rattle.geometry.specs.Slices.{onAxis}
 use Rattle.geometry.specs.Stored.{coordOf, pointOf, stored, slotsOf, inRange}
 
 -- a stored number below 1,000 is a coordinate below 0, one from 1,000 on is not
-coord-low : (x : ℕ) → x < 1000 → coordOf x ≡ negsuc (999 - x)
+pub coord-low : (x : ℕ) → x < 1000 → coordOf x ≡ negsuc (999 - x)
 coord-low x l = rw (lt-ltb x 1000 l) (ap negsuc (let e : 1000 - suc x ≡ 999 - x = omega arith in e))
 
-coord-high : (x : ℕ) → 1000 ≤ x → coordOf x ≡ pos (x - 1000)
+pub coord-high : (x : ℕ) → 1000 ≤ x → coordOf x ≡ pos (x - 1000)
 coord-high x l = rw (le-ltb x 1000 l)
 
 pub coord-neg : (x : ℕ) → isNeg (coordOf x) ≡ ltb x 1000
@@ -101,6 +103,11 @@ pub slots-back : (p : List ℤ) → InRange p → pointOf (take (length p) (slot
 unfolding slotsOf
 slots-back p r = slots-from p (replicate (16 - length p) 0) r
 
+-- the first slots, as many as the point has coordinates
+pub slots-own : (p : List ℤ) → take (length p) (slotsOf p) ≡ map stored p
+unfolding slotsOf
+slots-own p = take-at (map stored p) (replicate (16 - length p) 0) (length p) (length-map p stored)
+
 -- the test of range, as a fact
 in-range-by : (c : ℤ) (cs : List ℤ) (b : Bool) → leb (natAbs c) 1000 ≡ b → (inRange cs ≡ true → InRange cs) → if b (inRange cs) false ≡ true → InRange (c ∷ cs)
 in-range-by c cs true f ih g = (leb-true (natAbs c) 1000 f, ih g)
@@ -110,6 +117,31 @@ pub in-range : (p : List ℤ) → inRange p ≡ true → InRange p
 unfolding inRange
 in-range [] e = tt
 in-range (c ∷ cs) e = in-range-by c cs (leb (natAbs c) 1000) refl (in-range cs) e
+
+-- a point in range, as it is stored, stands for itself
+pub point-back : (p : List ℤ) → inRange p ≡ true → pointOf (map stored p) ≡ p
+point-back p r = ap pointOf (sym (slots-own p)) ∙ slots-back p (in-range p r)
+
+pub all-stored : (p : List ℤ) → InRange p → All (λ c. c ≤ 2000) (map stored p)
+all-stored [] r = none
+all-stored (c ∷ cs) r = also (stored-le c (r .0)) (all-stored cs (r .1))
+
+-- reading and storing back: any stored number
+slot-back : (x : ℕ) → stored (coordOf x) ≡ x
+slot-back x =
+    by-cases (ltb x 1000)
+    (λ e. let h = ltb-true x 1000 e in rw e (omega arith))
+    (λ e. let h = ltb-false x 1000 e in rw e (omega arith))
+
+pub slots-point : (xs : List ℕ) → map stored (pointOf xs) ≡ xs
+unfolding pointOf
+slots-point [] = refl
+slots-point (x ∷ xs) = λ i. slot-back x i ∷ slots-point xs i
+
+pub point-ranges : {xs : List ℕ} → All (λ c. c ≤ 2000) xs → inRange (pointOf xs) ≡ true
+unfolding pointOf inRange
+point-ranges none = refl
+point-ranges (also {x = x} h t) = rw (le-leb (natAbs (coordOf x)) 1000 (omega (arith, coord-magnitude x))) (point-ranges t)
 
 -- a coordinate as the machine holds it
 pub sum-stored : (c : ℤ) → natAbs c ≤ 1000 → c +ℤ pos 1000 ≡ pos (stored c)

@@ -5,6 +5,7 @@ use Prim.Native.Nat.{ℕ, max, _+_, _*_, _≤_}
 use lib.IntN.{ℤ, pos, negsuc, natAbs, _-ℤ_}
 use lib.ListN.{length}
 use lib.Signed.{_≤ℤ_}
+use Rattle.geometry.specs.Numbers.{maxCoordinate}
 use Rattle.geometry.specs.Points.{InRange, heightOf, pyramidOf, PairLe}
 
 -- one coordinate of a question: any value from low to high (a point has low = high), and the weight of its squared gap
@@ -45,10 +46,10 @@ abbrev pub Ordered : List Feature → Type 0
 Ordered [] = Unit {0}
 Ordered (f ∷ fs) = (f .low ≤ℤ f .high) × Ordered fs
 
--- what may be asked: values in range, weights of at most W (1,000; 1 without weights)
+-- what may be asked: values in range, weights of at most W (`maxWeight`; 1 without weights)
 abbrev pub Asks : ℕ → List Feature → Type 0
 Asks W [] = Unit {0}
-Asks W (f ∷ fs) = ((natAbs (f .low) ≤ 1000) × (natAbs (f .high) ≤ 1000) × (f .weight ≤ W)) × Asks W fs
+Asks W (f ∷ fs) = ((natAbs (f .low) ≤ maxCoordinate) × (natAbs (f .high) ≤ maxCoordinate) × (f .weight ≤ W)) × Asks W fs
 
 -- p is a grid point of d coordinates, in range, whose pair is in the span from the pair (i, h) to the pair (i′, h′)
 pub record InSpan (d i h i′ h′ : ℕ) (p : List ℤ) : Type 0 where

@@ -1,3 +1,4 @@
+pub mod Numbers
 pub mod Points
 pub mod Features
 pub mod Stored

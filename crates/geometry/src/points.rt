@@ -7,6 +7,7 @@ ghost use lib.IntN.{natAbs};
 ghost use lib.Dec.{leb};
 ghost use lib.ListN.{length};
 ghost use Rattle.lists.specs.Basics.{if};
+ghost use Rattle.geometry.specs.Numbers.{maxFeatures, maxCoordinate};
 ghost use Rattle.geometry.specs.Points.{heightOf, axisOf, pyramidOf};
 ghost use Rattle.geometry.specs.Stored.{coordOf, pointOf, stored, slotsOf, inRange};
 use crate::Height;
@@ -19,7 +20,7 @@ use crate::Pyramid;
 
 // Whether a coordinate is in range.
 fn within(c: i16) -> bool
-    ensures { λ r. ⌜ r ≡ leb (natAbs c) 1000 ⌝ }
+    ensures { λ r. ⌜ r ≡ leb (natAbs c) maxCoordinate ⌝ }
 {
     if c < MIN_SIGNED {
         return false;
@@ -44,7 +45,7 @@ pub fn in_range(p: &[i16]) -> bool
 
 // A coordinate in range as it is stored.
 fn slot(c: i16) -> u16
-    requires { ⌜ natAbs c ≤ 1000 ⌝ }
+    requires { ⌜ natAbs c ≤ maxCoordinate ⌝ }
     ensures { λ r. ⌜ r ≡ stored c ⌝ }
 {
     (c + MAX_SIGNED) as u16
@@ -52,7 +53,7 @@ fn slot(c: i16) -> u16
 
 // What a record holds of a point.
 pub fn slots_of(p: &[i16]) -> [u16; MAX_FEATURES]
-    requires { ⌜ (length (now p) ≤ 16) × (inRange (now p) ≡ true) ⌝ }
+    requires { ⌜ (length (now p) ≤ maxFeatures) × (inRange (now p) ≡ true) ⌝ }
     ensures { λ r. ⌜ r ≡ slotsOf (now (p .entry)) ⌝ }
 {
     let mut slots = [0u16; MAX_FEATURES];
@@ -106,7 +107,7 @@ fn highest(a: u32, b: u32) -> u32
 
 // The magnitude of coordinate m, followed by how far m is below 15: the first of the coordinates of one magnitude has the greatest number.
 fn lead(x: u16, m: usize) -> u32
-    requires { ⌜ m < 16 ⌝ }
+    requires { ⌜ m < maxFeatures ⌝ }
     ensures { λ r. ⌜ (r ≡ natAbs (coordOf x) * 16 + (15 - m)) × (r < 1048576) ⌝ }
 {
     let h = magnitude(x) as u32;
@@ -115,7 +116,7 @@ fn lead(x: u16, m: usize) -> u32
 
 // The greatest lead: the height and the axis of a point, found in one pass without a branch.
 fn top_lead(p: &[u16]) -> u32
-    requires { ⌜ (0 < length (now p)) × (length (now p) ≤ 16) ⌝ }
+    requires { ⌜ (0 < length (now p)) × (length (now p) ≤ maxFeatures) ⌝ }
     ensures { λ r. ⌜ (r ≡ heightOf (pointOf (now (p .entry))) * 16 + (15 - axisOf (pointOf (now (p .entry))))) × (r < 1048576) ⌝ }
 {
     let mut top: u32 = 0;
@@ -129,7 +130,7 @@ fn top_lead(p: &[u16]) -> u32
 
 // The number of the pyramid on axis j of d, on the side below 0 or not.
 pub fn pyramid_no(j: usize, d: usize, below: bool) -> u8
-    requires { ⌜ (j < d) × (d ≤ 16) ⌝ }
+    requires { ⌜ (j < d) × (d ≤ maxFeatures) ⌝ }
     ensures { λ r. ⌜ r ≡ if below j (j + d) ⌝ }
 {
     if below { j as u8 } else { (j + d) as u8 }
@@ -137,7 +138,7 @@ pub fn pyramid_no(j: usize, d: usize, below: bool) -> u8
 
 // The pyramid and height of a point.
 pub fn pair_of(p: &[u16]) -> Pair
-    requires { ⌜ (0 < length (now p)) × (length (now p) ≤ 16) ⌝ }
+    requires { ⌜ (0 < length (now p)) × (length (now p) ≤ maxFeatures) ⌝ }
     ensures { λ r. ⌜ (r .pyramid .0 ≡ pyramidOf (pointOf (now (p .entry)))) × (r .height .0 ≡ heightOf (pointOf (now (p .entry)))) ⌝ }
 {
     let top = top_lead(p);

@@ -3,6 +3,7 @@ use mathlib.Core.Path.{_≡_}
 use mathlib.Core.List.{List}
 use Prim.Native.Nat.{ℕ, zero, suc, min, _+_, _≤_, _<_}
 use lib.ListN.{length, getD}
+use Rattle.geometry.specs.Numbers.{maxCoordinate, maxWeight}
 use Rattle.geometry.specs.Features.{Ordered, Asks}
 use Rattle.geometry_slices.specs.Questions.{sizeOf, askedOf, Packed, nearPlaces, wholePlaces, Heights, Wholes}
 
@@ -10,7 +11,7 @@ use Rattle.geometry_slices.specs.Questions.{sizeOf, askedOf, Packed, nearPlaces
 pub record Preparable (a near whole : List ℕ) : Type 0 where
   pub some : 0 < sizeOf a
   pub packed : Packed a
-  pub asks : Asks 1000 (askedOf a)
+  pub asks : Asks maxWeight (askedOf a)
   pub ordered : Ordered (askedOf a)
   pub places : length near ≡ nearPlaces
   pub wholes : length whole ≡ wholePlaces
@@ -22,12 +23,12 @@ pub record Ready (a near whole : List ℕ) : Type 0 where
   pub wholes : length whole ≡ wholePlaces
   pub least : Wholes a whole
 
--- the ends of a span as they are read: pyramids of d coordinates, heights of at most 1,000
+-- the ends of a span as they are read: pyramids of d coordinates, heights of at most the greatest
 pub record Spanned (d i h i′ h′ : ℕ) : Type 0 where
   pub first : i < d + d
   pub last : i′ < d + d
-  pub low : h ≤ 1000
-  pub high : h′ ≤ 1000
+  pub low : h ≤ maxCoordinate
+  pub high : h′ ≤ maxCoordinate
 
 -- the least of b and n of the least distances to whole pyramids, those after pyramid i
 unfoldable pub leastBetween : List ℕ → ℕ → ℕ → ℕ → ℕ

@@ -5,6 +5,7 @@
 ghost use mathlib.Core.Path.{_≡_};
 ghost use Prim.Native.Nat.{min, _+_, _-_, _<_, _≤_};
 ghost use lib.ListN.{length};
+ghost use Rattle.geometry.specs.Numbers.{maxFeatures, maxCoordinate};
 ghost use Rattle.geometry.specs.Slices.{lastPyramid, leastIn, boundTo, boundOf};
 ghost use Rattle.geometry_slices.specs.Questions.{sizeOf, askedOf, nearPlaces, wholePlaces, Heights};
 ghost use Rattle.geometry_lanes.specs.Lanes.{Bounded};
@@ -43,7 +44,7 @@ pub fn prepare(asked: &[u16], near: &mut [u16], whole: &mut [u64])
 // the whole pyramid.
 fn least_in(asked: &[u16], near: &[u16], whole: &[u64], i: usize, lo: u16, hi: u16) -> u64
     requires { ⌜ Ready (now asked) (now near) (now whole)
-        × (i < sizeOf (now asked) + sizeOf (now asked)) × (lo ≤ 1000) × (hi ≤ 1000) ⌝ }
+        × (i < sizeOf (now asked) + sizeOf (now asked)) × (lo ≤ maxCoordinate) × (hi ≤ maxCoordinate) ⌝ }
     ensures { λ r. ⌜ r ≡ leastIn (askedOf (now (asked .entry))) i lo hi ⌝ }
 {
     let d = asked.len() - REACHES_FROM;
@@ -59,7 +60,7 @@ fn least_in(asked: &[u16], near: &[u16], whole: &[u64], i: usize, lo: u16, hi: u
 
 // The pyramid number i, or the last one of d coordinates where i is above it.
 fn last_pyramid(d: usize, i: u8) -> usize
-    requires { ⌜ (0 < d) × (d ≤ 16) ⌝ }
+    requires { ⌜ (0 < d) × (d ≤ maxFeatures) ⌝ }
     ensures { λ r. ⌜ r ≡ lastPyramid d i ⌝ }
 {
     let top = d + d - 1;

@@ -5,7 +5,7 @@ ghost use lib.ListN.{length};
 ghost use Rattle.lists.specs.Basics.{if};
 ghost use Rattle.geometry.specs.Slices.{Nearest};
 ghost use Rattle.geometry_slices.specs.Questions.{sizeOf, askedOf, nearPlaces, Filled};
-ghost use Rattle.geometry_lanes.specs.Lanes.{copied, Bounded, Blank};
+ghost use Rattle.geometry_lanes.specs.Lanes.{maxLanes, tablePlaces, copied, Bounded, Blank};
 use crate::lanes::axes_of;
 use crate::lanes::ends_of;
 use crate::lanes::fill_falls;
@@ -23,8 +23,8 @@ use geometry_slices::WEIGHTS_FROM;
 
 // The tables of the lanes, and the bisection over them.
 fn search_lanes(asked: &[u16], falls: &mut [u16], weights: &mut [u16], heights: &mut [u16])
-    requires { ⌜ Bounded (now asked) × Blank 512 (now falls) × (length (now weights) ≡ 512) × Blank 32 (now heights) ⌝ }
-    ensures { λ _. ⌜ Nearest (askedOf (now (asked .entry))) (now (heights .exit)) × (length (now (heights .exit)) ≡ 32) ⌝ }
+    requires { ⌜ Bounded (now asked) × Blank tablePlaces (now falls) × (length (now weights) ≡ tablePlaces) × Blank maxLanes (now heights) ⌝ }
+    ensures { λ _. ⌜ Nearest (askedOf (now (asked .entry))) (now (heights .exit)) × (length (now (heights .exit)) ≡ maxLanes) ⌝ }
 {
     let d = asked.len() - REACHES_FROM;
     let n = lanes(d);
@@ -39,7 +39,7 @@ fn search_lanes(asked: &[u16], falls: &mut [u16], weights: &mut [u16], heights: 
 // The nearest height of each pyramid.
 fn nearest_lanes(asked: &[u16]) -> [u16; MAX_LANES]
     requires { ⌜ Bounded (now asked) ⌝ }
-    ensures { λ r. ⌜ Nearest (askedOf (now (asked .entry))) r × (length r ≡ 32) ⌝ }
+    ensures { λ r. ⌜ Nearest (askedOf (now (asked .entry))) r × (length r ≡ maxLanes) ⌝ }
 {
     let mut falls = [0u16; TABLE];
     let mut weights = [0u16; TABLE];
@@ -58,7 +58,7 @@ fn reached(weight: u16, x: u16) -> u16
 // The nearest heights of one coordinate.
 fn nearest_one(asked: &[u16]) -> [u16; MAX_LANES]
     requires { ⌜ Bounded (now asked) × (sizeOf (now asked) ≡ 1) ⌝ }
-    ensures { λ r. ⌜ Nearest (askedOf (now (asked .entry))) r × (length r ≡ 32) ⌝ }
+    ensures { λ r. ⌜ Nearest (askedOf (now (asked .entry))) r × (length r ≡ maxLanes) ⌝ }
 {
     let mut heights = [0u16; MAX_LANES];
     let weight = asked[WEIGHTS_FROM];
@@ -69,7 +69,7 @@ fn nearest_one(asked: &[u16]) -> [u16; MAX_LANES]
 
 fn nearest_heights(asked: &[u16]) -> [u16; MAX_LANES]
     requires { ⌜ Bounded (now asked) ⌝ }
-    ensures { λ r. ⌜ Nearest (askedOf (now (asked .entry))) r × (length r ≡ 32) ⌝ }
+    ensures { λ r. ⌜ Nearest (askedOf (now (asked .entry))) r × (length r ≡ maxLanes) ⌝ }
 {
     if asked.len() - REACHES_FROM == 1 {
         return nearest_one(asked);
@@ -78,8 +78,8 @@ fn nearest_heights(asked: &[u16]) -> [u16; MAX_LANES]
 }
 
 fn copy_heights(heights: &[u16], near: &mut [u16])
-    requires { ⌜ (length (now heights) ≡ 32) × (length (now near) ≡ nearPlaces) ⌝ }
-    ensures { λ _. ⌜ Filled (copied (now (heights .entry))) 0 32 (now (near .entry)) (now (near .exit)) ⌝ }
+    requires { ⌜ (length (now heights) ≡ maxLanes) × (length (now near) ≡ nearPlaces) ⌝ }
+    ensures { λ _. ⌜ Filled (copied (now (heights .entry))) 0 maxLanes (now (near .entry)) (now (near .exit)) ⌝ }
 {
     let mut i = 0;
     while i < MAX_LANES {

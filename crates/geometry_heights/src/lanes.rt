@@ -4,9 +4,10 @@ ghost use Prim.Native.Nat.{_+_, _*_, _<_, _≤_};
 ghost use lib.Dec.{ltb};
 ghost use lib.ListN.{length};
 ghost use Rattle.lists.specs.Basics.{if};
+ghost use Rattle.geometry.specs.Numbers.{maxFeatures};
 ghost use Rattle.geometry.specs.Slices.{axisNo};
 ghost use Rattle.geometry_slices.specs.Questions.{sizeOf, Filled};
-ghost use Rattle.geometry_lanes.specs.Lanes.{oddOf, sideIn, same};
+ghost use Rattle.geometry_lanes.specs.Lanes.{maxLanes, tablePlaces, oddOf, sideIn, same};
 ghost use Rattle.geometry_lanes.specs.Lanes.{Bounded, Axes, Aligned, Falls, Weights, Owns, Ends};
 use geometry::MAX_COORDINATE;
 use geometry::points::above;
@@ -34,7 +35,7 @@ fn axis_in(d: u16, i: u16) -> u16
 
 // The axis of each lane.
 pub fn axes_of(d: usize, n: usize) -> [u16; MAX_LANES]
-    requires { ⌜ (d ≤ 16) × (n ≤ 32) ⌝ }
+    requires { ⌜ (d ≤ maxFeatures) × (n ≤ maxLanes) ⌝ }
     ensures { λ r. ⌜ Axes d n r ⌝ }
 {
     let mut axes = [0u16; MAX_LANES];
@@ -54,8 +55,8 @@ fn side_fall(m: u16, j: u16, before: u16, after: u16) -> u16
 
 // What coordinate m falls by in each lane, but for its own axis.
 fn fill_lanes(falls: &mut [u16], axes: &[u16], m: usize, n: usize, reach: u16)
-    requires { ⌜ (m < 16) × (n ≤ 32) × (reach ≤ 1001) × (length (now falls) ≡ 512) × (length (now axes) ≡ 32) ⌝ }
-    ensures { λ _. ⌜ Filled (sideIn (now (axes .entry)) m reach) (32 * m) n (now (falls .entry)) (now (falls .exit)) ⌝ }
+    requires { ⌜ (m < maxFeatures) × (n ≤ maxLanes) × (reach ≤ 1001) × (length (now falls) ≡ tablePlaces) × (length (now axes) ≡ maxLanes) ⌝ }
+    ensures { λ _. ⌜ Filled (sideIn (now (axes .entry)) m reach) (maxLanes * m) n (now (falls .entry)) (now (falls .exit)) ⌝ }
 {
     let before = odd(reach);
     let after = odd(above(reach, 1));
@@ -94,7 +95,7 @@ pub fn fill_falls(asked: &[u16], axes: &[u16], n: usize, falls: &mut [u16])
 }
 
 fn fill_with(row: &mut [u16], at: usize, n: usize, x: u16)
-    requires { ⌜ (at + n ≤ length (now row)) × (length (now row) ≡ 512) ⌝ }
+    requires { ⌜ (at + n ≤ length (now row)) × (length (now row) ≡ tablePlaces) ⌝ }
     ensures { λ _. ⌜ Filled (same x) at n (now (row .entry)) (now (row .exit)) ⌝ }
 {
     let mut i = 0;
@@ -106,7 +107,7 @@ fn fill_with(row: &mut [u16], at: usize, n: usize, x: u16)
 
 // The weight of each coordinate, in each lane.
 pub fn fill_weights(asked: &[u16], n: usize, weights: &mut [u16])
-    requires { ⌜ Bounded (now asked) × (n ≤ 32) × (length (now weights) ≡ 512) ⌝ }
+    requires { ⌜ Bounded (now asked) × (n ≤ maxLanes) × (length (now weights) ≡ tablePlaces) ⌝ }
     ensures { λ _. ⌜ Weights (now (asked .entry)) (now (weights .exit)) n (sizeOf (now (asked .entry))) ⌝ }
 {
     let d = asked.len() - REACHES_FROM;

@@ -1,10 +1,11 @@
 // The bisection: a lane holds the lower end of its interval, and each turn halves all intervals.
 ghost use mathlib.Core.Path.{_≡_};
-ghost use Prim.Native.Nat.{_+_, _≤_};
+ghost use Prim.Native.Nat.{_+_, _*_, _≤_};
 ghost use lib.ListN.{length};
+ghost use Rattle.geometry.specs.Numbers.{maxFeatures, maxCoordinate};
 ghost use Rattle.geometry.specs.Slices.{Nearest};
 ghost use Rattle.geometry_slices.specs.Questions.{sizeOf, askedOf};
-ghost use Rattle.geometry_lanes.specs.Lanes.{settledAt, summed, lanesOf, Movable, Halved, Lanes, Blank};
+ghost use Rattle.geometry_lanes.specs.Lanes.{maxLanes, settledAt, summed, lanesOf, Movable, Halved, Lanes, Blank};
 use crate::pulls::all_pulls;
 use crate::pulls::eight_pulls;
 use crate::pulls::four_pulls;
@@ -15,7 +16,7 @@ use geometry_slices::REACHES_FROM;
 
 // How many lanes d coordinates take.
 pub fn lanes(d: usize) -> usize
-    requires { ⌜ d ≤ 16 ⌝ }
+    requires { ⌜ d ≤ maxFeatures ⌝ }
     ensures { λ r. ⌜ r ≡ lanesOf d ⌝ }
 {
     (d + 3) / 4 * 8
@@ -23,7 +24,7 @@ pub fn lanes(d: usize) -> usize
 
 // A lane after a turn, t being twice the height looked at.
 fn settled(sum: u32, weight: u16, end: u16, t: u16, step: u16, h: u16) -> u16
-    requires { ⌜ (t ≤ 2000) × (h + step ≤ 1000) ⌝ }
+    requires { ⌜ (t ≤ 2 * maxCoordinate) × (h + step ≤ maxCoordinate) ⌝ }
     ensures { λ r. ⌜ r ≡ settledAt sum weight end t step h ⌝ }
 {
     if sum <= pull(weight, above(t + 2001, end)) {
@@ -140,8 +141,8 @@ pub fn bisect(
     heights: &mut [u16],
 )
     requires { ⌜ Lanes (now asked) (now falls) (now weights) (now owns) (now ends) (lanesOf (sizeOf (now asked)))
-        × Blank 32 (now heights) ⌝ }
-    ensures { λ _. ⌜ Nearest (askedOf (now (asked .entry))) (now (heights .exit)) × (length (now (heights .exit)) ≡ 32) ⌝ }
+        × Blank maxLanes (now heights) ⌝ }
+    ensures { λ _. ⌜ Nearest (askedOf (now (asked .entry))) (now (heights .exit)) × (length (now (heights .exit)) ≡ maxLanes) ⌝ }
 {
     let n = lanes(asked.len() - REACHES_FROM);
     let mut size = MAX_COORDINATE;

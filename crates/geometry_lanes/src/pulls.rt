@@ -3,7 +3,7 @@ ghost use mathlib.Core.Path.{_≡_};
 ghost use Prim.Native.Nat.{ℕ, _*_, _<_, _≤_};
 ghost use lib.ListN.{length, getD};
 ghost use Rattle.geometry_slices.specs.Questions.{sumTo};
-ghost use Rattle.geometry_lanes.specs.Lanes.{pullAt};
+ghost use Rattle.geometry_lanes.specs.Lanes.{maxLanes, tablePlaces, pullAt};
 use geometry::points::above;
 
 pub fn pull(weight: u16, x: u16) -> u32
@@ -14,7 +14,7 @@ pub fn pull(weight: u16, x: u16) -> u32
 
 // What four coordinates pull in a lane, t being twice the height.
 pub fn four_pulls(falls: &[u16], weights: &[u16], at: usize, t: u16) -> u32
-    requires { ⌜ (at < 416) × (length (now falls) ≡ 512) × (length (now weights) ≡ 512)
+    requires { ⌜ (at < 416) × (length (now falls) ≡ tablePlaces) × (length (now weights) ≡ tablePlaces)
         × ((x : ℕ) → getD (now falls) x 0 ≤ 2001) ⌝ }
     ensures { λ r. ⌜ (r ≡ sumTo 4 (pullAt (now (falls .entry)) (now (weights .entry)) at t)) × (r ≤ 536870912) ⌝ }
 {
@@ -26,7 +26,7 @@ pub fn four_pulls(falls: &[u16], weights: &[u16], at: usize, t: u16) -> u32
 }
 
 pub fn eight_pulls(falls: &[u16], weights: &[u16], at: usize, t: u16) -> u32
-    requires { ⌜ (at < 288) × (length (now falls) ≡ 512) × (length (now weights) ≡ 512)
+    requires { ⌜ (at < 288) × (length (now falls) ≡ tablePlaces) × (length (now weights) ≡ tablePlaces)
         × ((x : ℕ) → getD (now falls) x 0 ≤ 2001) ⌝ }
     ensures { λ r. ⌜ (r ≡ sumTo 8 (pullAt (now (falls .entry)) (now (weights .entry)) at t)) × (r ≤ 1073741824) ⌝ }
 {
@@ -34,7 +34,7 @@ pub fn eight_pulls(falls: &[u16], weights: &[u16], at: usize, t: u16) -> u32
 }
 
 pub fn all_pulls(falls: &[u16], weights: &[u16], at: usize, t: u16) -> u32
-    requires { ⌜ (at < 32) × (length (now falls) ≡ 512) × (length (now weights) ≡ 512)
+    requires { ⌜ (at < maxLanes) × (length (now falls) ≡ tablePlaces) × (length (now weights) ≡ tablePlaces)
         × ((x : ℕ) → getD (now falls) x 0 ≤ 2001) ⌝ }
     ensures { λ r. ⌜ r ≡ sumTo 16 (pullAt (now (falls .entry)) (now (weights .entry)) at t) ⌝ }
 {

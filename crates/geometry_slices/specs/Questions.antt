@@ -5,6 +5,7 @@ use Prim.Native.Nat.{ℕ, zero, suc, max, _+_, _*_, _-_, _≤_, _<_}
 use lib.Dec.{leb, ltb, eqb}
 use lib.ListN.{length, getD, take, drop}
 use Rattle.lists.specs.Basics.{if, indicator}
+use Rattle.geometry.specs.Numbers.{maxFeatures, maxCoordinate}
 use Rattle.geometry.specs.Features.{Feature}
 use Rattle.geometry.specs.Slices.{Nearest, lowestOf, leastIn}
 use Rattle.geometry.specs.Stored.{coordOf}
@@ -18,16 +19,16 @@ featuresOf (l ∷ ls) (h ∷ hs) (w ∷ ws) = record { low = coordOf l; high = c
 
 -- `reachOf` of each coordinate, from the stored numbers
 abbrev pub reachAt : ℕ → ℕ → ℕ
-reachAt l h = suc (max (l - 1000) (1000 - h))
+reachAt l h = suc (max (l - maxCoordinate) (maxCoordinate - h))
 
 unfoldable pub reachesOf : List ℕ → List ℕ → List ℕ
 reachesOf [] hs = []
 reachesOf (l ∷ ls) [] = []
 reachesOf (l ∷ ls) (h ∷ hs) = reachAt l h ∷ reachesOf ls hs
 
--- what is lent for a question: at most 16 ranges with their weights, and their reaches, computed once
+-- what is lent for a question: at most `maxFeatures` ranges with their weights, and their reaches, computed once
 pub record Prepared (low high weight reach : List ℕ) : Type 0 where
-  pub few : length low ≤ 16
+  pub few : length low ≤ maxFeatures
   pub highs : length high ≡ length low
   pub weights : length weight ≡ length low
   pub alike : length reach ≡ length low
@@ -35,13 +36,13 @@ pub record Prepared (low high weight reach : List ℕ) : Type 0 where
 
 -- a question as one list: low ends from place 0 on, high ends, weights and reaches from the places named here; the last part ends the list
 abbrev pub highsFrom : ℕ
-highsFrom = 16
+highsFrom = maxFeatures
 
 abbrev pub weightsFrom : ℕ
-weightsFrom = 32
+weightsFrom = 2 * maxFeatures
 
 abbrev pub reachesFrom : ℕ
-reachesFrom = 48
+reachesFrom = 3 * maxFeatures
 
 abbrev pub sizeOf : List ℕ → ℕ
 sizeOf a = length a - reachesFrom
@@ -64,26 +65,30 @@ pub record LaidOut (low high weight r : List ℕ) : Type 0 where
 
 -- the places of a question's tables: what is kept of its pyramids' heights, and of whole pyramids
 abbrev pub nearPlaces : ℕ
-nearPlaces = 288
+nearPlaces = 2 * maxFeatures + maxFeatures * maxFeatures
 
 abbrev pub wholePlaces : ℕ
-wholePlaces = 32
+wholePlaces = 2 * maxFeatures
 
 -- f 0 + .. + f (n - 1)
 unfoldable pub sumTo : ℕ → (ℕ → ℕ) → ℕ
 sumTo zero f = 0
 sumTo (suc n) f = sumTo n f + f n
 
--- what coordinate m has to come down from beside axis j: magnitudes before the axis stay below the height; nothing on the axis, and past the last
+-- what coordinate m has to come down from beside axis j: magnitudes before the axis stay below the height; nothing on the axis, and past
+-- the last
 unfoldable pub rowAt : List ℕ → ℕ → ℕ → ℕ
 rowAt a j m = if (eqb m j) 0 (getD a (reachesFrom + m) 0 - indicator (ltb j m))
 
--- where the row of axis j stands in near, and how many of its places are summed
+-- where the rows stand in near, after the heights, where that of axis j does, and how many of its places are summed
+abbrev pub rowsFrom : ℕ
+rowsFrom = 2 * maxFeatures
+
 abbrev pub rowFrom : ℕ → ℕ
-rowFrom j = 32 + 16 * j
+rowFrom j = rowsFrom + maxFeatures * j
 
 abbrev pub widthOf : ℕ → ℕ
-widthOf d = if (leb d 1) 0 (if (leb d 4) 4 (if (leb d 8) 8 16))
+widthOf d = if (leb d 1) 0 (if (leb d 4) 4 (if (leb d 8) 8 maxFeatures))
 
 -- what place m of a row that stands at a place of near costs at height h
 abbrev pub rowCost : List ℕ → List ℕ → ℕ → ℕ → ℕ → ℕ
@@ -109,4 +114,4 @@ pub record Heights (a near : List ℕ) : Type 0 where
 
 -- the least distance to each whole pyramid
 abbrev pub Wholes : List ℕ → List ℕ → Type 0
-Wholes a whole = (i : ℕ) → i < sizeOf a + sizeOf a → getD whole i 0 ≡ leastIn (askedOf a) i (lowestOf (length (askedOf a)) i) 1000
+Wholes a whole = (i : ℕ) → i < sizeOf a + sizeOf a → getD whole i 0 ≡ leastIn (askedOf a) i (lowestOf (length (askedOf a)) i) maxCoordinate

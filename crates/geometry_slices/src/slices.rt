@@ -3,6 +3,7 @@
 ghost use mathlib.Core.Path.{_≡_};
 ghost use Prim.Native.Nat.{_+_, _*_, _-_, _<_, _≤_};
 ghost use lib.ListN.{length};
+ghost use Rattle.geometry.specs.Numbers.{maxFeatures, maxCoordinate};
 ghost use Rattle.geometry.specs.Features.{gapOf};
 ghost use Rattle.geometry.specs.Stored.{coordOf};
 ghost use Rattle.geometry.specs.Slices.{onAxis, axisNo, sliceAt, lowestOf};
@@ -32,7 +33,7 @@ pub fn width(d: usize) -> usize
 
 // What n places of a row at a place of near cost at height h.
 fn row_sum(asked: &[u16], near: &[u16], at: usize, n: usize, h: u16) -> u64
-    requires { ⌜ (reachesFrom ≤ length (now asked)) × (n ≤ 16) × (at + n ≤ length (now near)) ⌝ }
+    requires { ⌜ (reachesFrom ≤ length (now asked)) × (n ≤ maxFeatures) × (at + n ≤ length (now near)) ⌝ }
     ensures { λ r. ⌜ (r ≡ sumTo n (rowCost (now (asked .entry)) (now (near .entry)) at h)) × (r ≤ 281474976710656 * n) ⌝ }
 {
     let mut sum: u64 = 0;
@@ -46,7 +47,7 @@ fn row_sum(asked: &[u16], near: &[u16], at: usize, n: usize, h: u16) -> u64
 
 // The gap of height h on an axis, on the side below 0 or not, from a stored range.
 fn axis_gap(low: u16, high: u16, below: bool, h: u16) -> u16
-    requires { ⌜ h ≤ 1000 ⌝ }
+    requires { ⌜ h ≤ maxCoordinate ⌝ }
     ensures { λ r. ⌜ r ≡ gapOf (coordOf low) (coordOf high) (onAxis below h) ⌝ }
 {
     if below {
@@ -66,7 +67,7 @@ fn axis_no(d: usize, i: usize) -> usize
 
 // The least distance to the grid points of pyramid i at height h.
 pub fn slice_in(asked: &[u16], near: &[u16], i: usize, h: u16) -> u64
-    requires { ⌜ Rows (now asked) (now near) × (i < sizeOf (now asked) + sizeOf (now asked)) × (h ≤ 1000) ⌝ }
+    requires { ⌜ Rows (now asked) (now near) × (i < sizeOf (now asked) + sizeOf (now asked)) × (h ≤ maxCoordinate) ⌝ }
     ensures { λ r. ⌜ r ≡ sliceAt (askedOf (now (asked .entry))) i h ⌝ }
 {
     let d = asked.len() - REACHES_FROM;

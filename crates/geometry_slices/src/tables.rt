@@ -4,6 +4,7 @@ ghost use Prim.Native.Nat.{_+_, _*_, _-_, _<_, _≤_};
 ghost use lib.Dec.{ltb, eqb};
 ghost use lib.ListN.{length};
 ghost use Rattle.lists.specs.Basics.{if, indicator};
+ghost use Rattle.geometry.specs.Numbers.{maxFeatures};
 ghost use Rattle.geometry_slices.specs.Questions.{Packed, nearPlaces, wholePlaces, rowFrom, Filled, Heights, Wholes};
 ghost use Rattle.geometry_slices.specs.Tables.{rowIn, Counted, Reached, RowRoom, Rowed, RowsOver};
 use crate::REACHES_FROM;
@@ -55,7 +56,7 @@ fn reaches(asked: &[u16]) -> [u16; MAX_FEATURES]
 
 // The row of axis j.
 fn fill_row(reach: &[u16], places: &[u16], j: usize, n: usize, near: &mut [u16])
-    requires { ⌜ RowRoom (now reach) (now places) n (now near) × (j < 16) ⌝ }
+    requires { ⌜ RowRoom (now reach) (now places) n (now near) × (j < maxFeatures) ⌝ }
     ensures { λ _. ⌜ Filled (rowIn (now (reach .entry)) j) (rowFrom j) n (now (near .entry)) (now (near .exit)) ⌝ }
 {
     let at = ROWS_FROM + MAX_FEATURES * j;
@@ -69,7 +70,7 @@ fn fill_row(reach: &[u16], places: &[u16], j: usize, n: usize, near: &mut [u16])
 
 // The rows of d axes.
 fn each_row(reach: &[u16], places: &[u16], d: usize, n: usize, near: &mut [u16])
-    requires { ⌜ RowRoom (now reach) (now places) n (now near) × (d ≤ 16) ⌝ }
+    requires { ⌜ RowRoom (now reach) (now places) n (now near) × (d ≤ maxFeatures) ⌝ }
     ensures { λ _. ⌜ Rowed (now (reach .entry)) d n (now (near .entry)) (now (near .exit)) ⌝ }
 {
     let mut j = 0;
