@@ -1,4 +1,4 @@
-// The geometry of the index: keys, the pyramid and height of a point, squared distance, the bound of a span.
+// The geometry of the index: keys, the pyramid and height of a point, gaps and what they cost.
 pub mod keys;
 pub mod points;
 

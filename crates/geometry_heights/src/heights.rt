@@ -14,7 +14,7 @@ use crate::lanes::owns_of;
 use geometry::MAX_COORDINATE;
 use geometry::points::above;
 use geometry_lanes::MAX_LANES;
-use geometry_lanes::TABLE;
+use geometry_lanes::TABLE_PLACES;
 use geometry_lanes::bisection::bisect;
 use geometry_lanes::bisection::lanes;
 use geometry_slices::HIGHS_FROM;
@@ -41,8 +41,8 @@ fn nearest_lanes(asked: &[u16]) -> [u16; MAX_LANES]
     requires { ⌜ Bounded (now asked) ⌝ }
     ensures { λ r. ⌜ Nearest (askedOf (now (asked .entry))) r × (length r ≡ maxLanes) ⌝ }
 {
-    let mut falls = [0u16; TABLE];
-    let mut weights = [0u16; TABLE];
+    let mut falls = [0u16; TABLE_PLACES];
+    let mut weights = [0u16; TABLE_PLACES];
     let mut heights = [0u16; MAX_LANES];
     search_lanes(asked, &mut falls, &mut weights, &mut heights);
     heights

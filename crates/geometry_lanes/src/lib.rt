@@ -9,4 +9,4 @@ use geometry::MAX_FEATURES;
 // The most lanes: one for each pyramid. A table of the lanes has a row of so many places for each coordinate.
 pub const MAX_LANES: usize = 2 * MAX_FEATURES;
 
-pub const TABLE: usize = MAX_LANES * MAX_FEATURES;
+pub const TABLE_PLACES: usize = MAX_LANES * MAX_FEATURES;

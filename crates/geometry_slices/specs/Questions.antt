@@ -44,6 +44,9 @@ weightsFrom = 2 * maxFeatures
 abbrev pub reachesFrom : ℕ
 reachesFrom = 3 * maxFeatures
 
+abbrev pub askedPlaces : ℕ
+askedPlaces = 4 * maxFeatures
+
 abbrev pub sizeOf : List ℕ → ℕ
 sizeOf a = length a - reachesFrom
 
@@ -59,7 +62,7 @@ pub record Packed (a : List ℕ) : Type 0 where
 
 -- r holds the question of these ranges and weights: its list is lent up to the last reach
 pub record LaidOut (low high weight r : List ℕ) : Type 0 where
-  pub places : length r ≡ 64
+  pub places : length r ≡ askedPlaces
   pub packed : Packed (take (reachesFrom + length low) r)
   pub same : askedOf (take (reachesFrom + length low) r) ≡ featuresOf low high weight
 

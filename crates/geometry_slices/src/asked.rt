@@ -4,8 +4,8 @@ ghost use Prim.Native.Nat.{_≤_};
 ghost use lib.ListN.{length};
 ghost use Rattle.geometry.specs.Numbers.{maxFeatures};
 ghost use Rattle.geometry_slices.specs.Questions.{reachAt, LaidOut};
+use crate::ASKED_PLACES;
 use crate::HIGHS_FROM;
-use crate::PLACES;
 use crate::REACHES_FROM;
 use crate::WEIGHTS_FROM;
 use geometry::MAX_COORDINATE;
@@ -19,11 +19,11 @@ fn reach_at(low: u16, high: u16) -> u16
 }
 
 // A question as one list: low ends, high ends, weights, and how far out each range is; it is lent up to the last of these.
-pub fn ask(low: &[u16], high: &[u16], weight: &[u16]) -> [u16; PLACES]
+pub fn ask(low: &[u16], high: &[u16], weight: &[u16]) -> [u16; ASKED_PLACES]
     requires { ⌜ (length (now low) ≤ maxFeatures) × (length (now high) ≡ length (now low)) × (length (now weight) ≡ length (now low)) ⌝ }
     ensures { λ r. ⌜ LaidOut (now (low .entry)) (now (high .entry)) (now (weight .entry)) r ⌝ }
 {
-    let mut asked = [0u16; PLACES];
+    let mut asked = [0u16; ASKED_PLACES];
     let mut m = 0;
     while m < low.len() {
         asked[m] = low[m];

@@ -12,7 +12,7 @@ pub const WEIGHTS_FROM: usize = 2 * MAX_FEATURES;
 
 pub const REACHES_FROM: usize = 3 * MAX_FEATURES;
 
-pub const PLACES: usize = 4 * MAX_FEATURES;
+pub const ASKED_PLACES: usize = 4 * MAX_FEATURES;
 
 // Its table near has the nearest height of each pyramid from place 0 on, and from this one a row for each axis.
 pub const ROWS_FROM: usize = 2 * MAX_FEATURES;

@@ -1,4 +1,4 @@
--- `heights::axes_of` meets its contract: each lane below i has its axis.
+-- `lanes::axes_of` meets its contract: each lane below i has its axis.
 use native.Mathlib.Omega.{arith}
 use borrow.Author.Needs.{needs}
 use mathlib.Core.Path.{_≡_, _∙_}

@@ -1,4 +1,4 @@
--- `heights::axis_in` meets its contract: `axisNo` by its test.
+-- `lanes::axis_in` meets its contract: `axisNo` by its test.
 use Rattle.geometry_slices.proofs.PackedLaws.{axis-low, axis-high}
 use Rattle.geometry_heights.proofs.lanes.axis_in.Statement.{statement}
 use Rattle.geometry_heights.proofs.lanes.axis_in.Tie as tie

@@ -1,4 +1,4 @@
--- `heights::ends_of` meets its contract: the axes below m have their ends.
+-- `lanes::ends_of` meets its contract: the axes below m have their ends.
 use native.Mathlib.Omega.{arith}
 use borrow.Author.Needs.{needs}
 use mathlib.Core.Path.{_≡_, refl}

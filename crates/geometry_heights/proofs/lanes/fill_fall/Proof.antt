@@ -1,4 +1,4 @@
--- `heights::fill_fall` meets its contract: the row of coordinate m, with its own axis.
+-- `lanes::fill_fall` meets its contract: the row of coordinate m, with its own axis.
 use native.Mathlib.Omega.{arith}
 use borrow.Author.Needs.{needs}
 use mathlib.Core.Path.{ap, _∙_}

@@ -1,4 +1,4 @@
--- `heights::fill_falls` meets its contract: the rows of the coordinates below m are filled.
+-- `lanes::fill_falls` meets its contract: the rows of the coordinates below m are filled.
 use native.Mathlib.Omega.{arith}
 use borrow.Author.Needs.{needs}
 use mathlib.Core.Path.{_≡_, refl}

@@ -1,4 +1,4 @@
--- `heights::fill_lanes` meets its contract: i lanes are filled.
+-- `lanes::fill_lanes` meets its contract: i lanes are filled.
 use native.Mathlib.Omega.{arith}
 use borrow.Author.Needs.{needs}
 use mathlib.Core.Path.{_≡_, ap, _∙_}

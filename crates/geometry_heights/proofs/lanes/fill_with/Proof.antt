@@ -1,4 +1,4 @@
--- `heights::fill_with` meets its contract: i places are filled.
+-- `lanes::fill_with` meets its contract: i places are filled.
 use native.Mathlib.Omega.{arith}
 use borrow.Author.Needs.{needs}
 use mathlib.Core.Path.{_≡_, refl}

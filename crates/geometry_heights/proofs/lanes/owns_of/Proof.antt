@@ -1,4 +1,4 @@
--- `heights::owns_of` meets its contract: both sides of each axis below m have its weight.
+-- `lanes::owns_of` meets its contract: both sides of each axis below m have its weight.
 use native.Mathlib.Omega.{arith}
 use borrow.Author.Needs.{needs}
 use mathlib.Core.Path.{_≡_, refl}

@@ -1,4 +1,4 @@
--- `heights::side_fall` meets its contract.
+-- `lanes::side_fall` meets its contract.
 use borrow.Author.Tests.{lt-ltb, le-ltb}
 use mathlib.Core.Path.{sym, ap}
 use mathlib.Core.Bool.{Bool}

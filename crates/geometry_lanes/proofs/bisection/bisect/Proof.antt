@@ -1,4 +1,4 @@
--- `heights::bisect` meets its contract: each pyramid's nearest height stays in its lane's interval, which is halved.
+-- `bisection::bisect` meets its contract: each pyramid's nearest height stays in its lane's interval, which is halved.
 use native.Mathlib.Omega.{arith}
 use borrow.Author.Needs.{needs}
 use mathlib.Core.Path.{_≡_}

@@ -1,4 +1,4 @@
--- `heights::halve` meets its contract: as many coordinates are summed as the lanes may have.
+-- `bisection::halve` meets its contract: as many coordinates are summed as the lanes may have.
 use borrow.Author.Needs.{needs}
 use Rattle.geometry_lanes.proofs.TurnLaws.{summed-4, summed-8, summed-16}
 use Rattle.geometry_lanes.proofs.bisection.halve.Statement.{statement}

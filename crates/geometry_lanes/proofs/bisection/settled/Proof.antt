@@ -1,4 +1,4 @@
--- `heights::settled` meets its contract: the test of `settledAt`.
+-- `bisection::settled` meets its contract: the test of `settledAt`.
 use native.Mathlib.Omega.{arith}
 use borrow.Author.Needs.{needs}
 use mathlib.Core.Path.{ap, _∙_}

@@ -1,4 +1,4 @@
--- `heights::all_pulls` meets its contract: the second eight stand 256 places on.
+-- `pulls::all_pulls` meets its contract: the second eight stand 256 places on.
 use borrow.Author.Needs.{needs}
 use Rattle.geometry_lanes.proofs.TurnLaws.{all-is}
 use Rattle.geometry_lanes.proofs.pulls.all_pulls.Statement.{statement}

@@ -1,4 +1,4 @@
--- `heights::eight_pulls` meets its contract: the second four stand 128 places on.
+-- `pulls::eight_pulls` meets its contract: the second four stand 128 places on.
 use native.Mathlib.Omega.{arith}
 use borrow.Author.Needs.{needs}
 use Rattle.geometry_lanes.proofs.TurnLaws.{eight-is}

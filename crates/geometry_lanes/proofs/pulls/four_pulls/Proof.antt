@@ -1,4 +1,4 @@
--- `heights::four_pulls` meets its contract: four products.
+-- `pulls::four_pulls` meets its contract: four products.
 use native.Mathlib.Omega.{arith}
 use borrow.Author.Needs.{needs}
 use mathlib.Core.Path.{ap, _∙_}

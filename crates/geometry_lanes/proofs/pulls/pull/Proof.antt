@@ -1,4 +1,4 @@
--- `heights::pull` meets its contract: the product of two numbers of 16 bits fits.
+-- `pulls::pull` meets its contract: the product of two numbers of 16 bits fits.
 use borrow.Author.Needs.{needs}
 use mathlib.Core.Path.{refl}
 use Rattle.geometry_lanes.proofs.TurnLaws.{product-fits, pull-small}

@@ -1,4 +1,4 @@
--- `bounds::ask` meets its contract: the four numbers of each coordinate below m are in their places.
+-- `asked::ask` meets its contract: the four numbers of each coordinate below m are in their places.
 use native.Mathlib.Omega.{arith}
 use mathlib.Core.Path.{_≡_}
 use Prim.Native.Nat.{ℕ, _-_, _≤_, _<_}
