@@ -1,4 +1,4 @@
--- What a test shows where it passes and where it does not, and what a search for a page shows.
+-- What a test shows where it passes and where it does not, and what a search shows that answers with a number.
 use mathlib.Core.Path.{_≡_, refl, sym, ap, subst}
 use mathlib.Core.Bool.{Bool, true, false}
 use Prim.Native.Nat.{ℕ, _≤_, _<_}
@@ -17,7 +17,7 @@ pub data Judges (P Q : Type 0) : Bool → Type 0 where
 abbrev pub Decides : Type 0 → Bool → Type 0
 Decides P = Judges P (¬ P)
 
--- 0 where P holds, else a page of which Q holds
+-- 0 where P holds, else a number of which Q holds
 pub data Found (P : Type 0) (Q : ℕ → Type 0) : ℕ → Type 0 where
   nowhere : P → Found P Q 0
   at : (p : ℕ) → 0 < p → Q p → Found P Q p

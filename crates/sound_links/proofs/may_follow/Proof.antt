@@ -34,7 +34,7 @@ returns-4 : tie.Need-returns-4
 returns-4 c = let b = c .before .before .before .before .before .before .before .before .args .index .now in let p = c .before .before .before .before .before .before .before .before .args .c in Judges.fault (λ f. omega (arith, f .fill .0, view-fill b p, c .before .count-at .ensures, c .if4 .taken))
 
 returns-5 : tie.Need-returns-5
-returns-5 c = let b = c .before .before .before .before .before .before .before .before .args .index .now in let p = c .before .before .before .before .before .before .before .before .args .c in let n = c .before .count-at .ensures in judge-le (c .before .count-at .result) 16 (λ h. record { range = page-of b p (sym (c .before .before .before .before .before .before .in-range .ensures) ∙ not-false _ (c .before .before .before .before .before .if1 .left)); level = omega (arith, view-level b p, c .before .before .before .before .level-at .ensures, c .before .before .if3 .left, c .before .before .before .if2 .left); fill = (omega (arith, view-fill b p, n, c .if4 .left), omega (arith, view-fill b p, n)) }) (λ h f. omega (arith, f .fill .1, view-fill b p, n))
+returns-5 c = let b = c .before .before .before .before .before .before .before .before .args .index .now in let p = c .before .before .before .before .before .before .before .before .args .c in let n = c .before .count-at .ensures in judge-le (c .before .count-at .result) _ (λ h. record { range = page-of b p (sym (c .before .before .before .before .before .before .in-range .ensures) ∙ not-false _ (c .before .before .before .before .before .if1 .left)); level = omega (arith, view-level b p, c .before .before .before .before .level-at .ensures, c .before .before .if3 .left, c .before .before .before .if2 .left); fill = (omega (arith, view-fill b p, n, c .if4 .left), omega (arith, view-fill b p, n)) }) (λ h f. omega (arith, f .fill .1, view-fill b p, n))
 
 pub may-follow-spec : {M : Type 1} → statement M
 may-follow-spec =
