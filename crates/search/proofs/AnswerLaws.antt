@@ -8,10 +8,11 @@ use lib.Dec.{eqb, ltb}
 use borrow.Author.Tests.{eq-eqb, ne-eqb, ltb-false}
 use Rattle.pagestore.specs.Store.{total, level, fieldAt}
 use Rattle.search.specs.declared.Seen.{Seen}
-use Rattle.search.specs.Asked.{Asked}
-use Rattle.search.specs.Visit.{answerOf, visited, readsNone, found}
+use Rattle.search_model.specs.Asked.{Asked}
+use Rattle.search_model.specs.Visit.{answerOf, visited, readsNone, found}
 use Rattle.search.specs.Steps.{answerIn, Searched}
-use Rattle.search.proofs.Promises.{found-exact, unread-bytes}
+use Rattle.search_model.proofs.ExactLaws.{found-exact}
+use Rattle.search_model.proofs.UnreadLaws.{unread-bytes}
 
 pub none-total : (b : List ℕ) (n : ℕ) → n ≡ fieldAt total b → n ≡ 0 → true ≡ readsNone b
 unfolding readsNone

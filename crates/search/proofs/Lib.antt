@@ -1,16 +1,2 @@
-pub mod AskedLaws
-pub mod RecordLaws
-pub mod FrameLaws
-pub mod DescentLaws
-pub mod RoomLaws
-pub mod SoundLaws
-pub mod SetLaws
-pub mod Promises
-pub mod WordLaws
-pub mod ColumnLaws
-pub mod LeafLaws
-pub mod KeyLaws
-pub mod OpenLaws
 pub mod TurnLaws
 pub mod AnswerLaws
-pub mod ExampleLaws

@@ -1,8 +1,8 @@
 -- The turns of the visit.
 use mathlib.Core.Path.{_≡_, refl, sym, ap, _∙_}
 use mathlib.Core.Bool.{Bool, true, false}
-use mathlib.Core.List.{List, [], _∷_, map}
-use Prim.Native.Nat.{ℕ, zero, suc, _+_, _*_, _-_, _≤_, _<_, min}
+use mathlib.Core.List.{List, [], _∷_}
+use Prim.Native.Nat.{ℕ, suc, _+_, _*_, _-_, _≤_, _<_, min}
 use native.Mathlib.Omega.{arith}
 use native.Mathlib.Nat.{zero-add}
 use lib.ListN.{length, take, set, length-set, length-take, length-map}
@@ -24,15 +24,16 @@ use Rattle.search_theory.specs.FrontierLaws.{seek-end, seek-stop, seek-read, se
 use Rattle.search_rows.specs.declared.Row.{Row}
 use Rattle.search_rows.specs.Rows.{rowOrder}
 use Rattle.search_rows.specs.Held.{rowsIn, Held, Stops}
-use Rattle.search.specs.Asked.{Asked, asking}
-use Rattle.search.specs.Branches.{Branch, before, isLeaf, branches, opened, kids, rootBranch, rowsAmong, rowsAt, pageIn}
-use Rattle.search.specs.Keys.{keyOf, boundIn, placeIn, levelIn, numberIn, branchIn, frontier}
-use Rattle.search.specs.Visit.{ranking, Answer, answerOf, room, visited}
-use Rattle.search.specs.Steps.{Tabled, OfferedAll, Opens, Opened, Visits, Visited}
+use Rattle.search_model.specs.Asked.{Asked, asking}
+use Rattle.search_model.specs.Branches.{Branch, before, isLeaf, branches, opened, kids, rootBranch, rowsAmong, rowsAt, pageIn}
+use Rattle.search_frontier.specs.Keys.{keyOf, boundIn, placeIn, levelIn, numberIn, branchIn, frontier}
+use Rattle.search_model.specs.Visit.{ranking, Answer, answerOf, room, visited}
+use Rattle.search_frontier.specs.Opening.{Tabled, Opens, Opened}
+use Rattle.search_leaves.specs.Offering.{OfferedAll}
+use Rattle.search.specs.Steps.{Visits, Visited}
 use Rattle.tree.proofs.CountLaws.{items-length}
-use Rattle.search.proofs.LeafLaws.{page-small}
-use Rattle.search.proofs.KeyLaws.{key-back}
-use Rattle.search.proofs.RoomLaws.{room-some}
+use Rattle.search_frontier.proofs.KeyLaws.{page-small, key-back}
+use Rattle.search_model.proofs.RoomLaws.{room-some}
 
 abbrev boundOf : Branch → ℕ
 boundOf x = x .bound

@@ -3,16 +3,13 @@
 // Best first (01, "A question"): a heap holds branches, pages of every level, by bound, position of the first leaf, level
 // from the highest on, and page. The first one is taken until its bound exceeds the k-th distance: an inner page gives its
 // entries to the heap, a leaf page is handed to the one function that reads leaf pages.
-ghost use Rattle.search.specs.Asked.{asks, asking};
-ghost use Rattle.search.specs.Steps.{Seeks, Looks, Searches, Searched};
+ghost use Rattle.search.specs.Steps.{asks, Seeks, Looks, Searches, Searched};
+ghost use Rattle.search_model.specs.Asked.{asking};
 use crate::visit::best_first;
 use crate::visit::reads_none;
 use geometry::bounds::prepare;
 use pagestore::total_records;
 
-mod columns;
-mod frontier;
-mod leaves;
 mod visit;
 
 // What is asked: the features, laid out in one list as `geometry::bounds::ask` does it, their number, and how many rows.

@@ -2,9 +2,9 @@
 use mathlib.Core.Path.{sym, _∙_}
 use native.Mathlib.Omega.{arith}
 use denote.Ref.{now}
-use Rattle.search.specs.Asked.{asking}
+use Rattle.search_model.specs.Asked.{asking}
 use Rattle.search.proofs.AnswerLaws.{answer-none, searched}
-use Rattle.search.proofs.RoomLaws.{room-large, room-middle, room-small}
+use Rattle.search_model.proofs.RoomLaws.{room-large, room-middle, room-small}
 use borrow.Author.Needs.{needs}
 use Rattle.search.proofs.search_for.Statement.{statement}
 use Rattle.search.proofs.search_for.Tie as tie

@@ -1,12 +1,10 @@
 -- `search_with` meets its contract: the visit's answer, and by the promises that of every sound index behind the bytes.
 use mathlib.Core.Path.{_∙_}
 use denote.Ref.{now}
-use lib.ListN.{length}
-use Rattle.search.specs.Asked.{asking}
+use Rattle.search_model.specs.Asked.{asking}
 use Rattle.search.proofs.AnswerLaws.{level-low, answer-some, searched}
-use Rattle.search.proofs.AskedLaws.{preparable}
+use Rattle.search_model.proofs.AskedLaws.{preparable}
 use borrow.Author.Needs.{needs}
-use Rattle.lists.specs.Lengths.{unmapped}
 use Rattle.search.proofs.search_with.Statement.{statement}
 use Rattle.search.proofs.search_with.Tie as tie
 

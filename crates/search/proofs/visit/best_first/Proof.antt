@@ -1,12 +1,11 @@
 -- `best_first`: the invariant is that the search from here on gives the whole visit's answer; the measure is the steps left.
-use Prim.Native.Nat.{_-_}
 use mathlib.Core.Path.{_∙_}
 use native.Mathlib.Omega.{arith}
 use denote.Ref.{now}
 use borrow.Author.Needs.{needs}
-use lib.ListN.{length, length-set}
+use lib.ListN.{length-set}
 use Rattle.pagestore.specs.Store.RangeLaws.{pages-few}
-use Rattle.search.proofs.RoomLaws.{room-some, room-most}
+use Rattle.search_model.proofs.RoomLaws.{room-some, room-most}
 use Rattle.search.proofs.TurnLaws.{Visiting, visiting-start, visiting-out, visiting-empty, visiting-stop, visiting-leaf, visiting-full, visiting-opens, visiting-open, stops-is}
 use Rattle.search.proofs.visit.best_first.Statement.{statement}
 use Rattle.search.proofs.visit.best_first.Tie as tie

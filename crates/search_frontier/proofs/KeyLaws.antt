@@ -1,0 +1,125 @@
+-- Keys are in the order of their branches.
+use mathlib.Core.Path.{_≡_, refl, sym, ap, _∙_}
+use mathlib.Core.Bool.{Bool, true, false}
+use mathlib.Core.List.{List, [], _∷_, map}
+use Prim.Native.Nat.{ℕ, _+_, _*_, _-_, _/_, _%_, _≤_, _<_}
+use native.Mathlib.Omega.{arith}
+use lib.Dec.{ltb}
+use borrow.Author.Tests.{lt-ltb, le-ltb}
+use Rattle.lists.specs.Tests.{three, by-cases}
+use Rattle.lists.specs.Sorting.{insertBy}
+use Rattle.lists.specs.Orders.{byHigher, lower, higher, by-lower, by-equal, by-higher, lex-first, lex-second, lex-last}
+use Rattle.search_model.specs.Branches.{Branch, tied, before}
+use Rattle.search_frontier.specs.Keys.{keyOf, boundIn, placeIn, levelIn, numberIn, branchIn}
+use Rattle.pagestore.specs.Store.{inRange}
+use Rattle.pagestore.specs.Store.RangeLaws.{range-fits}
+use Rattle.search_model.specs.Branches.{pageIn}
+
+-- ---- PAGES IN RANGE
+
+pub page-inside : (b : List ℕ) (p : ℕ) → inRange b p ≡ true → (p ≡ pageIn b p) × (p < 16384)
+unfolding pageIn
+page-inside b p h = (rw h, range-fits b p h)
+
+pub page-outside : (b : List ℕ) (p : ℕ) → inRange b p ≡ false → (0 ≡ pageIn b p) × (0 < 16384)
+unfolding pageIn
+page-outside b p h = (rw h, omega arith)
+
+pub page-small : (b : List ℕ) (p : ℕ) → pageIn b p < 16384
+unfolding pageIn
+page-small b p = by-cases (inRange b p) (λ e. rw e (range-fits b p e)) (λ e. rw e (omega arith))
+
+-- ---- KEYS
+
+-- the number of a branch in the frontier's heap
+module _ (x : Branch) (place : x .place < 8192) (level : x .level ≤ 4) (page : x .page < 16384) where
+  upper : keyOf x / 16384 ≡ (x .bound * 8192 + x .place) * 5 + (4 - x .level)
+  upper = omega arith
+
+  middle : keyOf x / 16384 / 5 ≡ x .bound * 8192 + x .place
+  middle = let u = upper in omega arith
+
+  pub key-level : keyOf x / 16384 % 5 ≡ 4 - x .level
+  key-level = let u = upper in omega arith
+
+  pub key-place : placeIn (keyOf x) ≡ x .place
+  key-place = let m = middle in omega arith
+
+  pub key-levels : levelIn (keyOf x) ≡ x .level
+  key-levels = let l = key-level in omega arith
+
+  pub key-back : branchIn (keyOf x) ≡ x
+  unfolding branchIn
+  key-back =
+      let b : boundIn (keyOf x) ≡ x .bound = let m = middle in omega arith in
+      let g : numberIn (keyOf x) ≡ x .page = omega arith in
+      let p = key-place in
+      let l = key-levels in
+      λ i. record { bound = b i; place = p i; level = l i; page = g i }
+
+abbrev boundOf : Branch → ℕ
+boundOf x = x .bound
+
+abbrev placeOf : Branch → ℕ
+placeOf x = x .place
+
+abbrev levelOf : Branch → ℕ
+levelOf x = x .level
+
+abbrev pageOf : Branch → ℕ
+pageOf x = x .page
+
+abbrev higherFirst : Branch → Branch → Bool
+higherFirst = byHigher levelOf (lower pageOf)
+
+-- a number from its digits
+abbrev parts : ℕ → ℕ → ℕ → ℕ → ℕ
+parts b p l g = ((b * 8192 + p) * 5 + l) * 16384 + g
+
+key-parts : (a : ℕ) → a ≡ parts (boundIn a) (placeIn a) (a / 16384 % 5) (numberIn a)
+key-parts a =
+    let u : a ≡ a / 16384 * 16384 + a % 16384 = omega arith in
+    let v : a / 16384 ≡ a / 16384 / 5 * 5 + a / 16384 % 5 = omega arith in
+    let w : a / 16384 / 5 ≡ a / 16384 / 5 / 8192 * 8192 + a / 16384 / 5 % 8192 = omega arith in
+    omega arith
+
+pub key-order : (a b : ℕ) → ltb a b ≡ before (branchIn a) (branchIn b)
+unfolding branchIn
+key-order a b =
+    let x = branchIn a in
+    let y = branchIn b in
+    let ea = key-parts a in
+    let eb = key-parts b in
+    let la : a / 16384 % 5 < 5 = omega arith in
+    let lb : b / 16384 % 5 < 5 = omega arith in
+    let pa : placeIn a < 8192 = omega arith in
+    let pb : placeIn b < 8192 = omega arith in
+    let na : numberIn a < 16384 = omega arith in
+    let nb : numberIn b < 16384 = omega arith in
+    three (boundIn a) (boundIn b)
+    (λ h. lt-ltb a b (omega arith) ∙ sym (by-lower boundOf tied x y h))
+    (λ h. three (placeIn a) (placeIn b)
+    (λ g. lt-ltb a b (omega arith) ∙ sym (by-equal boundOf tied x y h ∙ by-lower placeOf higherFirst x y g))
+    (λ g. three (a / 16384 % 5) (b / 16384 % 5)
+    (λ e. lt-ltb a b (omega arith) ∙ sym (by-equal boundOf tied x y h ∙ by-equal placeOf higherFirst x y g ∙ lex-first (higher levelOf) (lower pageOf) x y (lt-ltb (levelIn b) (levelIn a) (omega arith))))
+    (λ e. three (numberIn a) (numberIn b)
+    (λ f. lt-ltb a b (omega arith) ∙ sym (by-equal boundOf tied x y h ∙ by-equal placeOf higherFirst x y g
+    ∙ lex-second (higher levelOf) (lower pageOf) x y (le-ltb (levelIn b) (levelIn a) (omega arith)) (le-ltb (levelIn a) (levelIn b) (omega arith)) ∙ lt-ltb (numberIn a) (numberIn b) f))
+    (λ f. le-ltb a b (omega arith) ∙ sym (by-equal boundOf tied x y h ∙ by-equal placeOf higherFirst x y g
+    ∙ lex-second (higher levelOf) (lower pageOf) x y (le-ltb (levelIn b) (levelIn a) (omega arith)) (le-ltb (levelIn a) (levelIn b) (omega arith)) ∙ le-ltb (numberIn a) (numberIn b) (omega arith)))
+    (λ f. le-ltb a b (omega arith) ∙ sym (by-equal boundOf tied x y h ∙ by-equal placeOf higherFirst x y g
+    ∙ lex-second (higher levelOf) (lower pageOf) x y (le-ltb (levelIn b) (levelIn a) (omega arith)) (le-ltb (levelIn a) (levelIn b) (omega arith)) ∙ le-ltb (numberIn a) (numberIn b) (omega arith))))
+    (λ e. le-ltb a b (omega arith) ∙ sym (by-equal boundOf tied x y h ∙ by-equal placeOf higherFirst x y g
+    ∙ lex-last (higher levelOf) (lower pageOf) x y (le-ltb (levelIn b) (levelIn a) (omega arith)) (lt-ltb (levelIn a) (levelIn b) (omega arith)))))
+    (λ g. le-ltb a b (omega arith) ∙ sym (by-equal boundOf tied x y h ∙ by-higher placeOf higherFirst x y g)))
+    (λ h. le-ltb a b (omega arith) ∙ sym (by-higher boundOf tied x y h))
+
+-- a key put in is its branch put in
+pub branches-ins : (x : ℕ) (s : List ℕ) → map branchIn (insertBy ltb x s) ≡ insertBy before (branchIn x) (map branchIn s)
+unfolding insertBy
+branches-ins x [] = refl
+branches-ins x (y ∷ ys) =
+    let e = key-order y x in
+    by-cases (ltb y x)
+    (λ t. let u : before (branchIn y) (branchIn x) ≡ true = sym e ∙ t in rw (t, u) (ap (λ (l : List Branch). branchIn y ∷ l) (branches-ins x ys)))
+    (λ t. let u : before (branchIn y) (branchIn x) ≡ false = sym e ∙ t in rw (t, u))

@@ -1,0 +1,131 @@
+// The frontier: keys of branches in a heap.
+ghost use mathlib.Core.Path.{_≡_};
+ghost use Prim.Native.Nat.{_≤_, _<_, min};
+ghost use Rattle.search_model.specs.Branches.{lastPlace, pageIn};
+ghost use Rattle.search_frontier.specs.Keys.{boundIn, placeIn, levelIn, numberIn, keyOf, Fits};
+ghost use Rattle.search_frontier.specs.Opening.{Tabled, SpanBound, EntryKey, Opens, OpenedAny};
+use geometry::Key;
+use geometry::Pair;
+use geometry::bounds::bound;
+use pagestore::Entry;
+use pagestore::count_at;
+use pagestore::entry_at;
+use pagestore::in_range;
+use search_heap::push;
+use search_leaves::filled;
+use tree::leaf_count;
+
+// The branch of a key, field by field.
+pub fn bound_in(key: u64) -> u64
+    ensures { λ r. ⌜ r ≡ boundIn key ⌝ }
+{
+    key / 16384 / 5 / 8192
+}
+
+pub fn place_in(key: u64) -> u32
+    ensures { λ r. ⌜ r ≡ placeIn key ⌝ }
+{
+    (key / 16384 / 5 % 8192) as u32
+}
+
+pub fn level_in(key: u64) -> usize
+    ensures { λ r. ⌜ r ≡ levelIn key ⌝ }
+{
+    (4 - key / 16384 % 5) as usize
+}
+
+pub fn page_in(key: u64) -> u32
+    ensures { λ r. ⌜ r ≡ numberIn key ⌝ }
+{
+    (key % 16384) as u32
+}
+
+// The key of a branch.
+pub fn key_of(bound: u64, place: usize, level: usize, page: u32) -> u64
+    requires { ⌜ Fits (record { bound = bound; place = place; level = level; page = page }) ⌝ }
+    ensures { λ r. ⌜ r ≡ keyOf (record { bound = bound; place = place; level = level; page = page }) ⌝ }
+{
+    let upper = (bound * 8192 + place as u64) * 5 + (4 - level as u64);
+    upper * 16384 + page as u64
+}
+
+// A page of the index, or 0.
+pub fn page_of(index: &[u8], page: u32) -> u32
+    ensures { λ r. ⌜ (r ≡ pageIn (now (index .entry)) page) × (r < 16384) ⌝ }
+{
+    if in_range(index, page) { page } else { 0 }
+}
+
+// A position, or the greatest that a key holds.
+fn place_of(at: usize) -> usize
+    ensures { λ r. ⌜ (r ≡ min at lastPlace) × (r < 8192) ⌝ }
+{
+    if at < 8191 { at } else { 8191 }
+}
+
+// The pair of a key.
+fn pair_of(key: Key) -> Pair
+    ensures { λ r. ⌜ (r .pyramid .0 ≡ key .pyramid .0) × (r .height .0 ≡ key .height .0) ⌝ }
+{
+    let pyramid = key.pyramid;
+    let height = key.height;
+    Pair { pyramid, height }
+}
+
+// The bound of an entry's span.
+fn span_bound(asked: &[u16], near: &[u16], whole: &[u64], entry: Entry) -> u64
+    requires { ⌜ Tabled (now asked) (now near) (now whole) ⌝ }
+    ensures { λ r. ⌜ SpanBound (now (asked .entry)) entry r ⌝ }
+{
+    let first = pair_of(entry.first);
+    let last = pair_of(entry.last);
+    bound(asked, near, whole, first, last)
+}
+
+// The key of the branch of an entry, whose child has a level and whose first leaf a place.
+fn entry_key(
+    index: &[u8],
+    asked: &[u16],
+    near: &[u16],
+    whole: &[u64],
+    entry: Entry,
+    level: usize,
+    at: usize,
+) -> u64
+    requires { ⌜ Tabled (now asked) (now near) (now whole) × (level ≤ 4) ⌝ }
+    ensures { λ r. ⌜ EntryKey (now (index .entry)) (now (asked .entry)) level at entry r ⌝ }
+{
+    let bound = span_bound(asked, near, whole, entry);
+    let page = page_of(index, entry.child);
+    key_of(bound, place_of(at), level, page)
+}
+
+// Opens an inner page: puts the branches of its entries into the frontier of n branches. Their children have a level, and
+// their first leaf a place.
+pub fn open_page(
+    slots: &mut [u64],
+    n: usize,
+    index: &[u8],
+    asked: &[u16],
+    near: &[u16],
+    whole: &[u64],
+    level: usize,
+    place: usize,
+    page: u32,
+) -> usize
+    requires { ⌜ Opens (now slots) n (now index) (now asked) (now near) (now whole) level place page ⌝ }
+    ensures { λ r. ⌜ OpenedAny (now (slots .entry)) n (now (index .entry)) (now (asked .entry)) level place page r (now (slots .exit)) ⌝ }
+{
+    let count = filled(count_at(index, page) as usize);
+    let mut held = n;
+    let mut at = place;
+    let mut i = 0;
+    while i < count {
+        let entry = entry_at(index, page, i);
+        let key = entry_key(index, asked, near, whole, entry, level, at);
+        held = push(slots, held, key);
+        at += leaf_count(index, level, entry.child);
+        i += 1;
+    }
+    held
+}

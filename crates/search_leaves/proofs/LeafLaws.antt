@@ -1,0 +1,176 @@
+-- The steps of offering a leaf's records.
+use mathlib.Core.Path.{_≡_, refl, sym, ap, _∙_}
+use mathlib.Core.Bool.{true, false}
+use mathlib.Core.List.{List, [], _∷_, map}
+use lib.IntN.{ℤ}
+use Prim.Native.Nat.{ℕ, zero, suc, _+_, _*_, _-_, _≤_, _<_, min}
+use native.Mathlib.Omega.{arith}
+use native.Mathlib.Numerals.{add-one}
+use native.Mathlib.Nat.{le-refl, mul-le-mul}
+use lib.ListN.{length, take, drop, getD}
+use Rattle.lists.specs.Sorting.{filter, count}
+use Rattle.lists.specs.SortingLaws.{filter-first, filter-past}
+use Rattle.lists.specs.Sorting as sorting
+use Rattle.lists.specs.Tests.{by-cases}
+use Rattle.geometry.specs.Points.{distance}
+use Rattle.geometry.specs.Features.{plain}
+use Rattle.geometry.specs.Stored.{pointOf}
+use Rattle.geometry.proofs.SliceLaws.{plain-distance, plain-length}
+use Rattle.geometry.proofs.StoredLaws.{length-point, point-take}
+use Rattle.pagestore.specs.declared.Record.{Record}
+use Rattle.pagestore.specs.declared.Leaf.{Leaf}
+use Rattle.pagestore.specs.Layout.{leafOf}
+use Rattle.pagestore.specs.LayoutLaws.{noRecord, leaf-slots}
+use Rattle.pagestore.specs.Store.{inRange, leafAt, recordsIn}
+use Rattle.pagestore.specs.Store.PageLaws.{leaf-part, leaf-view, page-none}
+use Rattle.tree_model.specs.Trees.{pointIn}
+use Rattle.tree.proofs.CountLaws.{items-next, items-end}
+use Rattle.search_rows.specs.declared.Row.{Row}
+use Rattle.search_rows.specs.Rows.{rowOrder}
+use Rattle.search_rows.specs.Held.{rowsIn, behindAll, Held, Offered}
+use Rattle.search_rows.proofs.HeldLaws.{offered-behind}
+use Rattle.search_model.specs.Asked.{Asked, distanceTo, candidate, asking, askingPoint}
+use Rattle.search_model.specs.Branches.{rowOf, rowsAmong}
+use Rattle.search_leaves.specs.Columns.{recordIn, rowAt, mostCost, Sums, notPast, BehindPast}
+use Rattle.search_model.specs.Asked.{lowEnds, Seekable}
+use Rattle.search_leaves.specs.Offering.{OfferedAll, OfferedRecord}
+use Rattle.search_leaves.proofs.ColumnLaws.{sums-end, none-within}
+
+-- ---- OFFERING
+
+-- only as many coordinates count as the asked point has
+first-coords : (q p : List ℤ) → distance q (take (length q) p) ≡ distance q p
+unfolding distance
+first-coords [] p = refl
+first-coords (x ∷ q) [] = refl
+first-coords (x ∷ q) (y ∷ p) = rw (first-coords q p)
+
+-- the distance from a point, whose coordinates are as stored
+pub point-distance : (q : List ℕ) (k : ℕ) (x : Record) (D : ℕ) → D ≡ distance (pointOf q) (pointOf (x .coords)) → D ≡ distanceTo (askingPoint q k) x
+unfolding distanceTo
+point-distance q k x D e =
+    let n : length (plain (pointOf q)) ≡ length q = plain-length (pointOf q) ∙ length-point q in
+    e ∙ sym (plain-distance (pointOf q) (pointIn (length (plain (pointOf q))) x)
+    ∙ ap (λ (m : ℕ). distance (pointOf q) (pointIn m x)) n
+    ∙ ap (λ (p : List ℤ). distance (pointOf q) p) (point-take (length q) (x .coords)) ∙ ap (λ (m : ℕ). distance (pointOf q) (take m (pointOf (x .coords)))) (sym (length-point q))
+    ∙ first-coords (pointOf q) (pointOf (x .coords)))
+
+-- one record: its row where it is a candidate, and no row where it is not
+module _ (q : Asked) (position : ℕ) (x : Record) where
+  pub among-one : candidate q x ≡ true → rowsAmong q position (x ∷ []) ≡ rowOf q position x ∷ []
+  unfolding rowsAmong filter
+  among-one e = ap (map (rowOf q position)) (filter-first (candidate q) x [] e)
+
+  pub among-none : candidate q x ≡ false → rowsAmong q position (x ∷ []) ≡ []
+  unfolding rowsAmong filter
+  among-none e = ap (map (rowOf q position)) (filter-past (candidate q) x [] e)
+
+  among-more : (rs : List Record) (k : ℕ) (s : List Row)
+      → sorting.offerAll rowOrder k (rowsAmong q position (x ∷ rs)) s ≡ sorting.offerAll rowOrder k (rowsAmong q position rs) (sorting.offerAll rowOrder k (rowsAmong q position (x ∷ [])) s)
+  unfolding rowsAmong sorting.offerAll filter
+  among-more rs k s = by-cases (candidate q x) (λ e. rw e) (λ e. rw e)
+
+-- ---- ONE RECORD
+
+module _ (page : List ℕ) (i D position : ℕ) (distances tags : List ℕ) (n k : ℕ) where
+  abbrev here : Record
+  here = recordIn page i
+
+  row-is : (q : Asked) → D ≡ distanceTo q here → rowAt page i D position ≡ rowOf q position here
+  unfolding rowOf
+  row-is q e = λ j. record { distance = e j; id = here .id; position = position }
+
+  -- whether it is a candidate or not, a row behind all rows held changes nothing
+  pub record-behind : Held distances tags n k → behindAll distances n k D ≡ true → OfferedRecord page i D position distances tags n k n distances tags
+  unfolding sorting.offerAll
+  record-behind h b =
+      record {
+        held = h;
+        rows = λ q e.
+            by-cases (candidate q here)
+            (λ c. rw (among-one q position here c, ← row-is q e) (offered-behind distances tags n k (rowAt page i D position) h b .rows))
+            (λ c. rw (among-none q position here c));
+      }
+
+  pub record-passed : Held distances tags n k → ((q : Asked) → candidate q here ≡ false) → OfferedRecord page i D position distances tags n k n distances tags
+  unfolding sorting.offerAll
+  record-passed h c = record { held = h; rows = λ q e. rw (among-none q position here (c q)) }
+
+  pub record-taken : (r : ℕ) (distances' tags' : List ℕ) → ((q : Asked) → candidate q here ≡ true) → Offered distances tags n k (rowAt page i D position) r distances' tags'
+      → OfferedRecord page i D position distances tags n k r distances' tags'
+  unfolding sorting.offerAll
+  record-taken r distances' tags' c o = record { held = o .held; rows = λ q e. rw (among-one q position here (c q), ← row-is q e) (o .rows) }
+
+-- ---- A LEAF
+
+-- what offering the records from place i on to rows makes of them
+unfoldable pub offersFrom : Asked → ℕ → ℕ → List Record → ℕ → List Row → List Row
+unfolding rowsAmong
+offersFrom q position k rs i s = sorting.offerAll rowOrder k (rowsAmong q position (drop i rs)) s
+
+module _ (page : List ℕ) (q : Asked) (position k : ℕ) (leaf : Leaf) (is : leaf ≡ leafOf page) (n : ℕ) (number : n ≡ min (leaf .count) 16) where
+  pub record-slots : length (leaf .records) ≡ 16
+  record-slots = ap (λ (x : Leaf). length (x .records)) is ∙ leaf-slots page
+
+  pub offers-next : (i : ℕ) (d : Record) (s t : List Row) → i < n → t ≡ sorting.offerAll rowOrder k (rowsAmong q position (getD (leaf .records) i d ∷ [])) s
+      → offersFrom q position k (recordsIn leaf) (i + 1) t ≡ offersFrom q position k (recordsIn leaf) i s
+  unfolding offersFrom
+  offers-next i d s t h f =
+      rw (items-next (leaf .count) (leaf .records) record-slots i d (omega arith), f)
+      (sym (among-more q position (getD (leaf .records) i d) (drop (i + 1) (recordsIn leaf)) k s))
+
+  pub offers-end : (i : ℕ) (s : List Row) → n ≤ i → offersFrom q position k (recordsIn leaf) i s ≡ s
+  unfolding offersFrom sorting.offerAll filter
+  offers-end i s h = rw (items-end (leaf .count) (leaf .records) record-slots i (omega arith))
+
+  pub offers-all : (s : List Row) → offersFrom q position k (recordsIn leaf) 0 s ≡ sorting.offerAll rowOrder k (rowsAmong q position (recordsIn (leafOf page))) s
+  unfolding offersFrom
+  offers-all s = rw is
+
+  -- where no record changes the rows held, they stay as they are
+  pub offers-none : (s : List Row) → ((i : ℕ) → i < n → s ≡ sorting.offerAll rowOrder k (rowsAmong q position (getD (leaf .records) i noRecord ∷ [])) s) → (i : ℕ) → i ≤ n
+      → offersFrom q position k (recordsIn leaf) i s ≡ offersFrom q position k (recordsIn leaf) 0 s
+  offers-none s h zero l = refl
+  offers-none s h (suc i) l =
+      ap (λ (j : ℕ). offersFrom q position k (recordsIn leaf) j s) (sym (add-one i))
+      ∙ offers-next i noRecord s s (omega arith) (h i (omega arith)) ∙ offers-none s h i (omega arith)
+
+-- a leaf of which no distance is near enough leaves the rows as they are
+module _ (page q : List ℕ) (position k n full limit : ℕ) (distances tags sums : List ℕ) (held : Held distances tags n k) (s : Sums page q (length q) full sums)
+    (enough : min (leafOf page .count) 16 ≤ full) (past : BehindPast distances n k limit) (none : count (notPast limit) (take full sums) ≡ 0) where
+  far : (i : ℕ) → i < full → behindAll distances n k (getD sums i 0) ≡ true
+  far i h =
+      let few = s .sized .few in let m = s .sized .most in let w = s .slots in
+      let low = s .low i h in
+      let top : mostCost * length q ≤ mostCost * 16 = mul-le-mul (le-refl mostCost) m in
+      past (getD sums i 0) (omega arith) (none-within limit full sums none i h (omega arith))
+
+  unmoved : (i : ℕ) → i < full → rowsIn distances tags n ≡ sorting.offerAll rowOrder k (rowsAmong (askingPoint q k) position (recordIn page i ∷ [])) (rowsIn distances tags n)
+  unmoved i h =
+      record-behind page i (getD sums i 0) position distances tags n k held (far i h) .rows (askingPoint q k)
+      (point-distance q k (recordIn page i) (getD sums i 0) (sums-end page q full sums s i h))
+
+  pub none-offered : OfferedAll distances tags n k (rowsAmong (askingPoint q k) position (recordsIn (leafOf page))) n distances tags
+  none-offered =
+      let c = min (leafOf page .count) 16 in
+      record {
+        held = held;
+        rows = sym (offers-end page (askingPoint q k) position k (leafOf page) refl c refl c (rowsIn distances tags n) (le-refl c))
+            ∙ offers-none page (askingPoint q k) position k (leafOf page) refl c refl (rowsIn distances tags n) (λ i h. unmoved i (omega arith)) c (le-refl c)
+            ∙ offers-all page (askingPoint q k) position k (leafOf page) refl c refl (rowsIn distances tags n);
+      }
+
+-- ---- A PAGE OF THE INDEX
+
+-- the part of the index at a page holds its leaf, and the low ends of a question for a point are the point
+pub offered-part : (b : List ℕ) (p : ℕ) (asked : List ℕ) (position : ℕ) (distances tags : List ℕ) (n k r : ℕ) (distances' tags' : List ℕ) → inRange b p ≡ true → Seekable asked
+    → OfferedAll distances tags n k (rowsAmong (askingPoint (lowEnds asked) k) position (recordsIn (leafOf (take (p * 1024 + 1024 - p * 1024) (drop (p * 1024) b))))) r distances' tags'
+    → OfferedAll distances tags n k (rowsAmong (asking asked k) position (recordsIn (leafAt b p))) r distances' tags'
+offered-part b p asked position distances tags n k r distances' tags' e s h =
+    rw (s .is) (rw (leaf-part b p (p * 1024 + 1024 - p * 1024) (omega arith) e) at h)
+
+-- and out of range there are no records
+pub offered-outside : (b : List ℕ) (p : ℕ) (q : Asked) (position : ℕ) (distances tags : List ℕ) (n k : ℕ) → inRange b p ≡ false → Held distances tags n k
+    → OfferedAll distances tags n k (rowsAmong q position (recordsIn (leafAt b p))) n distances tags
+unfolding sorting.offerAll rowsAmong filter
+offered-outside b p q position distances tags n k e h = rw (leaf-view b p 0 [] (page-none b p e) .records) (record { held = h; rows = refl })

@@ -1,0 +1,39 @@
+-- What offering the records of a leaf does to the rows held.
+use mathlib.Core.Path.{_≡_}
+use mathlib.Core.Bool.{Bool}
+use mathlib.Core.List.{List, [], _∷_}
+use Prim.Native.Nat.{ℕ}
+use Rattle.lists.specs.Sorting as sorting
+use Rattle.pagestore.specs.Layout.{leafOf}
+use Rattle.pagestore.specs.Store.{leafAt, recordsIn}
+use Rattle.search_rows.specs.declared.Row.{Row}
+use Rattle.search_rows.specs.Rows.{rowOrder}
+use Rattle.search_rows.specs.Held.{rowsIn, Held}
+use Rattle.search_model.specs.Asked.{Asked, distanceTo, candidate, asking, askingPoint}
+use Rattle.search_model.specs.Branches.{rowsAmong}
+use Rattle.search_leaves.specs.Columns.{recordIn}
+
+-- the rows xs are offered to the n rows held, of which k are kept; r are held then
+pub record OfferedAll (distances tags : List ℕ) (n k : ℕ) (xs : List Row) (r : ℕ) (distances' tags' : List ℕ) : Type 0 where
+  pub held : Held distances' tags' r k
+  pub rows : rowsIn distances' tags' r ≡ sorting.offerAll rowOrder k xs (rowsIn distances tags n)
+
+-- those of the candidates in a leaf page, for a point
+abbrev pub OfferedPart : List ℕ → List ℕ → ℕ → List ℕ → List ℕ → ℕ → ℕ → ℕ → List ℕ → List ℕ → Type 0
+OfferedPart page q position distances tags n k r distances' tags' =
+    OfferedAll distances tags n k (rowsAmong (askingPoint q k) position (recordsIn (leafOf page))) r distances' tags'
+
+-- and in the leaf at a page of the index
+abbrev pub OfferedLeaf : List ℕ → ℕ → List ℕ → ℕ → List ℕ → List ℕ → ℕ → ℕ → ℕ → List ℕ → List ℕ → Type 0
+OfferedLeaf index page asked position distances tags n k r distances' tags' =
+    OfferedAll distances tags n k (rowsAmong (asking asked k) position (recordsIn (leafAt index page))) r distances' tags'
+
+-- r says whether the record in slot i of a leaf page is a candidate, whatever is asked
+abbrev pub Tells : List ℕ → ℕ → Bool → Type 0
+Tells page i r = (q : Asked) → r ≡ candidate q (recordIn page i)
+
+-- the record in slot i of a leaf page is offered, at that distance from whatever is asked
+pub record OfferedRecord (page : List ℕ) (i distance position : ℕ) (distances tags : List ℕ) (n k r : ℕ) (distances' tags' : List ℕ) : Type 0 where
+  pub held : Held distances' tags' r k
+  pub rows : (q : Asked) → distance ≡ distanceTo q (recordIn page i)
+      → rowsIn distances' tags' r ≡ sorting.offerAll rowOrder k (rowsAmong q position (recordIn page i ∷ [])) (rowsIn distances tags n)

@@ -1,0 +1,113 @@
+// The squared distances of a leaf's records together, coordinate by coordinate: a column of the page holds one coordinate of all its records, so that
+// each loop goes over neighbours.
+ghost use mathlib.Core.Path.{_≡_};
+ghost use Prim.Native.Nat.{_+_, _*_, _≤_, _<_};
+ghost use lib.IntN.{pos, natAbs, _-ℤ_};
+ghost use lib.ListN.{length, getD};
+ghost use Rattle.search_leaves.specs.Columns.{coordsAt, gapSquare, mostCost, Sums, Quarters};
+use pagestore::read_coord;
+
+// The gap of two stored coordinates, in 16 bits with its sign: so much a lane of the loops below holds.
+fn gap_of(x: u16, y: u16) -> i16
+    requires { ⌜ (x < 2048) × (y < 2048) ⌝ }
+    ensures { λ r. ⌜ r ≡ pos x -ℤ pos y ⌝ }
+{
+    let a = x as i16;
+    let b = y as i16;
+    a - b
+}
+
+fn squared(gap: i16) -> u32
+    requires { ⌜ natAbs gap ≤ 2047 ⌝ }
+    ensures { λ r. ⌜ r ≡ natAbs gap * natAbs gap ⌝ }
+{
+    let g = gap as i32;
+    (g * g) as u32
+}
+
+// The square of the gap of two stored coordinates.
+fn square_gap(x: u16, y: u16) -> u32
+    requires { ⌜ (x < 2048) × (y < 2048) ⌝ }
+    ensures { λ r. ⌜ (r ≡ gapSquare x y) × (r ≤ mostCost) ⌝ }
+{
+    squared(gap_of(x, y))
+}
+
+// What coordinate m of record r costs, where that of the asked point is x.
+fn cost_at(page: &[u8], m: usize, r: usize, x: u16) -> u32
+    requires { ⌜ (length (now page) ≡ 1024) × (m < 16) × (r < 16) × (x < 2048) ⌝ }
+    ensures { λ c. ⌜ (c ≡ gapSquare x (getD (coordsAt (now (page .entry)) r) m 0)) × (c ≤ mostCost) ⌝ }
+{
+    square_gap(x, read_coord(page, m, r))
+}
+
+// Adds what coordinate m costs to the sums of the first n records.
+fn add_column(page: &[u8], q: &[u16], m: usize, n: usize, sums: &mut [u32])
+    requires { ⌜ Sums (now page) (now q) m n (now sums) × (m < length (now q)) ⌝ }
+    ensures { λ _. ⌜ Sums (now (page .entry)) (now (q .entry)) (m + 1) n (now (sums .exit)) ⌝ }
+{
+    let x = q[m];
+    let mut r = 0;
+    while r < n {
+        sums[r] += cost_at(page, m, r, x);
+        r += 1;
+    }
+}
+
+// The same of four coordinates, `apart` from each other: so the first turns ask for every line of the page's memory.
+fn add_four(page: &[u8], q: &[u16], m: usize, apart: usize, n: usize, sums: &mut [u32])
+    requires { ⌜ Quarters (now page) (now q) apart m n (now sums) × (m < apart) ⌝ }
+    ensures { λ _. ⌜ Quarters (now (page .entry)) (now (q .entry)) apart (m + 1) n (now (sums .exit)) ⌝ }
+{
+    let second = m + apart;
+    let third = second + apart;
+    let fourth = third + apart;
+    let x = q[m];
+    let y = q[second];
+    let z = q[third];
+    let w = q[fourth];
+    let mut r = 0;
+    while r < n {
+        let a = cost_at(page, m, r, x);
+        let b = cost_at(page, second, r, y);
+        let c = cost_at(page, third, r, z);
+        let e = cost_at(page, fourth, r, w);
+        sums[r] += (a + b) + (c + e);
+        r += 1;
+    }
+}
+
+// The four quarters of the coordinates side by side: how many are added then.
+fn add_quarters(page: &[u8], q: &[u16], n: usize, sums: &mut [u32]) -> usize
+    requires { ⌜ Sums (now page) (now q) 0 n (now sums) ⌝ }
+    ensures { λ m. ⌜ Sums (now (page .entry)) (now (q .entry)) m n (now (sums .exit)) ⌝ }
+{
+    let apart = q.len() / 4;
+    let mut m = 0;
+    while m < apart {
+        add_four(page, q, m, apart, n, sums);
+        m += 1;
+    }
+    4 * apart
+}
+
+// The coordinates that are left, one by one.
+fn add_rest(page: &[u8], q: &[u16], from: usize, n: usize, sums: &mut [u32])
+    requires { ⌜ Sums (now page) (now q) from n (now sums) ⌝ }
+    ensures { λ _. ⌜ Sums (now (page .entry)) (now (q .entry)) (length (now (q .entry))) n (now (sums .exit)) ⌝ }
+{
+    let mut m = from;
+    while m < q.len() {
+        add_column(page, q, m, n, sums);
+        m += 1;
+    }
+}
+
+// The squared distances of the first n records of a leaf page from the asked point.
+pub fn add_columns(page: &[u8], q: &[u16], n: usize, sums: &mut [u32])
+    requires { ⌜ Sums (now page) (now q) 0 n (now sums) ⌝ }
+    ensures { λ _. ⌜ Sums (now (page .entry)) (now (q .entry)) (length (now (q .entry))) n (now (sums .exit)) ⌝ }
+{
+    let m = add_quarters(page, q, n, sums);
+    add_rest(page, q, m, n, sums);
+}

@@ -1,0 +1,172 @@
+// Leaves: the one function that reads leaf pages.
+ghost use mathlib.Core.Path.{_≡_};
+ghost use Prim.Native.Nat.{_≤_, _<_, min};
+ghost use lib.ListN.{length, take};
+ghost use Rattle.lists.specs.Basics.{indicator};
+ghost use Rattle.lists.specs.Sorting.{count};
+ghost use Rattle.search_rows.specs.Held.{Held};
+ghost use Rattle.search_leaves.specs.Columns.{notPast, BehindPast};
+ghost use Rattle.search_model.specs.Asked.{AskedPoint, Seekable};
+ghost use Rattle.search_leaves.specs.Offering.{Tells, OfferedRecord, OfferedPart, OfferedLeaf};
+use crate::columns::add_columns;
+use pagestore::in_range;
+use pagestore::lanes;
+use pagestore::read_count;
+use pagestore::read_ident;
+use search_rows::Row;
+use search_rows::behind;
+use search_rows::offer;
+
+mod columns;
+
+// How many items a page with this count has: there are 16 slots.
+pub fn filled(count: usize) -> usize
+    ensures { λ r. ⌜ r ≡ min count 16 ⌝ }
+{
+    if count < 16 { count } else { 16 }
+}
+
+fn wide(x: u32) -> u64
+    ensures { λ r. ⌜ r ≡ x ⌝ }
+{
+    x as u64
+}
+
+// A distance beyond which, up to 32 bits, a row is behind all k rows; with fewer than k rows there is none.
+fn limit_of(distances: &[u64], n: usize, k: usize) -> u32
+    requires { ⌜ k ≤ length (now distances) ⌝ }
+    ensures { λ r. ⌜ BehindPast (now (distances .entry)) n k r ⌝ }
+{
+    if n < k {
+        return 4294967295;
+    }
+    if k == 0 {
+        return 4294967295;
+    }
+    let last = distances[k - 1];
+    if last < 4294967295 {
+        last as u32
+    } else {
+        4294967295
+    }
+}
+
+fn not_past(limit: u32, x: u32) -> u32
+    ensures { λ r. ⌜ (r ≡ indicator (notPast limit x)) × (r ≤ 1) ⌝ }
+{
+    if limit < x { 0 } else { 1 }
+}
+
+// How many of the first n sums are not beyond the limit.
+fn within(sums: &[u32], n: usize, limit: u32) -> u32
+    requires { ⌜ (n ≤ length (now sums)) × (n ≤ 16) ⌝ }
+    ensures { λ r. ⌜ r ≡ count (notPast limit) (take n (now (sums .entry))) ⌝ }
+{
+    let mut near = 0;
+    let mut r = 0;
+    while r < n {
+        near += not_past(limit, sums[r]);
+        r += 1;
+    }
+    near
+}
+
+// Whether the record in slot i of a leaf page is a candidate of what is asked: each one is.
+fn is_candidate(page: &[u8], i: usize) -> bool
+    ensures { λ r. ⌜ Tells (now (page .entry)) i r ⌝ }
+{
+    true
+}
+
+// Offers the record in slot i of a leaf page, whose squared distance is told, if it is a candidate. Its identifier is read only
+// where a row is taken.
+fn offer_record(
+    page: &[u8],
+    i: usize,
+    distance: u64,
+    position: u32,
+    distances: &mut [u64],
+    tags: &mut [u64],
+    n: usize,
+    k: usize,
+) -> usize
+    requires { ⌜ (length (now page) ≡ 1024) × (i < 16) × Held (now distances) (now tags) n k ⌝ }
+    ensures { λ r. ⌜ OfferedRecord (now (page .entry)) i distance position (now (distances .entry)) (now (tags .entry)) n k r (now (distances .exit)) (now (tags .exit)) ⌝ }
+{
+    if behind(distances, n, k, distance) {
+        return n;
+    }
+    if !is_candidate(page, i) {
+        return n;
+    }
+    let row = Row {
+        distance: distance,
+        id: read_ident(page, i),
+        position: position,
+    };
+    offer(distances, tags, n, k, row)
+}
+
+// Offers the records of a leaf page, handed over as a part of the index, to the n rows held. No function of the search reads a
+// leaf page but this one and those to which it hands the part on. The distances come first, all together; where none is near
+// enough, no record is looked at.
+fn offer_leaf(
+    page: &[u8],
+    q: &[u16],
+    position: u32,
+    distances: &mut [u64],
+    tags: &mut [u64],
+    n: usize,
+    k: usize,
+) -> usize
+    requires { ⌜ (length (now page) ≡ 1024) × AskedPoint (now q) × Held (now distances) (now tags) n k ⌝ }
+    ensures { λ r. ⌜ OfferedPart (now (page .entry)) (now (q .entry)) position (now (distances .entry)) (now (tags .entry)) n k r (now (distances .exit)) (now (tags .exit)) ⌝ }
+{
+    let count = filled(read_count(page));
+    let full = lanes(count);
+    let mut sums = [0u32; 16];
+    add_columns(page, q, full, &mut sums);
+    if within(&sums, full, limit_of(distances, n, k)) == 0 {
+        return n;
+    }
+    let mut rows = n;
+    let mut i = 0;
+    while i < count {
+        let distance = wide(sums[i]);
+        rows = offer_record(page, i, distance, position, distances, tags, rows, k);
+        i += 1;
+    }
+    rows
+}
+
+// Reads the leaf at a page and offers its records; a number that is no page's has none.
+pub fn visit_leaf(
+    index: &[u8],
+    page: u32,
+    asked: &[u16],
+    position: u32,
+    distances: &mut [u64],
+    tags: &mut [u64],
+    n: usize,
+    k: usize,
+) -> usize
+    requires { ⌜ Seekable (now asked) × Held (now distances) (now tags) n k ⌝ }
+    ensures { λ r. ⌜ OfferedLeaf (now (index .entry)) page (now (asked .entry)) position (now (distances .entry)) (now (tags .entry)) n k r (now (distances .exit)) (now (tags .exit)) ⌝ }
+{
+    if in_range(index, page) {
+        let at = page as usize * 1024;
+        let end = at + 1024;
+        let d = asked.len() - 48;
+        offer_leaf(
+            &index[at..end],
+            &asked[..d],
+            position,
+            distances,
+            tags,
+            n,
+            k,
+        )
+    } else {
+        n
+    }
+}

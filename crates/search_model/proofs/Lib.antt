@@ -1,0 +1,12 @@
+pub mod AskedLaws
+pub mod RecordLaws
+pub mod FrameLaws
+pub mod DescentLaws
+pub mod RoomLaws
+pub mod SoundLaws
+pub mod SetLaws
+pub mod VisitedLaws
+pub mod ExactLaws
+pub mod UnreadLaws
+pub mod ExchangeLaws
+pub mod ExampleLaws

@@ -1,0 +1,68 @@
+-- What is asked, as one value, and what it means: how far a record is, whether it is looked for at all, and the bound of a span; the order of rows is
+-- `rowOrder`, of the crate search_rows. Every statement about a question goes over this value.
+use mathlib.Core.Path.{_≡_}
+use mathlib.Core.Bool.{Bool, true}
+use mathlib.Core.List.{List}
+use Prim.Native.Nat.{ℕ, _≤_}
+use lib.ListN.{length, take}
+use Rattle.lists.specs.Basics.{All}
+use lib.IntN.{ℤ}
+use Rattle.geometry.specs.declared.Key.{Key}
+use Rattle.geometry.specs.Features.{Feature, distTo, plain, Ordered}
+use Rattle.geometry.specs.Slices.{boundOf}
+use Rattle.geometry.specs.Questions.{sizeOf, askedOf, Packed}
+use Rattle.geometry.specs.Stored.{pointOf}
+use Rattle.pagestore.specs.declared.Record.{Record}
+use Rattle.tree_model.specs.Trees.{pointIn}
+
+-- the features asked for, one for each coordinate, and how many rows
+pub record Asked : Type 0 where
+  pub features : List Feature
+  pub k : ℕ
+
+-- the squared distance of a record from what is asked
+unfoldable pub distanceTo : Asked → Record → ℕ
+distanceTo q r = distTo (q .features) (pointIn (length (q .features)) r)
+
+-- a point without weights, and how many rows
+abbrev pub plainly : List ℤ → ℕ → Asked
+plainly p k = record { features = plain p; k = k }
+
+-- whether a record is looked for: each one is
+unfoldable pub candidate : Asked → Record → Bool
+candidate q r = true
+
+-- the bound (01) of the span from a first to a last key
+unfoldable pub spanBound : Asked → Key → Key → ℕ
+spanBound q f l = boundOf (q .features) (f .pyramid .0) (f .height .0) (l .pyramid .0) (l .height .0)
+
+-- q can be asked of an index of d features
+pub record Askable (d : ℕ) (q : Asked) : Type 0 where
+  pub same : length (q .features) ≡ d
+  pub ordered : Ordered (q .features)
+
+-- ---- AS THE CODE HOLDS IT
+
+-- a question as one list (`ask`), and how many rows
+abbrev pub asking : List ℕ → ℕ → Asked
+asking asked k = record { features = askedOf asked; k = k }
+
+-- a point whose coordinates are as stored, every gap of weight 1
+abbrev pub askingPoint : List ℕ → ℕ → Asked
+askingPoint p k = plainly (pointOf p) k
+
+-- a point that can be asked: 1 to 16 coordinates in range, as stored
+pub record AskedPoint (p : List ℕ) : Type 0 where
+  pub some : 1 ≤ length p
+  pub most : length p ≤ 16
+  pub ranges : All (λ c. c ≤ 2000) p
+
+-- the point of a question that is one list: its low ends
+abbrev pub lowEnds : List ℕ → List ℕ
+lowEnds asked = take (sizeOf asked) asked
+
+-- a question, as one list, that can be searched for: a point
+pub record Seekable (asked : List ℕ) : Type 0 where
+  pub packed : Packed asked
+  pub point : AskedPoint (lowEnds asked)
+  pub is : askedOf asked ≡ plain (pointOf (lowEnds asked))

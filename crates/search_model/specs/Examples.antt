@@ -1,0 +1,49 @@
+-- The examples of 01 that are marked P and speak of leaves, in the definitions' own terms.
+use mathlib.Core.Path.{_≡_}
+use mathlib.Core.List.{List, [], _∷_, map}
+use Prim.Native.Nat.{ℕ}
+use lib.IntN.{pos}
+use Rattle.lists.specs.Basics.{rangeFrom}
+use Rattle.geometry.specs.Stored.{slotsOf}
+use Rattle.pagestore.specs.declared.Record.{Record}
+use Rattle.pagestore.specs.Store.{View, viewOf}
+use Rattle.tree_model.specs.Trees.{leavesOf}
+use Rattle.tree_model.specs.Sound.{SoundIndex}
+use Rattle.search_model.specs.Asked.{Asked, plainly}
+use Rattle.search_model.specs.Visit.{found}
+
+-- identifier n at n
+unfoldable pub recordNo : ℕ → Record
+recordNo n = record { id = n; coords = slotsOf (pos n ∷ []) }
+
+-- d = 1, identifiers 1..17 at 1..17: leaves 1..9 and 10..17, on whatever pages
+pub record Seventeen (v : View) : Type 0 where
+  pub d : v .d ≡ 1
+  pub first : ℕ
+  pub second : ℕ
+  pub leaves : leavesOf v ≡ (first, map recordNo (rangeFrom 1 9)) ∷ (second, map recordNo (rangeFrom 10 8)) ∷ []
+
+-- asked from a point for k: the identifiers of the rows, in order, and the number of leaves read
+pub record Example : Type 0 where
+  pub point : ℕ
+  pub k : ℕ
+  pub rows : List ℕ
+  pub read : ℕ
+
+abbrev pub asked : Example → Asked
+asked e = plainly (pos (e .point) ∷ []) (e .k)
+
+-- what an example says of every sound index with these leaves
+abbrev pub Holds : Example → Type 0
+Holds e =
+    (b : List ℕ) → SoundIndex b → Seventeen (viewOf b)
+    → (map (λ x. x .id) (found b (asked e) .rows) ≡ e .rows) × (found b (asked e) .leaves ≡ e .read)
+
+abbrev pub examples : List Example
+examples =
+    record { point = 9; k = 1; rows = 9 ∷ []; read = 1 }
+    ∷ record { point = 9; k = 2; rows = 9 ∷ 8 ∷ []; read = 2 }
+    ∷ record { point = 1; k = 9; rows = rangeFrom 1 9; read = 1 }
+    ∷ record { point = 9; k = 18; rows = 9 ∷ 8 ∷ 10 ∷ 7 ∷ 11 ∷ 6 ∷ 12 ∷ 5 ∷ 13 ∷ 4 ∷ 14 ∷ 3 ∷ 15 ∷ 2 ∷ 16 ∷ 1 ∷ 17 ∷ []; read = 2 }
+    ∷ record { point = 1; k = 18; rows = rangeFrom 1 17; read = 2 }
+    ∷ []

@@ -1,0 +1,5 @@
+pub mod Asked
+pub mod Branches
+pub mod Visit
+pub mod Questions
+pub mod Examples
