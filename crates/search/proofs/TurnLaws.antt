@@ -1,13 +1,15 @@
 -- The turns of the visit.
 use mathlib.Core.Path.{_≡_, refl, sym, ap, _∙_}
 use mathlib.Core.Bool.{Bool, true, false}
-use mathlib.Core.List.{List, [], _∷_}
+use mathlib.Core.Logic.{_≢_}
+use mathlib.Core.List.{List, [], _∷_, map}
 use Prim.Native.Nat.{ℕ, suc, _+_, _*_, _-_, _≤_, _<_, min}
 use native.Mathlib.Omega.{arith}
 use native.Mathlib.Nat.{zero-add}
 use lib.ListN.{length, take, set, length-set, length-take, length-map}
-use lib.Dec.{ltb}
-use borrow.Author.Tests.{eq-eqb, ne-eqb}
+use lib.Dec.{ltb, leb}
+use borrow.Author.Tests.{eq-eqb, ne-eqb, leb-true, leb-false}
+use Rattle.lists.specs.Tests.{false-true}
 use Rattle.lists.specs.ConcatMapLaws.{all-every}
 use Rattle.lists.specs.Sorting.{filter, insertBy, sort, insertAll, offerAll}
 use Rattle.lists.specs.Sorting as sorting
@@ -18,6 +20,7 @@ use Rattle.pagestore.specs.Store.PageLaws.{inner-counts, entries-slots}
 use Rattle.pagestore.specs.Store.RangeLaws.{pages-few}
 use Rattle.tree.specs.Lookup.{leafCount}
 use Rattle.search_heap.specs.Heap.{Heap, held, Popped}
+use Rattle.search_heap.proofs.HeapLaws.{held-top}
 use Rattle.search_theory.specs.Nearest.{Outcome, exceeds, offered}
 use Rattle.search_theory.specs.Frontier.{seek}
 use Rattle.search_theory.specs.FrontierLaws.{seek-end, seek-stop, seek-read, seek-open, seek-full}
@@ -30,10 +33,10 @@ use Rattle.search_frontier.specs.Keys.{keyOf, boundIn, placeIn, levelIn, number
 use Rattle.search_model.specs.Visit.{ranking, Answer, answerOf, room, visited}
 use Rattle.search_frontier.specs.Opening.{Tabled, Opens, Opened}
 use Rattle.search_leaves.specs.Offering.{OfferedAll}
-use Rattle.search.specs.Steps.{Visits, Visited}
+use Rattle.search.specs.Steps.{Visits, Visited, Turns, firstKey, widened, Goes, Ends, spent, empty, far, full, GoesOn}
 use Rattle.tree.proofs.CountLaws.{items-length}
 use Rattle.search_frontier.proofs.KeyLaws.{page-small, key-back}
-use Rattle.search_model.proofs.RoomLaws.{room-some}
+use Rattle.search_model.proofs.RoomLaws.{room-some, room-most}
 
 abbrev boundOf : Branch → ℕ
 boundOf x = x .bound
@@ -94,6 +97,38 @@ visiting-start index asked near whole k slots distances tags key m v e g =
       answer = rw (o, b, g) (λ i. record { rows = visited index q .rows; leaves = zero-add (length (visited index q .read)) i });
     }
 
+-- ---- WHETHER THE VISIT GOES ON
+
+module _ (index slots : List ℕ) (n : ℕ) (distances : List ℕ) (rows k steps : ℕ) where
+  pub goes-spent : steps ≡ 0 → GoesOn index slots n distances rows k steps false
+  goes-spent z = record { goes = λ e. false-true e; ends = λ e. spent z }
+
+  pub goes-empty : n ≡ 0 → GoesOn index slots n distances rows k steps false
+  goes-empty z = record { goes = λ e. false-true e; ends = λ e. empty z }
+
+  module _ (more : steps ≢ 0) (some : n ≢ 0) (b : ℕ) (bound : b ≡ boundIn (firstKey slots)) (t : Bool) (test : Stops distances rows k b t) where
+    stops : (r : Bool) → t ≡ r → Stops distances rows k (boundIn (firstKey slots)) r
+    stops r e = rw (← bound, ← e) test
+
+    pub goes-far : t ≡ true → GoesOn index slots n distances rows k steps false
+    goes-far e = record { goes = λ f. false-true f; ends = λ f. far (omega (arith, more)) (omega (arith, some)) (stops true e) }
+
+    module _ (e : t ≡ false) (l : ℕ) (level : l ≡ levelIn (firstKey slots)) where
+      pub goes-leaf : l ≡ 0 → GoesOn index slots n distances rows k steps true
+      goes-leaf z =
+          record {
+            goes = λ f. record { left = omega (arith, more); some = omega (arith, some); near = stops false e; room = λ i. absurd (i (sym level ∙ z)) };
+            ends = λ f. false-true (sym f);
+          }
+
+      pub goes-inner : l ≢ 0 → (g m : ℕ) → g ≡ numberIn (firstKey slots) → m ≡ length (entriesIn (innerAt index g)) → GoesOn index slots n distances rows k steps (leb (m + (n - 1)) (length slots))
+      goes-inner i g m page entries =
+          let w : m + (n - 1) ≡ widened index slots n = rw (← page, ← entries) refl in
+          record {
+            goes = λ f. record { left = omega (arith, more); some = omega (arith, some); near = stops false e; room = λ _. rw (← w) (leb-true (m + (n - 1)) (length slots) f) };
+            ends = λ f. full (omega (arith, more)) (omega (arith, some)) (stops false e) (λ z. i (level ∙ z)) (rw (← w) (leb-false (m + (n - 1)) (length slots) f));
+          }
+
 -- ---- THE TURNS
 
 length-held : (n : ℕ) (slots : List ℕ) → Heap n slots → length (frontier n slots) ≡ n
@@ -111,125 +146,147 @@ ended index q distances tags rows leaves o e h a =
     let z : leaves + 0 ≡ leaves = omega arith in
     record { held = h; answer = (λ i. record { rows = rowsIn distances tags rows; leaves = sym z i }) ∙ sym (ap (after leaves) e) ∙ a }
 
-module _ (index asked near whole : List ℕ) (k : ℕ) (slots₀ distances₀ tags₀ slots distances tags : List ℕ) (n rows leaves steps : ℕ)
-    (v : Visiting index asked near whole k slots₀ distances₀ tags₀ slots distances tags n rows leaves steps) where
+module _ (index asked table whole : List ℕ) (k : ℕ) (slots₀ distances₀ tags₀ slots distances tags : List ℕ) (n rows leaves steps : ℕ)
+    (v : Visiting index asked table whole k slots₀ distances₀ tags₀ slots distances tags n rows leaves steps) where
   abbrev q : Asked
   q = asking asked k
 
   abbrev here : List Row
   here = rowsIn distances tags rows
 
-  -- the steps are used up, or no branch is left
-  pub visiting-out : steps ≤ 0 → Visited index q distances tags (record { rows = rows; leaves = leaves })
-  unfolding seek
-  visiting-out h =
-      let z : steps ≡ 0 = omega arith in
-      ended index q distances tags rows leaves (seekOn index q steps (frontier n slots) here) (rw z) (v .holds) (v .answer)
+  -- the frontier has a first branch
+  module _ (key : ℕ) (rest : List ℕ) (is : held n slots ≡ key ∷ rest) (more : 0 < steps) where
+    abbrev others : List Branch
+    others = map branchIn rest
 
-  pub visiting-empty : n ≡ 0 → Visited index q distances tags (record { rows = rows; leaves = leaves })
-  unfolding sort
-  visiting-empty z =
-      ended index q distances tags rows leaves (seekOn index q steps (frontier n slots) here)
-      (rw z (seek-end ranking boundOf (rowsAt index q) before isLeaf (kids index q) (q .k) (room index) steps here)) (v .holds) (v .answer)
-
-  -- the first branch is taken
-  module _ (key : ℕ) (slots' : List ℕ) (p : Popped n slots key slots') (more : 0 < steps) where
-    abbrev rest : List Branch
-    rest = frontier (n - 1) slots'
-
-    taken : after leaves (seekOn index q (suc (steps - 1)) (branchIn key ∷ rest) here) ≡ answerOf (visited index q)
+    taken : after leaves (seekOn index q (suc (steps - 1)) (branchIn key ∷ others) here) ≡ answerOf (visited index q)
     taken =
         let s : steps ≡ suc (steps - 1) = omega arith in
-        rw (← s) (rw (p .least) at (v .answer))
+        rw (← s) (rw is at (v .answer))
 
-    pub visiting-stop : exceeds ranking k (boundIn key) here ≡ true → Visited index q distances tags (record { rows = rows; leaves = leaves })
+    visiting-stop : exceeds ranking k (boundIn key) here ≡ true → Visited index q distances tags (record { rows = rows; leaves = leaves })
     unfolding branchIn
     visiting-stop x =
-        ended index q distances tags rows leaves (seekOn index q (suc (steps - 1)) (branchIn key ∷ rest) here)
-        (seek-stop ranking boundOf (rowsAt index q) before isLeaf (kids index q) (q .k) (room index) (steps - 1) (branchIn key) rest here x) (v .holds) taken
+        ended index q distances tags rows leaves (seekOn index q (suc (steps - 1)) (branchIn key ∷ others) here)
+        (seek-stop ranking boundOf (rowsAt index q) before isLeaf (kids index q) (q .k) (room index) (steps - 1) (branchIn key) others here x) (v .holds) taken
 
-    module _ (goes : exceeds ranking k (boundIn key) here ≡ false) (kept : length slots' ≡ length slots) where
-      -- a leaf is read
-      pub visiting-leaf : (distances' tags' : List ℕ) (level place page r : ℕ) → level ≡ levelIn key → place ≡ placeIn key → page ≡ numberIn key → level ≡ 0
-          → OfferedAll distances tags rows k (rowsAmong q place (recordsIn (leafAt index page))) r distances' tags'
-          → length distances' ≡ length distances → length tags' ≡ length tags
-          → Visiting index asked near whole k slots₀ distances₀ tags₀ slots' distances' tags' (n - 1) r (leaves + 1) (steps - 1)
-      unfolding branchIn
-      visiting-leaf distances' tags' l place page r sl sp sg z offers ld lt =
-          let x : Branch = branchIn key in
-          let o = rw (sp, sg) at offers in
-          let t : isLeaf x ≡ true = eq-eqb (levelIn key) 0 (sym sl ∙ z) in
-          let e = seek-read ranking boundOf (rowsAt index q) before isLeaf (kids index q) (q .k) (room index) (steps - 1) x rest here goes t in
-          let a : filter (λ y. true) (rowsAt index q x) ≡ rowsAt index q x = filter-all (λ y. true) (rowsAt index q x) (all-every (λ y. refl) (rowsAt index q x)) in
-          let w : offered ranking boundOf (rowsAt index q) (q .k) x here ≡ rowsIn distances' tags' r = ap (λ (ys : List Row). offerAll rowOrder k ys here) a ∙ sym (o .rows) in
-          let out = seekOn index q (steps - 1) rest (rowsIn distances' tags' r) in
-          let c : leaves + length (x ∷ out .read) ≡ leaves + 1 + length (out .read) = omega arith in
-          record {
-            tables = v .tables;
-            one = v .one;
-            size = kept ∙ v .size;
-            lengths = kept ∙ v .lengths;
-            lengthsD = ld ∙ v .lengthsD;
-            lengthsT = lt ∙ v .lengthsT;
-            heap = p .heap;
-            holds = o .held;
-            few = let f = v .few in omega arith;
-            answer = (λ i. record { rows = out .rows; leaves = sym c i }) ∙ sym (ap (after leaves) (rw w at e)) ∙ taken;
-          }
+    others-length : length others ≡ n - 1
+    others-length = let a = length-map rest branchIn in let b = ap length is in let c = length-held n slots (v .heap) in let e = length-map (held n slots) branchIn in omega arith
 
-      module _ (level place page : ℕ) (sl : level ≡ levelIn key) (sp : place ≡ placeIn key) (sg : page ≡ numberIn key) (inner : level ≡ 0 → ⊥) where
+    module _ (goes : exceeds ranking k (boundIn key) here ≡ false) where
+      module _ (inner : levelIn key ≢ 0) where
         abbrev entries : List Entry
-        entries = entriesIn (innerAt index page)
+        entries = entriesIn (innerAt index (numberIn key))
 
-        abbrev fresh : List Branch
-        fresh = branches index q (level - 1) place entries
-
-        level-is : levelIn key ≡ suc (level - 1)
-        level-is = let e = sl in omega (arith, inner)
-
-        kids-are : kids index q (branchIn key) ≡ fresh
+        kids-are : kids index q (branchIn key) ≡ branches index q (levelIn key - 1) (placeIn key) entries
         unfolding branchIn opened
-        kids-are = ap (λ (l : ℕ). opened index q l (placeIn key) (numberIn key)) level-is ∙ (λ i. branches index q (level - 1) (sym sp i) (entriesIn (innerAt index (sym sg i))))
+        kids-are =
+            let l : levelIn key ≡ suc (levelIn key - 1) = omega (arith, inner) in
+            ap (λ (l : ℕ). opened index q l (placeIn key) (numberIn key)) l
 
         not-leaf : isLeaf (branchIn key) ≡ false
         unfolding branchIn
-        not-leaf = ne-eqb (levelIn key) 0 (λ e. inner (sl ∙ e))
+        not-leaf = ne-eqb (levelIn key) 0 inner
 
-        kids-room : length (kids index q (branchIn key)) + length rest ≡ length entries + (n - 1)
-        kids-room = let a = ap length kids-are in let b = length-branches index q (level - 1) place entries in let c = length-held (n - 1) slots' (p .heap) in omega arith
+        kids-room : length (kids index q (branchIn key)) + length others ≡ length entries + (n - 1)
+        kids-room = let a = ap length kids-are in let b = length-branches index q (levelIn key - 1) (placeIn key) entries in let c = others-length in omega arith
 
         -- there is no room for the branches of an inner page
-        pub visiting-full : (m : ℕ) → m ≡ length entries → length slots' < m + (n - 1) → Visited index q distances tags (record { rows = rows; leaves = leaves })
+        visiting-full : length slots < length entries + (n - 1) → Visited index q distances tags (record { rows = rows; leaves = leaves })
         unfolding branchIn
-        visiting-full m e h =
-            ended index q distances tags rows leaves (seekOn index q (suc (steps - 1)) (branchIn key ∷ rest) here)
-            (seek-full ranking boundOf (rowsAt index q) before isLeaf (kids index q) (q .k) (room index) (steps - 1) (branchIn key) rest here goes not-leaf
+        visiting-full h =
+            ended index q distances tags rows leaves (seekOn index q (suc (steps - 1)) (branchIn key ∷ others) here)
+            (seek-full ranking boundOf (rowsAt index q) before isLeaf (kids index q) (q .k) (room index) (steps - 1) (branchIn key) others here goes not-leaf
             (let r = kids-room in let w = v .size in omega arith)) (v .holds) taken
 
-        -- an inner page can be opened
-        pub visiting-opens : (m : ℕ) → m ≡ length entries → m + (n - 1) ≤ length slots' → Opens slots' (n - 1) index asked near whole (level - 1) place page
-        visiting-opens m c h =
-            let f = sl in
-            record { tables = v .tables; low = omega arith; first = omega (arith, sp); heap = p .heap; room = omega arith }
+  stop-test : (r : Bool) → Stops distances rows k (boundIn (firstKey slots)) r → exceeds ranking k (boundIn (firstKey slots)) here ≡ r
+  stop-test r s = sym (s .value (λ x. true) tags (v .holds .roomTags))
 
-        -- an inner page has been opened
-        pub visiting-open : (slots'' : List ℕ) (r m : ℕ) → m ≡ length entries → m + (n - 1) ≤ length slots' → Opened slots' (n - 1) index q (level - 1) place page r slots'' → length slots'' ≡ length slots'
-            → Visiting index asked near whole k slots₀ distances₀ tags₀ slots'' distances tags r rows leaves (steps - 1)
-        unfolding branchIn
-        visiting-open slots'' r m c h o l =
-            let e = seek-open ranking boundOf (rowsAt index q) before isLeaf (kids index q) (q .k) (room index) (steps - 1) (branchIn key) rest here goes not-leaf (let r = kids-room in let w = v .size in omega arith) in
-            record {
-              tables = v .tables;
-              one = v .one;
-              size = l ∙ kept ∙ v .size;
-              lengths = l ∙ kept ∙ v .lengths;
-              lengthsD = v .lengthsD;
-              lengthsT = v .lengthsT;
-              heap = o .heap;
-              holds = v .holds;
-              few = let f = v .few in omega arith;
-              answer = ap (λ (f : List Branch). after leaves (seekOn index q (steps - 1) f here)) (o .branches ∙ ap (λ (ys : List Branch). insertAll before ys rest) (sym kids-are)) ∙ sym (ap (after leaves) e) ∙ taken;
-            }
+  pub visiting-ends : Ends index slots n distances rows k steps → Visited index q distances tags (record { rows = rows; leaves = leaves })
+  unfolding seek sort
+  visiting-ends (spent z) = ended index q distances tags rows leaves (seekOn index q steps (frontier n slots) here) (rw z) (v .holds) (v .answer)
+  visiting-ends (empty z) =
+      ended index q distances tags rows leaves (seekOn index q steps (frontier n slots) here)
+      (rw z (seek-end ranking boundOf (rowsAt index q) before isLeaf (kids index q) (q .k) (room index) steps here)) (v .holds) (v .answer)
+  visiting-ends (far more some s) = let t = held-top n slots (v .heap) some in visiting-stop (firstKey slots) (t .rest) (t .is) more (stop-test true s)
+  visiting-ends (full more some s inner h) = let t = held-top n slots (v .heap) some in visiting-full (firstKey slots) (t .rest) (t .is) more (stop-test false s) inner h
+
+  pub visiting-turns : Turns slots n distances rows k
+  visiting-turns =
+      record { fits = v .heap .fits; size = omega (arith, v .size, room-most index); one = v .one; few = v .holds .few; room = v .holds .room }
+
+  -- the first branch is taken
+  module _ (g : Goes index slots n distances rows k steps) (key : ℕ) (slots' : List ℕ) (p : Popped n slots key slots') (kept : length slots' ≡ length slots) where
+    near : exceeds ranking k (boundIn key) here ≡ false
+    near = rw (p .top) (stop-test false (g .near))
+
+    -- a leaf is read
+    pub visiting-leaf : (distances' tags' : List ℕ) (level place page r : ℕ) → level ≡ levelIn key → place ≡ placeIn key → page ≡ numberIn key → level ≡ 0
+        → OfferedAll distances tags rows k (rowsAmong q place (recordsIn (leafAt index page))) r distances' tags'
+        → length distances' ≡ length distances → length tags' ≡ length tags
+        → Visiting index asked table whole k slots₀ distances₀ tags₀ slots' distances' tags' (n - 1) r (leaves + 1) (steps - 1)
+    unfolding branchIn
+    visiting-leaf distances' tags' l place page r sl sp sg z offers ld lt =
+        let x : Branch = branchIn key in
+        let rest : List Branch = frontier (n - 1) slots' in
+        let o = rw (sp, sg) at offers in
+        let t : isLeaf x ≡ true = eq-eqb (levelIn key) 0 (sym sl ∙ z) in
+        let e = seek-read ranking boundOf (rowsAt index q) before isLeaf (kids index q) (q .k) (room index) (steps - 1) x rest here near t in
+        let a : filter (λ y. true) (rowsAt index q x) ≡ rowsAt index q x = filter-all (λ y. true) (rowsAt index q x) (all-every (λ y. refl) (rowsAt index q x)) in
+        let w : offered ranking boundOf (rowsAt index q) (q .k) x here ≡ rowsIn distances' tags' r = ap (λ (ys : List Row). offerAll rowOrder k ys here) a ∙ sym (o .rows) in
+        let out = seekOn index q (steps - 1) rest (rowsIn distances' tags' r) in
+        let c : leaves + length (x ∷ out .read) ≡ leaves + 1 + length (out .read) = omega arith in
+        record {
+          tables = v .tables;
+          one = v .one;
+          size = kept ∙ v .size;
+          lengths = kept ∙ v .lengths;
+          lengthsD = ld ∙ v .lengthsD;
+          lengthsT = lt ∙ v .lengthsT;
+          heap = p .heap;
+          holds = o .held;
+          few = let f = v .few in let m = g .left in omega arith;
+          answer = (λ i. record { rows = out .rows; leaves = sym c i }) ∙ sym (ap (after leaves) (rw w at e)) ∙ taken key (held (n - 1) slots') (p .least) (g .left);
+        }
+
+    module _ (level place page : ℕ) (sl : level ≡ levelIn key) (sp : place ≡ placeIn key) (sg : page ≡ numberIn key) (inner : level ≢ 0) where
+      inner-key : levelIn key ≢ 0
+      inner-key e = inner (sl ∙ e)
+
+      open-room : length (entriesIn (innerAt index page)) + (n - 1) ≤ length slots'
+      open-room = rw (sg, p .top, kept) (g .room (rw (p .top) at inner-key))
+
+      -- an inner page can be opened
+      pub visiting-opens : Opens slots' (n - 1) index asked table whole (level - 1) place page
+      visiting-opens =
+          let f = sl in
+          record { tables = v .tables; low = omega arith; first = omega (arith, sp); heap = p .heap; room = omega (arith, open-room) }
+
+      -- an inner page has been opened
+      pub visiting-open : (slots'' : List ℕ) (r : ℕ) → Opened slots' (n - 1) index q (level - 1) place page r slots'' → length slots'' ≡ length slots'
+          → Visiting index asked table whole k slots₀ distances₀ tags₀ slots'' distances tags r rows leaves (steps - 1)
+      unfolding branchIn
+      visiting-open slots'' r o l =
+          let rest : List Branch = frontier (n - 1) slots' in
+          let w : kids index q (branchIn key) ≡ branches index q (level - 1) place (entriesIn (innerAt index page)) =
+          kids-are key (held (n - 1) slots') (p .least) (g .left) near inner-key
+          ∙ (λ i. branches index q (sym sl i - 1) (sym sp i) (entriesIn (innerAt index (sym sg i)))) in
+          let fits : length (kids index q (branchIn key)) + length rest ≤ room index =
+          rw (← v .size, ← kept) (let a = kids-room key (held (n - 1) slots') (p .least) (g .left) near inner-key in let b = rw sg at open-room in omega arith) in
+          let e = seek-open ranking boundOf (rowsAt index q) before isLeaf (kids index q) (q .k) (room index) (steps - 1) (branchIn key) rest here near (not-leaf key (held (n - 1) slots') (p .least) (g .left) near inner-key) fits in
+          record {
+            tables = v .tables;
+            one = v .one;
+            size = l ∙ kept ∙ v .size;
+            lengths = l ∙ kept ∙ v .lengths;
+            lengthsD = v .lengthsD;
+            lengthsT = v .lengthsT;
+            heap = o .heap;
+            holds = v .holds;
+            few = let f = v .few in omega arith;
+            answer = ap (λ (f : List Branch). after leaves (seekOn index q (steps - 1) f here)) (o .branches ∙ ap (λ (ys : List Branch). insertAll before ys rest) (sym w)) ∙ sym (ap (after leaves) e)
+                ∙ taken key (held (n - 1) slots') (p .least) (g .left);
+          }
 
 -- ---- WHAT THE CALLS RETURN
 
@@ -237,6 +294,3 @@ pub root-is : (index : List ℕ) (l g p key : ℕ) → l ≡ fieldAt level index
 root-is index l g p key a b c e =
     let h : g ≡ pageIn index (fieldAt root index) = c ∙ ap (pageIn index) b in
     e ∙ (λ i. keyOf (record { bound = 0; place = 0; level = a i; page = h i }))
-
-pub stops-is : (distances tags : List ℕ) (rows k b key : ℕ) (r : Bool) → b ≡ boundIn key → k ≤ length tags → Stops distances rows k b r → exceeds ranking k (boundIn key) (rowsIn distances tags rows) ≡ r
-stops-is distances tags rows k b key r e h s = ap (λ (m : ℕ). exceeds ranking k m (rowsIn distances tags rows)) (sym e) ∙ sym (s .value (λ x. true) tags h)

@@ -1,17 +1,19 @@
 -- What the visit and the search do.
 use mathlib.Core.Path.{_≡_}
-use mathlib.Core.Bool.{false}
+use mathlib.Core.Logic.{_≢_}
+use mathlib.Core.Bool.{Bool, true, false}
 use mathlib.Core.List.{List}
-use Prim.Native.Nat.{ℕ, _+_, _≤_}
-use lib.ListN.{length, take}
+use Prim.Native.Nat.{ℕ, _+_, _-_, _≤_, _<_}
+use lib.ListN.{length, take, getD}
 use Rattle.lists.specs.Sorting.{count}
-use Rattle.pagestore.specs.Store.{viewOf, level, fieldAt}
+use Rattle.pagestore.specs.Store.{viewOf, level, innerAt, entriesIn, fieldAt}
 use Rattle.tree_model.specs.Trees.{leavesOf}
 use Rattle.tree_model.specs.Sound.{SoundIndex}
 use Rattle.search_theory.specs.Nearest.{nearest}
-use Rattle.search_rows.specs.Held.{rowsIn, Held}
+use Rattle.search_rows.specs.Held.{rowsIn, Held, Stops}
 use Rattle.search.specs.declared.Query.{Query}
 use Rattle.search.specs.declared.Seen.{Seen}
+use Rattle.search_frontier.specs.Keys.{boundIn, levelIn, numberIn}
 use Rattle.search_frontier.specs.Opening.{Tabled}
 use Rattle.search_model.specs.Asked.{Seekable, Asked, Askable, asking}
 use Rattle.search_model.specs.Visit.{ranking, Answer, answerOf, room, visited, readsNone, found}
@@ -25,6 +27,41 @@ pub record Visits (index asked near whole : List ℕ) (k : ℕ) (slots distances
   pub room : length slots ≡ room index
   pub rows : k ≤ length distances
   pub tags : k ≤ length marks
+
+-- a turn of the visit: n branches in the frontier, and rows, of which k are kept
+pub record Turns (slots : List ℕ) (n : ℕ) (distances : List ℕ) (rows k : ℕ) : Type 0 where
+  pub fits : n ≤ length slots
+  pub size : length slots ≤ 8192
+  pub one : 1 ≤ k
+  pub few : rows ≤ k
+  pub room : k ≤ length distances
+
+-- the key of the first branch
+abbrev pub firstKey : List ℕ → ℕ
+firstKey slots = getD slots 0 0
+
+-- how many branches it gives, with those behind it, if it is an inner page
+abbrev pub widened : List ℕ → List ℕ → ℕ → ℕ
+widened index slots n = length (entriesIn (innerAt index (numberIn (firstKey slots)))) + (n - 1)
+
+-- the first branch is taken
+pub record Goes (index slots : List ℕ) (n : ℕ) (distances : List ℕ) (rows k steps : ℕ) : Type 0 where
+  pub left : 0 < steps
+  pub some : 0 < n
+  pub near : Stops distances rows k (boundIn (firstKey slots)) false
+  pub room : levelIn (firstKey slots) ≢ 0 → widened index slots n ≤ length slots
+
+-- or the visit ends: no step is left, no branch, the bound of the first exceeds the k-th distance, or there is no room for what it gives
+pub data Ends (index slots : List ℕ) (n : ℕ) (distances : List ℕ) (rows k steps : ℕ) : Type 0 where
+  spent : steps ≡ 0 → Ends index slots n distances rows k steps
+  empty : n ≡ 0 → Ends index slots n distances rows k steps
+  far : 0 < steps → 0 < n → Stops distances rows k (boundIn (firstKey slots)) true → Ends index slots n distances rows k steps
+  full : 0 < steps → 0 < n → Stops distances rows k (boundIn (firstKey slots)) false → levelIn (firstKey slots) ≢ 0 → length slots < widened index slots n → Ends index slots n distances rows k steps
+
+-- r says which
+pub record GoesOn (index slots : List ℕ) (n : ℕ) (distances : List ℕ) (rows k steps : ℕ) (r : Bool) : Type 0 where
+  pub goes : r ≡ true → Goes index slots n distances rows k steps
+  pub ends : r ≡ false → Ends index slots n distances rows k steps
 
 -- what a search that reads something is lent: room for branches and rows
 pub record Seeks (index asked : List ℕ) (k : ℕ) (slots distances marks : List ℕ) : Type 0 where

@@ -6,7 +6,7 @@ ghost use Rattle.pagestore.specs.Store.{level, innerAt, entriesIn, fieldAt};
 ghost use Rattle.search_model.specs.Asked.{asking};
 ghost use Rattle.search_model.specs.Branches.{rootBranch};
 ghost use Rattle.search_frontier.specs.Keys.{keyOf};
-ghost use Rattle.search.specs.Steps.{Visits, Visited};
+ghost use Rattle.search.specs.Steps.{Visits, Visited, Turns, GoesOn};
 ghost use Rattle.search_model.specs.Visit.{readsNone};
 use crate::Seen;
 use pagestore::count_at;
@@ -53,6 +53,36 @@ fn entry_count(index: &[u8], page: u32) -> usize
     filled(count_at(index, page) as usize)
 }
 
+// Whether the visit goes on: steps are left, and the first of n branches has a bound that does not exceed the k-th distance. An
+// inner page is opened only if there is room for its branches.
+fn goes_on(
+    index: &[u8],
+    slots: &[u64],
+    n: usize,
+    distances: &[u64],
+    rows: usize,
+    k: usize,
+    steps: u32,
+) -> bool
+    requires { ⌜ Turns (now slots) n (now distances) rows k ⌝ }
+    ensures { λ r. ⌜ GoesOn (now (index .entry)) (now (slots .entry)) n (now (distances .entry)) rows k steps r ⌝ }
+{
+    if steps == 0 {
+        return false;
+    }
+    if n == 0 {
+        return false;
+    }
+    let first = slots[0];
+    if exceeds(distances, rows, k, bound_in(first)) {
+        return false;
+    }
+    if level_in(first) == 0 {
+        return true;
+    }
+    entry_count(index, page_in(first)) + (n - 1) <= slots.len()
+}
+
 // Takes branches from the root on, the first one first, until its bound exceeds the k-th distance.
 pub fn best_first(
     index: &[u8],
@@ -72,22 +102,10 @@ pub fn best_first(
     let mut rows = 0;
     let mut leaves = 0;
     let mut steps = 2 * page_count(index);
-    while 0 < steps {
+    while goes_on(index, slots, n, distances, rows, k, steps) {
         steps -= 1;
-        if n == 0 {
-            return Seen {
-                rows: rows,
-                leaves: leaves,
-            };
-        }
         let key = pop(slots, n);
         n -= 1;
-        if exceeds(distances, rows, k, bound_in(key)) {
-            return Seen {
-                rows: rows,
-                leaves: leaves,
-            };
-        }
         let level = level_in(key);
         let page = page_in(key);
         let place = place_in(key);
@@ -95,27 +113,8 @@ pub fn best_first(
             rows = visit_leaf(index, page, asked, place, distances, tags, rows, k);
             leaves += 1;
         } else {
-            if slots.len() < entry_count(index, page) + n {
-                return Seen {
-                    rows: rows,
-                    leaves: leaves,
-                };
-            }
-            n = open_page(
-                slots,
-                n,
-                index,
-                asked,
-                near,
-                whole,
-                level - 1,
-                place as usize,
-                page,
-            );
+            n = open_page(slots, n, index, asked, near, whole, level - 1, place, page);
         }
     }
-    Seen {
-        rows: rows,
-        leaves: leaves,
-    }
+    Seen { rows, leaves }
 }

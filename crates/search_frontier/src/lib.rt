@@ -110,7 +110,7 @@ pub fn open_page(
     near: &[u16],
     whole: &[u64],
     level: usize,
-    place: usize,
+    place: u32,
     page: u32,
 ) -> usize
     requires { ⌜ Opens (now slots) n (now index) (now asked) (now near) (now whole) level place page ⌝ }
@@ -118,7 +118,7 @@ pub fn open_page(
 {
     let count = filled(count_at(index, page) as usize);
     let mut held = n;
-    let mut at = place;
+    let mut at = place as usize;
     let mut i = 0;
     while i < count {
         let entry = entry_at(index, page, i);

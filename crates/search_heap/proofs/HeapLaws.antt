@@ -18,9 +18,6 @@ use Rattle.lists.specs.SortingLaws.{ltb-order, ins-first, all-sort, sort-snoc, 
 use Rattle.search_heap.specs.Heap.{Child, Heap, held, Pushed, Popped}
 use Rattle.search_heap.specs.Sifting.{Sinking, Rising, lowerOf, LeastIn, Sifted}
 
-pub heap-none : (a : List ℕ) → Heap 0 a
-heap-none a = record { fits = omega arith; ordered = λ p j k. absurd (let q = k .within in omega arith) }
-
 -- ---- the least of some places
 
 pub least-one : (from to i : ℕ) (a : List ℕ) → from ≤ i → i < to → to ≤ from + 1 → LeastIn from to a i
@@ -296,6 +293,7 @@ module _ (a : List ℕ) (n m : ℕ) (z : 0 < m) (more : n ≡ m + 1) (whole : He
       let e : n - 1 ≡ m = omega arith in
       record {
         heap = rw e (s .heap);
+        top = refl;
         least = rw (e, more) (held-pop ∙ ap (λ (t : List ℕ). getD a 0 0 ∷ t) (sym (s .same)));
         rest = rw e (s .rest);
       }
@@ -305,12 +303,25 @@ unfolding sort insertBy
 one [] h = absurd (let q = h .fits in omega arith)
 one (x ∷ a) h = record {
   heap = record { fits = omega arith; ordered = λ p j k. absurd (let q = k .within in omega arith) };
+  top = refl;
   least = refl;
   rest = refl;
 }
 
 pub pop-last : (a : List ℕ) (n : ℕ) → n ≡ 1 → Heap n a → Popped n a (getD a 0 0) a
 pop-last a n e h = rw e (one a (rw e at h))
+
+-- what is held begins with the top
+pub record Topped (n : ℕ) (a : List ℕ) : Type 0 where
+  pub rest : List ℕ
+  pub is : held n a ≡ getD a 0 0 ∷ rest
+
+pub held-top : (n : ℕ) (a : List ℕ) → Heap n a → 0 < n → Topped n a
+held-top n a h w =
+    decide n 1
+    (λ e. record { rest = held (n - 1) a; is = pop-last a n e h .least })
+    (λ e. let m : n ≡ n - 1 + 1 = omega arith in
+    record { rest = held (n - 1) (set a 0 (getD a (n - 1) 0)); is = ap (λ (i : ℕ). held i a) m ∙ held-pop a n (n - 1) (omega (arith, e)) m h })
 
 -- x is put down at h
 pub settled : (n h x : ℕ) (a a₀ : List ℕ) (h₀ : ℕ) → h < n → Heap n (set a h x) → held n (set a h x) ≡ held n (set a₀ h₀ x) → drop n a ≡ drop n a₀

@@ -30,5 +30,6 @@ pub record Pushed (n x : ℕ) (a : List ℕ) (r : ℕ) (b : List ℕ) : Type 0 w
 -- r, the least, is taken out of the heap of n in a
 pub record Popped (n : ℕ) (a : List ℕ) (r : ℕ) (b : List ℕ) : Type 0 where
   pub heap : Heap (n - 1) b
+  pub top : r ≡ getD a 0 0
   pub least : held n a ≡ r ∷ held (n - 1) b
   pub rest : drop (n - 1) b ≡ drop (n - 1) a
