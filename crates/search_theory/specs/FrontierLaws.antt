@@ -156,11 +156,6 @@ module _ {A E : Type 0} (r : Ranking A) (bound : E → ℕ) (rows : E → List A
   seek-end zero s = refl
   seek-end (suc n) s = refl
 
-  -- no step left
-  pub seek-spent : (f : List E) (s : List A) → seek r bound rows before isLeaf kids k room 0 f s ≡ record { rows = s; read = [] }
-  unfolding seek
-  seek-spent f s = refl
-
   pub seek-stop : (n : ℕ) (e : E) (f : List E) (s : List A) → exceeds r k (bound e) s ≡ true
       → seek r bound rows before isLeaf kids k room (suc n) (e ∷ f) s ≡ record { rows = s; read = [] }
   unfolding seek

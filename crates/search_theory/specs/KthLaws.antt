@@ -7,13 +7,13 @@ use native.Mathlib.Omega.{arith}
 use lib.ListN.{length, take, getD, length-take}
 use lib.Dec.{ltb, leb}
 use borrow.Author.Tests.{ltb-false, lt-ltb, le-ltb, le-leb, lt-leb, leb-true, leb-false}
-use Rattle.lists.specs.Basics.{indicator, All, none, also, all-map}
+use Rattle.lists.specs.Basics.{All, none, also, all-map}
 use Rattle.lists.specs.Tests.{false-true, by-cases}
 use Rattle.lists.specs.Sorting.{filter, count, Order, Sorted, end, next}
 use Rattle.lists.specs.SortingLaws.{sorted-sort, length-sort, count-sort, length-filter, all-sort, all-filter}
 use Rattle.lists.specs.Orders.{by}
 use Rattle.lists.specs.Choices.{indicator-le}
-use Rattle.search_theory.specs.Nearest.{Ranking, rowOrder, candidates, nearest, kth, atMost, exceeds, inSet}
+use Rattle.search_theory.specs.Nearest.{Ranking, rowOrder, candidates, nearest, kth, atMost, inSet}
 use Rattle.search_theory.specs.VisitLaws.{by-floor, below, below-far, below-more, exceeds-below, inSet-exceeds}
 
 module _ {A : Type 0} (f : A → ℕ) (tie : A → A → Bool) where

@@ -8,4 +8,3 @@ pub mod RangesLaws
 pub mod Promises
 pub mod Frontier
 pub mod FrontierLaws
-pub mod Examples

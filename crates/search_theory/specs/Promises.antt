@@ -1,23 +1,21 @@
--- What is promised of a best-first search, over any kind of row and leaf. The numbers are those of docs/TRACEABILITY.md.
+-- What is promised of a best-first search, over any kind of row and leaf.
 use mathlib.Core.Path.{_≡_, sym, ap, _∙_}
-use mathlib.Core.Bool.{Bool, true, false, _&&_, _||_}
+use mathlib.Core.Bool.{Bool, true, false}
 use mathlib.Core.List.{List, []}
-use Prim.Native.Nat.{ℕ, zero, suc, _≤_, _<_}
+use Prim.Native.Nat.{ℕ, zero, suc, _≤_}
 use native.Mathlib.Omega.{arith}
 use lib.ListN.{length, take}
 use lib.Seq.{take-take}
-use lib.Dec.{ltb, leb}
 use Rattle.lists.specs.Basics.{All, concatMap}
 use Rattle.lists.specs.Tests.{from-one}
-use Rattle.lists.specs.Sorting.{filter, count, sum, Order, sort, Sorted}
-use Rattle.lists.specs.SortingLaws.{length-filter, count-sort, all-sort, all-kept, sorted-sort}
-use Rattle.lists.specs.ConcatMapLaws.{count-filter}
+use Rattle.lists.specs.Sorting.{filter, count, sum, Order, sort}
+use Rattle.lists.specs.SortingLaws.{length-filter, count-sort, all-sort, all-kept}
 use Rattle.lists.specs.Orders.{by}
-use Rattle.search_theory.specs.Nearest.{Ranking, rowOrder, candidates, nearest, kth, atMost, inSet, Outcome, Floor, visit, bestFirst}
+use Rattle.search_theory.specs.Nearest.{Ranking, rowOrder, candidates, nearest, kth, inSet, Outcome, Floor, bestFirst}
 use Rattle.search_theory.specs.Marks.{readOn, Strict, unmarked}
 use Rattle.search_theory.specs.Ranges.{withinReach}
 use Rattle.search_theory.specs.VisitLaws.{visit-exact, visit-alike}
-use Rattle.search_theory.specs.KthLaws.{count-kth, kth-count, inSet-few, inSet-kth, inSet-larger, inSet-floor, kth-carried}
+use Rattle.search_theory.specs.KthLaws.{inSet-larger, inSet-floor, kth-carried}
 use Rattle.search_theory.specs.MarksLaws.{readOn-joins}
 use Rattle.search_theory.specs.RangesLaws.{reach-read, near-reached}
 
@@ -34,18 +32,18 @@ module _ {A L : Type 0} (r : Ranking A) (o : Order (rowOrder r)) (bound : L → 
     outcome-exact = from-one (λ n. bestFirst r bound rows n tie ls ≡ record { rows = nearest r n (concatMap rows ls); read = filter (setOf rows n) (sort (by bound tie) ls) })
         (λ j. visit-exact r o bound rows tie oL j ls floors) k one
 
-    -- (1) the rows are the k nearest
+    -- the rows are the k nearest
     pub rows-nearest : (bestFirst r bound rows k tie ls) .rows ≡ nearest r k (concatMap rows ls)
     rows-nearest = ap (λ (t : Outcome A L). t .rows) outcome-exact
 
-    -- (2) the leaves read are those of the set, each once; their number is that of the set
+    -- the leaves read are those of the set, each once; their number is that of the set
     pub leaves-exact : (bestFirst r bound rows k tie ls) .read ≡ filter (setOf rows k) (sort (by bound tie) ls)
     leaves-exact = ap (λ (t : Outcome A L). t .read) outcome-exact
 
     pub leaves-count : length ((bestFirst r bound rows k tie ls) .read) ≡ count (setOf rows k) ls
     leaves-count = ap length leaves-exact ∙ length-filter (setOf rows k) (sort (by bound tie) ls) ∙ count-sort (by bound tie) (setOf rows k) ls
 
-    -- (4) whatever the leaves out of the set hold: nothing is asked of rows' there
+    -- whatever the leaves out of the set hold: nothing is asked of rows' there
     pub unread-anything : (rows' : L → List A) → All (λ l. setOf rows k l ≡ true → rows' l ≡ rows l) ls
         → bestFirst r bound rows' k tie ls ≡ bestFirst r bound rows k tie ls
     unfolding bestFirst
@@ -53,40 +51,20 @@ module _ {A L : Type 0} (r : Ranking A) (o : Order (rowOrder r)) (bound : L → 
         visit-alike r bound rows rows' k (sort (by bound tie) ls) []
         (rw leaves-exact (all-kept (setOf rows k) (sort (by bound tie) ls) (all-sort (by bound tie) ls same)))
 
-    -- (3) exchange: other rows in the leaves out of the set, none below its leaf's bound, change neither the nearest nor the set
+    -- exchange: other rows in the leaves out of the set, none below its leaf's bound, change neither the nearest nor the set
     module _ (rows' : L → List A) (floors' : All (Floor r bound rows') ls) (same : All (λ l. setOf rows k l ≡ true → rows' l ≡ rows l) ls) where
       pub exchange-rows : nearest r k (concatMap rows' ls) ≡ nearest r k (concatMap rows ls)
       exchange-rows =
           sym (from-one (λ n. (bestFirst r bound rows' n tie ls) .rows ≡ nearest r n (concatMap rows' ls)) (λ j. ap (λ (t : Outcome A L). t .rows) (visit-exact r o bound rows' tie oL j ls floors')) k one)
           ∙ ap (λ (t : Outcome A L). t .rows) (unread-anything rows' same) ∙ rows-nearest
 
-      pub exchange-set : (l : L) → setOf rows' k l ≡ setOf rows k l
-      unfolding inSet
-      exchange-set l = ap (λ (t : List A). ltb (length t) k || leb (bound l) (kth r (length t) t)) exchange-rows
-
 -- xs: the rows of all records
 module _ {A : Type 0} (r : Ranking A) (o : Order (rowOrder r)) (xs : List A) where
-  -- the candidates are in row order, each as often as it is among xs and passes
-  pub candidates-order : Sorted (rowOrder r) (candidates r xs)
-  unfolding candidates
-  candidates-order = sorted-sort (rowOrder r) o (filter (r .passes) xs)
-
-  pub candidates-count : (p : A → Bool) → count p (candidates r xs) ≡ count (λ x. r .passes x && p x) xs
-  unfolding candidates
-  candidates-count p = count-sort (rowOrder r) p (filter (r .passes) xs) ∙ count-filter p (r .passes) xs
-
-  -- the set in the words of demand 3: all leaves when there are fewer than k candidates, else those whose bound is at most the last row's cost
-  pub set-few : (k b : ℕ) → length (candidates r xs) < k → inSet r k xs b ≡ true
-  set-few = inSet-few r o xs
-
-  pub set-last : (k b : ℕ) → k ≤ length (candidates r xs) → inSet r k xs b ≡ leb b (kth r k (nearest r k xs))
-  set-last = inSet-kth r o xs
-
   -- a leaf that holds all rows is in the set
   pub set-floor : (k b : ℕ) → 1 ≤ k → All (λ x. b ≤ r .cost x) xs → inSet r k xs b ≡ true
   set-floor k b one a = from-one (λ n. inSet r n xs b ≡ true) (λ j. inSet-floor r o xs j b a) k one
 
-  -- (5) rows for k open the rows for a larger number, and a leaf read for k is read for a larger number
+  -- rows for k open the rows for a larger number, and a leaf read for k is read for a larger number
   pub rows-open : (k n : ℕ) → k ≤ n → take k (nearest r n xs) ≡ nearest r k xs
   unfolding nearest
   rows-open k n h = take-take k n (candidates r xs) h
@@ -96,34 +74,26 @@ module _ {A : Type 0} (r : Ranking A) (o : Order (rowOrder r)) (xs : List A) whe
   read-larger (suc i) zero b one h e = absurd (omega arith)
   read-larger (suc i) (suc j) b one h e = inSet-larger r o xs i j b (omega arith) e
 
-  -- (6) the lists for the numbers ks, got by always marking the last row, join up to the list for their sum
+  -- the lists for the numbers ks, got by always marking the last row, join up to the list for their sum
   pub lists-join : (past : A → A → Bool) → ((a b : A) → past a b ≡ true → past b a ≡ false) → Strict past (candidates r xs)
       → (ks : List ℕ) → readOn past r unmarked ks xs ≡ nearest r (sum (λ k. k) ks) xs
   lists-join past asym strict ks = readOn-joins past asym r o xs strict ks
 
-  -- (7) the k-th cost is at most m just if k candidates cost at most m
-  pub kth-at-most : (k m : ℕ) → 1 ≤ k → k ≤ count (atMost (r .cost) m) (filter (r .passes) xs) → kth r k (nearest r k xs) ≤ m
-  kth-at-most k m one h = from-one (λ n. n ≤ count (atMost (r .cost) m) (filter (r .passes) xs) → kth r n (nearest r n xs) ≤ m) (λ j. count-kth r o xs j m) k one h
-
-  pub at-most-kth : (k m : ℕ) → 1 ≤ k → k ≤ length (candidates r xs) → kth r k (nearest r k xs) ≤ m → k ≤ count (atMost (r .cost) m) (filter (r .passes) xs)
-  at-most-kth k m one h g =
-      from-one (λ n. n ≤ length (candidates r xs) → kth r n (nearest r n xs) ≤ m → n ≤ count (atMost (r .cost) m) (filter (r .passes) xs)) (λ j. kth-count r o xs j m) k one h g
-
-  -- and so goes over to another cost: if what costs at most the k-th cost here costs at most m there, the k-th cost there is at most m
+  -- the k-th cost goes over to another cost: if what costs at most the k-th cost here costs at most m there, the k-th cost there is at most m
   pub kth-moves : (r' : Ranking A) → Order (rowOrder r') → r' .passes ≡ r .passes → (k m : ℕ) → 1 ≤ k → k ≤ length (candidates r xs)
       → All (λ x. r .cost x ≤ kth r k (nearest r k xs) → r' .cost x ≤ m) xs → kth r' k (nearest r' k xs) ≤ m
   kth-moves r' o' e k m one h a =
       from-one (λ n. n ≤ length (candidates r xs) → All (λ x. r .cost x ≤ kth r n (nearest r n xs) → r' .cost x ≤ m) xs → kth r' n (nearest r' n xs) ≤ m)
       (λ j g b. kth-carried r r' o o' xs j m e g b) k one h a
 
-  -- (8) a cost that is known from a least to a greatest value: whatever the cost c is, its k nearest are within reach
+  -- a cost that is known from a least to a greatest value: whatever the cost c is, its k nearest are within reach
   pub reach-complete : (least c : A → ℕ) → Order (by c (r .tie)) → All (λ x. (least x ≤ c x) × (c x ≤ r .cost x)) xs → (k : ℕ) → 1 ≤ k
       → All (λ x. inSet r k xs (least x) ≡ true) (nearest (record { cost = c; tie = r .tie; passes = r .passes }) k xs)
   reach-complete least c oc between k one =
       from-one (λ n. All (λ x. inSet r n xs (least x) ≡ true) (nearest (record { cost = c; tie = r .tie; passes = r .passes }) n xs))
       (near-reached r o least c oc xs between) k one
 
--- (8) and the leaves read hold all rows within reach
+-- and the leaves read hold all rows within reach
 pub reach-exact : {A L : Type 0} (r : Ranking A) (o : Order (rowOrder r)) (least : A → ℕ) (ol : Order (by least (r .tie)))
     (bound : L → ℕ) (rows : L → List A) (tie : L → L → Bool) (oL : Order (by bound tie)) (ls : List L)
     → All (λ l. All (λ x. (bound l ≤ least x) × (least x ≤ r .cost x)) (rows l)) ls → (k : ℕ) → 1 ≤ k

@@ -2,14 +2,14 @@
 use mathlib.Core.Path.{_≡_, refl, sym, ap, _∙_}
 use mathlib.Core.Bool.{Bool, true, false}
 use mathlib.Core.List.{List, [], _∷_, _++_}
-use Prim.Native.Nat.{ℕ, suc, _+_, _≤_, _<_}
+use Prim.Native.Nat.{ℕ, suc, _≤_, _<_}
 use native.Mathlib.Omega.{arith}
 use lib.ListN.{length}
 use lib.Dec.{ltb, leb}
 use borrow.Author.Tests.{ltb-true, ltb-false, le-leb, leb-true}
 use Rattle.lists.specs.Basics.{All, none, also, all-map, concatMap}
 use Rattle.lists.specs.Tests.{false-true, by-cases}
-use Rattle.lists.specs.Sorting.{filter, count, sum, Order, sort}
+use Rattle.lists.specs.Sorting.{filter, count, Order, sort}
 use Rattle.lists.specs.SortingLaws.{filter-append, filter-none, all-filter, all-sort, sort-canonical}
 use Rattle.lists.specs.Tabulated.{all-take}
 use Rattle.lists.specs.ConcatMapLaws.{all-both, count-concatMap, count-filter, sum-sort}

@@ -9,7 +9,7 @@ use lib.Dec.{ltb, leb, leb·suc-zero, leb·suc-suc}
 use borrow.Author.Tests.{ltb-true, ltb-false, lt-ltb, le-ltb, le-leb, lt-leb}
 use Rattle.lists.specs.Basics.{All, none, also, all-head, all-tail, all-map, concatMap}
 use Rattle.lists.specs.Tests.{false-true, by-cases}
-use Rattle.lists.specs.Sorting.{filter, count, sum, Order, insertBy, sort, insertAll, offerAll, Sorted, end, next}
+use Rattle.lists.specs.Sorting.{filter, Order, insertBy, sort, insertAll, Sorted, end, next}
 use Rattle.lists.specs.SortingLaws.{all-sort, all-filter, none-before, sorted-ins, sorted-insAll, sorted-sort, sort-insAll, sort-canonical, insAll-append, offerAll-take, filter-append, filter-first, filter-none}
 use Rattle.lists.specs.Orders.{by, by-lower}
 use Rattle.lists.specs.ConcatMapLaws.{all-concatMap, count-concatMap, count-filter, sum-sort}
@@ -224,16 +224,3 @@ module _ {A L : Type 0} (r : Ranking A) (bound : L → ℕ) (rows rows' : L → 
       by-cases (exceeds r k (bound l) s)
       (λ e. rw e (λ h. refl))
       (λ e. rw e (λ h. rw (all-head h) (ap (reading l) (visit-alike ls (offered r bound rows k l s) (all-tail h)))))
-
--- ---- leaves by another name: f l for l
-
-module _ {A L K : Type 0} (f : L → K) (r : Ranking A) (bound : L → ℕ) (rows : L → List A) (bound' : K → ℕ) (rows' : K → List A) (k : ℕ) where
-  pub visit-map : (ls : List L) (s : List A) → All (λ l. (bound' (f l) ≡ bound l) × (rows' (f l) ≡ rows l)) ls
-      → visit r bound' rows' k (map f ls) s ≡ record { rows = (visit r bound rows k ls s) .rows; read = map f ((visit r bound rows k ls s) .read) }
-  unfolding visit
-  visit-map [] s none = refl
-  visit-map (l ∷ ls) s (also h a) =
-      rw (h .0, h .1)
-      (by-cases (exceeds r k (bound l) s)
-      (λ e. rw e)
-      (λ e. rw e (ap (reading (f l)) (visit-map ls (offered r bound rows k l s) a))))
