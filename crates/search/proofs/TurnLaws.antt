@@ -26,9 +26,10 @@ use Rattle.search_theory.specs.Frontier.{seek}
 use Rattle.search_theory.specs.FrontierLaws.{seek-end, seek-stop, seek-read, seek-open, seek-full}
 use Rattle.search_rows.specs.declared.Row.{Row}
 use Rattle.search_rows.specs.Rows.{rowOrder}
-use Rattle.search_rows.specs.Held.{rowsIn, Held, Stops}
+use Rattle.search_rows.specs.Held.{rowsIn, behindAll, Held}
+use Rattle.search_rows.proofs.HeldLaws.{behind-exceeds}
 use Rattle.search_model.specs.Asked.{Asked, asking}
-use Rattle.search_model.specs.Branches.{Branch, before, isLeaf, branches, opened, kids, rootBranch, rowsAmong, rowsAt, pageIn}
+use Rattle.search_model.specs.Branches.{Branch, boundOf, before, isLeaf, branches, opened, kids, rootBranch, rowsAmong, rowsAt, pageIn}
 use Rattle.search_frontier.specs.Keys.{keyOf, boundIn, placeIn, levelIn, numberIn, branchIn, frontier}
 use Rattle.search_model.specs.Visit.{ranking, Answer, answerOf, room, visited}
 use Rattle.search_frontier.specs.Opening.{Tabled, Opens, Opened}
@@ -37,9 +38,6 @@ use Rattle.search.specs.Steps.{Visits, Visited, Turns, firstKey, widened
 use Rattle.tree.proofs.CountLaws.{items-length}
 use Rattle.search_frontier.proofs.KeyLaws.{page-small, key-back}
 use Rattle.search_model.proofs.RoomLaws.{room-some, room-most}
-
-abbrev boundOf : Branch → ℕ
-boundOf x = x .bound
 
 -- the search from a frontier and rows on, n steps at most
 abbrev seekOn : List ℕ → Asked → ℕ → List Branch → List Row → Outcome Row Branch
@@ -106,9 +104,9 @@ module _ (index slots : List ℕ) (n : ℕ) (distances : List ℕ) (rows k steps
   pub goes-empty : n ≡ 0 → GoesOn index slots n distances rows k steps false
   goes-empty z = record { goes = λ e. false-true e; ends = λ e. empty z }
 
-  module _ (more : steps ≢ 0) (some : n ≢ 0) (b : ℕ) (bound : b ≡ boundIn (firstKey slots)) (t : Bool) (test : Stops distances rows k b t) where
-    stops : (r : Bool) → t ≡ r → Stops distances rows k (boundIn (firstKey slots)) r
-    stops r e = rw (← bound, ← e) test
+  module _ (more : steps ≢ 0) (some : n ≢ 0) (b : ℕ) (bound : b ≡ boundIn (firstKey slots)) (t : Bool) (test : t ≡ behindAll distances rows k b) where
+    stops : (r : Bool) → t ≡ r → behindAll distances rows k (boundIn (firstKey slots)) ≡ r
+    stops r e = rw (← bound) (sym test ∙ e)
 
     pub goes-far : t ≡ true → GoesOn index slots n distances rows k steps false
     goes-far e = record { goes = λ f. false-true f; ends = λ f. far (omega (arith, more)) (omega (arith, some)) (stops true e) }
@@ -199,8 +197,8 @@ module _ (index asked table whole : List ℕ) (k : ℕ) (slots₀ distances₀ t
             (seek-full ranking boundOf (rowsAt index q) before isLeaf (kids index q) (q .k) (room index) (steps - 1) (branchIn key) others here goes not-leaf
             (let r = kids-room in let w = v .size in omega arith)) (v .holds) taken
 
-  stop-test : (r : Bool) → Stops distances rows k (boundIn (firstKey slots)) r → exceeds ranking k (boundIn (firstKey slots)) here ≡ r
-  stop-test r s = sym (s .value (λ x. true) tags (v .holds .roomTags))
+  stop-test : (r : Bool) → behindAll distances rows k (boundIn (firstKey slots)) ≡ r → exceeds ranking k (boundIn (firstKey slots)) here ≡ r
+  stop-test r e = sym (behind-exceeds (λ x. true) distances tags rows k (boundIn (firstKey slots)) (v .one) (v .holds .few) (v .holds .room) (v .holds .roomTags)) ∙ e
 
   pub visiting-ends : Ends index slots n distances rows k steps → Visited index q distances tags (record { rows = rows; leaves = leaves })
   unfolding seek sort

@@ -10,7 +10,7 @@ use Rattle.pagestore.specs.Store.{viewOf, level, innerAt, entriesIn, fieldAt}
 use Rattle.tree_model.specs.Trees.{leavesOf}
 use Rattle.tree_model.specs.Sound.{SoundIndex}
 use Rattle.search_theory.specs.Nearest.{nearest}
-use Rattle.search_rows.specs.Held.{rowsIn, Held, Stops}
+use Rattle.search_rows.specs.Held.{rowsIn, behindAll, Held}
 use Rattle.search.specs.declared.Query.{Query}
 use Rattle.search.specs.declared.Seen.{Seen}
 use Rattle.search_frontier.specs.Keys.{boundIn, levelIn, numberIn}
@@ -48,15 +48,15 @@ widened index slots n = length (entriesIn (innerAt index (numberIn (firstKey slo
 pub record Goes (index slots : List ℕ) (n : ℕ) (distances : List ℕ) (rows k steps : ℕ) : Type 0 where
   pub left : 0 < steps
   pub some : 0 < n
-  pub near : Stops distances rows k (boundIn (firstKey slots)) false
+  pub near : behindAll distances rows k (boundIn (firstKey slots)) ≡ false
   pub room : levelIn (firstKey slots) ≢ 0 → widened index slots n ≤ length slots
 
 -- or the visit ends: no step is left, no branch, the bound of the first exceeds the k-th distance, or there is no room for what it gives
 pub data Ends (index slots : List ℕ) (n : ℕ) (distances : List ℕ) (rows k steps : ℕ) : Type 0 where
   spent : steps ≡ 0 → Ends index slots n distances rows k steps
   empty : n ≡ 0 → Ends index slots n distances rows k steps
-  far : 0 < steps → 0 < n → Stops distances rows k (boundIn (firstKey slots)) true → Ends index slots n distances rows k steps
-  full : 0 < steps → 0 < n → Stops distances rows k (boundIn (firstKey slots)) false → levelIn (firstKey slots) ≢ 0 → length slots < widened index slots n → Ends index slots n distances rows k steps
+  far : 0 < steps → 0 < n → behindAll distances rows k (boundIn (firstKey slots)) ≡ true → Ends index slots n distances rows k steps
+  full : 0 < steps → 0 < n → behindAll distances rows k (boundIn (firstKey slots)) ≡ false → levelIn (firstKey slots) ≢ 0 → length slots < widened index slots n → Ends index slots n distances rows k steps
 
 -- r says which
 pub record GoesOn (index slots : List ℕ) (n : ℕ) (distances : List ℕ) (rows k steps : ℕ) (r : Bool) : Type 0 where

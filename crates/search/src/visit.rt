@@ -24,7 +24,7 @@ use search_frontier::place_in;
 use search_heap::pop;
 use search_leaves::filled;
 use search_leaves::visit_leaf;
-use search_rows::exceeds;
+use search_rows::behind;
 
 // Whether nothing is read: there are no records, or the root's level is that of no sound index.
 pub fn reads_none(index: &[u8]) -> bool
@@ -74,7 +74,7 @@ fn goes_on(
         return false;
     }
     let first = slots[0];
-    if exceeds(distances, rows, k, bound_in(first)) {
+    if behind(distances, rows, k, bound_in(first)) {
         return false;
     }
     if level_in(first) == 0 {

@@ -1,6 +1,6 @@
 -- Keys are in the order of their branches.
 use mathlib.Core.Path.{_≡_, refl, sym, ap, _∙_}
-use mathlib.Core.Bool.{Bool, true, false}
+use mathlib.Core.Bool.{true, false}
 use mathlib.Core.List.{List, [], _∷_, map}
 use Prim.Native.Nat.{ℕ, _+_, _*_, _-_, _/_, _%_, _≤_, _<_}
 use native.Mathlib.Omega.{arith}
@@ -8,12 +8,11 @@ use lib.Dec.{ltb}
 use borrow.Author.Tests.{lt-ltb, le-ltb}
 use Rattle.lists.specs.Tests.{three, by-cases}
 use Rattle.lists.specs.Sorting.{insertBy}
-use Rattle.lists.specs.Orders.{byHigher, lower, higher, by-lower, by-equal, by-higher, lex-first, lex-second, lex-last}
-use Rattle.search_model.specs.Branches.{Branch, tied, before}
+use Rattle.lists.specs.Orders.{lower, higher, by-lower, by-equal, by-higher, lex-first, lex-second, lex-last}
+use Rattle.search_model.specs.Branches.{Branch, boundOf, placeOf, levelOf, pageOf, higherFirst, tied, before, pageIn}
 use Rattle.search_frontier.specs.Keys.{keyOf, boundIn, placeIn, levelIn, numberIn, branchIn}
 use Rattle.pagestore.specs.Store.{inRange}
 use Rattle.pagestore.specs.Store.RangeLaws.{range-fits}
-use Rattle.search_model.specs.Branches.{pageIn}
 
 -- ---- PAGES IN RANGE
 
@@ -56,21 +55,6 @@ module _ (x : Branch) (place : x .place < 8192) (level : x .level ≤ 4) (page :
       let p = key-place in
       let l = key-levels in
       λ i. record { bound = b i; place = p i; level = l i; page = g i }
-
-abbrev boundOf : Branch → ℕ
-boundOf x = x .bound
-
-abbrev placeOf : Branch → ℕ
-placeOf x = x .place
-
-abbrev levelOf : Branch → ℕ
-levelOf x = x .level
-
-abbrev pageOf : Branch → ℕ
-pageOf x = x .page
-
-abbrev higherFirst : Branch → Branch → Bool
-higherFirst = byHigher levelOf (lower pageOf)
 
 -- a number from its digits
 abbrev parts : ℕ → ℕ → ℕ → ℕ → ℕ

@@ -55,6 +55,10 @@ module _ (n h : ℕ) (a : List ℕ) (c : ℕ) (l : LeastIn (4 * h + 1) (min (4 *
 
 -- ---- x at h, and then at c, what stood there at h
 
+-- what is known of x at h, said of a
+known : (a : List ℕ) (h x p j : ℕ) → p ≢ h → j ≢ h → getD (set a h x) p 0 ≤ getD (set a h x) j 0 → getD a p 0 ≤ getD a j 0
+known a h x p j y z l = rw (getD-set-other a h p x 0 y, getD-set-other a h j x 0 z) at l
+
 module _ (a : List ℕ) (h c x : ℕ) (wh : h < length a) (wc : c < length a) (m : c ≢ h) where
   -- before
   x-at-h : getD (set a h x) h 0 ≡ x
@@ -115,10 +119,6 @@ module _ (n h x : ℕ) (a : List ℕ) (s : Sinking n h (set a h x)) where
     wc : c < length a
     wc = let q = wide in let r = kid .within in omega arith
 
-    -- what is known of x at h, said of a
-    known : (p j : ℕ) → p ≢ h → j ≢ h → getD (set a h x) p 0 ≤ getD (set a h x) j 0 → getD a p 0 ≤ getD a j 0
-    known p j y z l = rw (rest-before a h c x wh wc away p y, rest-before a h c x wh wc away j z) at l
-
     sink-except : (p j : ℕ) → p ≢ c → Child n p j → getD (set (set a h (getD a c 0)) c x) p 0 ≤ getD (set (set a h (getD a c 0)) c x) j 0
     sink-except p j y k =
         let u = kid in
@@ -127,17 +127,17 @@ module _ (n h x : ℕ) (a : List ℕ) (s : Sinking n h (set a h x)) where
         (λ f. rw (e, f, c-at-h a h c x wh wc away, x-at-c a h c x wh wc away) (omega arith))
         (λ f. rw (e, c-at-h a h c x wh wc away, rest-after a h c x wh wc away j (let q = k .low in omega arith) f) (least j (rw e at k))))
         (λ e. decide j h
-        (λ f. rw (f, c-at-h a h c x wh wc away, rest-after a h c x wh wc away p e y) (known p c e away (s .over p c (rw f at k) u)))
+        (λ f. rw (f, c-at-h a h c x wh wc away, rest-after a h c x wh wc away p e y) (known a h x p c e away (s .over p c (rw f at k) u)))
         (λ f. decide j c
         (λ g. absurd (let q = k .low in let r = k .high in let v = u .low in let w = u .high in omega (arith, e)))
-        (λ g. rw (rest-after a h c x wh wc away p e y, rest-after a h c x wh wc away j f g) (known p j e f (s .except p j e k)))))
+        (λ g. rw (rest-after a h c x wh wc away p e y, rest-after a h c x wh wc away j f g) (known a h x p j e f (s .except p j e k)))))
 
     sink-over : (p j : ℕ) → Child n p c → Child n c j → getD (set (set a h (getD a c 0)) c x) p 0 ≤ getD (set (set a h (getD a c 0)) c x) j 0
     sink-over p j k1 k2 =
         let u = kid in
         let v1 = u .low in let v2 = u .high in let l1 = k1 .low in let l2 = k1 .high in let l3 = k2 .low in
         let e : p ≡ h = omega arith in
-        rw (e, c-at-h a h c x wh wc away, rest-after a h c x wh wc away j (omega arith) (omega arith)) (known c j away (omega arith) (s .except c j away k2))
+        rw (e, c-at-h a h c x wh wc away, rest-after a h c x wh wc away j (omega arith) (omega arith)) (known a h x c j away (omega arith) (s .except c j away k2))
 
     pub sinks : Sinking n c (set (set a h (getD a c 0)) c x)
     sinks = record { fits = fits-after a h c x wh wc away n (s .fits); place = kid .within; except = sink-except; over = sink-over }
@@ -181,9 +181,6 @@ module _ (n h x : ℕ) (a : List ℕ) (s : Rising n h (set a h x)) where
     only : (p : ℕ) → Child n p h → p ≡ c
     only p k = let q = k .low in let r = k .high in omega arith
 
-    up-known : (p j : ℕ) → p ≢ h → j ≢ h → getD (set a h x) p 0 ≤ getD (set a h x) j 0 → getD a p 0 ≤ getD a j 0
-    up-known p j y z l = rw (rest-before a h c x uh uc apart p y, rest-before a h c x uh uc apart j z) at l
-
     rise-except : (p j : ℕ) → j ≢ c → Child n p j → getD (set (set a h (getD a c 0)) c x) p 0 ≤ getD (set (set a h (getD a c 0)) c x) j 0
     rise-except p j y k =
         let b = below in
@@ -191,21 +188,21 @@ module _ (n h x : ℕ) (a : List ℕ) (s : Rising n h (set a h x)) where
         decide p c
         (λ e. decide j h
         (λ f. rw (e, f, x-at-c a h c x uh uc apart, c-at-h a h c x uh uc apart) (omega arith))
-        (λ f. let z : getD a c 0 ≤ getD a j 0 = up-known c j apart f (s .except c j f (rw e at k)) in
+        (λ f. let z : getD a c 0 ≤ getD a j 0 = known a h x c j apart f (s .except c j f (rw e at k)) in
         rw (e, x-at-c a h c x uh uc apart, rest-after a h c x uh uc apart j f y) (omega arith)))
         (λ e. decide p h
-        (λ f. rw (f, c-at-h a h c x uh uc apart, rest-after a h c x uh uc apart j (omega arith) y) (up-known c j apart (omega arith) (s .over c j mine (rw f at k))))
+        (λ f. rw (f, c-at-h a h c x uh uc apart, rest-after a h c x uh uc apart j (omega arith) y) (known a h x c j apart (omega arith) (s .over c j mine (rw f at k))))
         (λ f. let z : j ≢ h = (λ o. e (only p (rw o at k))) in
-        rw (rest-after a h c x uh uc apart p f e, rest-after a h c x uh uc apart j z y) (up-known p j f z (s .except p j z k))))
+        rw (rest-after a h c x uh uc apart p f e, rest-after a h c x uh uc apart j z y) (known a h x p j f z (s .except p j z k))))
 
     rise-over : (p j : ℕ) → Child n p c → Child n c j → getD (set (set a h (getD a c 0)) c x) p 0 ≤ getD (set (set a h (getD a c 0)) c x) j 0
     rise-over p j k1 k2 =
         let b = below in
         let l1 = k1 .low in let l2 = k2 .low in
-        let z : getD a p 0 ≤ getD a c 0 = up-known p c (omega arith) apart (s .except p c apart k1) in
+        let z : getD a p 0 ≤ getD a c 0 = known a h x p c (omega arith) apart (s .except p c apart k1) in
         decide j h
         (λ e. rw (e, c-at-h a h c x uh uc apart, rest-after a h c x uh uc apart p (omega arith) (omega arith)) z)
-        (λ e. let y : getD a c 0 ≤ getD a j 0 = up-known c j apart e (s .except c j e k2) in
+        (λ e. let y : getD a c 0 ≤ getD a j 0 = known a h x c j apart e (s .except c j e k2) in
         rw (rest-after a h c x uh uc apart p (omega arith) (omega arith), rest-after a h c x uh uc apart j e (omega arith)) (omega arith))
 
     pub rises : Rising n c (set (set a h (getD a c 0)) c x)

@@ -1,6 +1,6 @@
 -- The search from the root gives what the visit of all leaves by (bound, position) gives.
 use mathlib.Core.Path.{_≡_, refl, sym, ap, _∙_}
-use mathlib.Core.Bool.{Bool, false}
+use mathlib.Core.Bool.{false}
 use mathlib.Core.List.{List, [], _∷_, map}
 use Prim.Native.Nat.{ℕ, zero, suc, _+_, _*_, _≤_, _<_}
 use native.Mathlib.Omega.{arith}
@@ -10,7 +10,7 @@ use borrow.Author.Tests.{lt-ltb, le-ltb, lt-leb}
 use Rattle.lists.specs.Basics.{All, none, also, concatMap}
 use Rattle.lists.specs.Tests.{three, false-true}
 use Rattle.lists.specs.Sorting.{Order, sort, insertBy}
-use Rattle.lists.specs.Orders.{byHigher, lower, higher, by-lower, by-equal, by-higher, by-weak, by-same, byHigher-weak, byHigher-same, lower-weak, lower-same, lex-last, weak-order}
+use Rattle.lists.specs.Orders.{lower, higher, by-lower, by-equal, by-higher, by-weak, by-same, byHigher-weak, byHigher-same, lower-weak, lower-same, lex-last, weak-order}
 use Rattle.search_theory.specs.Nearest.{Outcome, reading, exceeds, offered, visit, bestFirst}
 use Rattle.search_theory.specs.Frontier.{leavesUnder, Descends, seek}
 use Rattle.search_theory.specs.FrontierLaws.{seek-end, seek-read, seek-root}
@@ -18,25 +18,10 @@ use Rattle.search_theory.specs.VisitLaws.{visit-read}
 use Rattle.search_rows.specs.declared.Row.{Row}
 use Rattle.tree_model.specs.Trees.{Item, leaves}
 use Rattle.search_model.specs.Asked.{Asked, Askable}
-use Rattle.search_model.specs.Branches.{Branch, lastPlace, tied, before, isLeaf, kids, rowsAt}
+use Rattle.search_model.specs.Branches.{Branch, boundOf, placeOf, levelOf, pageOf, higherFirst, lastPlace, tied, before, isLeaf, kids, rowsAt}
 use Rattle.search_model.specs.Visit.{ranking, answerOf, placed}
 use Rattle.search_model.specs.Questions.{leafBound, leafBranch}
 use Rattle.search_model.proofs.FrameLaws.{Frame, Branching, inner, itemBranch, itemBranches, leafBranches, opened-is, under-inner, Ordered, ordered-kids, leaves-floor}
-
-abbrev boundOf : Branch → ℕ
-boundOf x = x .bound
-
-abbrev placeOf : Branch → ℕ
-placeOf x = x .place
-
-abbrev levelOf : Branch → ℕ
-levelOf x = x .level
-
-abbrev pageOf : Branch → ℕ
-pageOf x = x .page
-
-abbrev higherFirst : Branch → Branch → Bool
-higherFirst = byHigher levelOf (lower pageOf)
 
 pub branch-order : Order before
 branch-order =
@@ -114,15 +99,12 @@ module _ (c : List ℕ) (q : Asked) (d : ℕ) (low : 1 ≤ d) (high : d ≤ 16) 
 
   -- ---- THE SEARCH
 
-  abbrev boundIn : Branch → ℕ
-  boundIn x = x .bound
-
   module _ (k room n : ℕ) (one : 1 ≤ k) where
     abbrev seekFrom : Branch → Outcome Row Branch
-    seekFrom x = seek ranking boundIn (rowsAt c q) before isLeaf (kids c q) k room n (x ∷ []) []
+    seekFrom x = seek ranking boundOf (rowsAt c q) before isLeaf (kids c q) k room n (x ∷ []) []
 
     abbrev visitAll : List (Item 1) → Outcome Row Branch
-    visitAll ts = bestFirst ranking boundIn (rowsAt c q) k tied (leafBranches q d 0 ts)
+    visitAll ts = bestFirst ranking boundOf (rowsAt c q) k tied (leafBranches q d 0 ts)
 
     inner-root : (l : ℕ) (t : Item (suc (suc l))) → length (leaves (suc l) t) ≤ lastPlace → Frame c d (suc l) t → Ordered d (suc l) t → length (leaves (suc l) t) ≤ room → 2 * length (leaves (suc l) t) ≤ n
         → seekFrom (inner 0 0 l t) ≡ visitAll (leaves (suc l) t)
@@ -130,9 +112,9 @@ module _ (c : List ℕ) (q : Asked) (d : ℕ) (low : 1 ≤ d) (high : d ≤ 16) 
     inner-root l t m f o r s =
         let e = under-inner c q d l 0 0 t (omega arith) f in
         let g : length (leavesUnder isLeaf (kids c q) (suc l) (inner 0 0 l t)) ≡ length (leaves (suc l) t) = ap length e ∙ length-leaves 0 (leaves (suc l) t) in
-        seek-root ranking boundIn (rowsAt c q) before isLeaf (kids c q) k room branch-order branch-floor (suc l) n (inner 0 0 l t) one
+        seek-root ranking boundOf (rowsAt c q) before isLeaf (kids c q) k room branch-order branch-floor (suc l) n (inner 0 0 l t) one
         (down-inner l 0 0 t (omega arith) (down l) f o (zeros (leaves (suc l) t))) (omega arith) (omega arith)
-        ∙ ap (λ (ls : List Branch). visit ranking boundIn (rowsAt c q) k (sort before ls) []) e
+        ∙ ap (λ (ls : List Branch). visit ranking boundOf (rowsAt c q) k (sort before ls) []) e
       where
         zeros : (ts : List (Item 1)) → All (λ u. 0 ≤ leafBound d q u) ts
         zeros [] = none
@@ -154,9 +136,9 @@ module _ (c : List ℕ) (q : Asked) (d : ℕ) (low : 1 ≤ d) (high : d ≤ 16) 
   leaf-root k room m one t =
       let x : Branch = record { bound = 0; place = 0; level = 0; page = t .0 } in
       let y : Branch = leafBranch q d 0 t in
-      ap shown (seek-read ranking boundIn (rowsAt c q) before isLeaf (kids c q) k room m x [] [] (none-exceeds k 0 one) refl
-      ∙ ap (reading x) (seek-end ranking boundIn (rowsAt c q) before isLeaf (kids c q) k room m (offered ranking boundIn (rowsAt c q) k x [])))
-      ∙ sym (ap shown (visit-read ranking boundIn (rowsAt c q) k y [] [] (none-exceeds k (leafBound d q t) one)))
+      ap shown (seek-read ranking boundOf (rowsAt c q) before isLeaf (kids c q) k room m x [] [] (none-exceeds k 0 one) refl
+      ∙ ap (reading x) (seek-end ranking boundOf (rowsAt c q) before isLeaf (kids c q) k room m (offered ranking boundOf (rowsAt c q) k x [])))
+      ∙ sym (ap shown (visit-read ranking boundOf (rowsAt c q) k y [] [] (none-exceeds k (leafBound d q t) one)))
 
   -- the search from the root of a tree gives what the visit of its leaves gives
   pub seek-is : (k room n : ℕ) (one : 1 ≤ k) (l : ℕ) (t : Item (suc l)) → length (leaves l t) ≤ lastPlace → Frame c d l t → Ordered d l t → length (leaves l t) ≤ room → 2 * length (leaves l t) ≤ n

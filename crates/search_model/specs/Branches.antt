@@ -21,12 +21,27 @@ pub record Branch : Type 0 where
   pub level : ℕ
   pub page : ℕ
 
+abbrev pub boundOf : Branch → ℕ
+boundOf x = x .bound
+
+abbrev pub placeOf : Branch → ℕ
+placeOf x = x .place
+
+abbrev pub levelOf : Branch → ℕ
+levelOf x = x .level
+
+abbrev pub pageOf : Branch → ℕ
+pageOf x = x .page
+
 -- Branches of equal bound are taken by position (01). A page comes before the first page under it, whose position is the same.
+abbrev pub higherFirst : Branch → Branch → Bool
+higherFirst = byHigher levelOf (lower pageOf)
+
 abbrev pub tied : Branch → Branch → Bool
-tied = by (λ x. x .place) (byHigher (λ x. x .level) (lower (λ x. x .page)))
+tied = by placeOf higherFirst
 
 abbrev pub before : Branch → Branch → Bool
-before = by (λ x. x .bound) tied
+before = by boundOf tied
 
 abbrev pub isLeaf : Branch → Bool
 isLeaf x = eqb (x .level) 0

@@ -9,28 +9,22 @@ use native.Mathlib.Numerals.{add-one}
 use lib.ListN.{length, take, drop, getD, set, length-take, length-set, drop-of-length-le}
 use lib.Seq.{length-take-le, getD-take, take-all, take-at, take-suc, take-take, take-append-le, take-set-le, drop-set-lt}
 use lib.Dec.{ltb, eqb}
-use borrow.Author.Tests.{lt-ltb, le-ltb, le-leb, lt-leb, ltb-true, ltb-false, not-true, not-false}
+use borrow.Author.Tests.{lt-ltb, le-ltb, le-leb, lt-leb, ltb-true, ltb-false, ne-eqb, not-true, not-false}
 use Rattle.lists.specs.Basics.{if, indicator}
-use Rattle.lists.specs.Tests.{three, false-true}
+use Rattle.lists.specs.Tests.{three, false-true, by-cases}
 use Rattle.lists.specs.Sorting.{insertBy, offer}
 use Rattle.lists.specs.Sorting as sorting
 use Rattle.lists.specs.SortingLaws.{length-ins, sorted-ins}
 use Rattle.lists.specs.PlaceLaws.{ins-snoc, ins-last, sliding, slide-turn, slide-end, sorted-take}
-use Rattle.lists.specs.Orders.{by, lower, by-lower, by-equal, by-higher}
+use Rattle.lists.specs.Orders.{lower, by-lower, by-equal, by-higher}
 use Rattle.search_theory.specs.Nearest.{kth}
 use Rattle.search_theory.specs.Nearest as nearest
 use Rattle.search_rows.specs.declared.Row.{Row}
-use Rattle.search_rows.specs.Rows.{rowOrder, tieOrder, tagOf, rowOf}
-use Rattle.search_rows.specs.Held.{rowsOf, rowsIn, behindAll, GivesWay, Held, Offered, Stops}
+use Rattle.search_rows.specs.Rows.{distance, id, position, rowOrder, tieOrder, tagOf, rowOf, byDistance}
+use Rattle.search_rows.specs.Held.{rowsOf, rowsIn, behindAll, GivesWay, Held, Offered}
 use Rattle.search_rows.specs.RowLaws.{row-order}
 
 -- ---- comparing
-
-abbrev distance : Row → ℕ
-distance x = x .distance
-
-abbrev id : Row → ℕ
-id x = x .id
 
 module _ (d t distance₁ tag : ℕ) where
   pub nearer : d < distance₁ → true ≡ rowOrder (rowOf d t) (rowOf distance₁ tag)
@@ -46,13 +40,13 @@ module _ (d t distance₁ tag : ℕ) where
       tied : tieOrder (rowOf d t) (rowOf distance₁ tag) ≡ ltb t tag
       tied =
           three (t / 4294967296) (tag / 4294967296)
-          (λ g. by-lower id (lower (λ x. x .position)) (rowOf d t) (rowOf distance₁ tag) g ∙ sym (lt-ltb t tag (omega arith)))
-          (λ g. by-equal id (lower (λ x. x .position)) (rowOf d t) (rowOf distance₁ tag) g
+          (λ g. by-lower id (lower position) (rowOf d t) (rowOf distance₁ tag) g ∙ sym (lt-ltb t tag (omega arith)))
+          (λ g. by-equal id (lower position) (rowOf d t) (rowOf distance₁ tag) g
           ∙ three t tag
           (λ f. lt-ltb (t % 4294967296) (tag % 4294967296) (omega arith) ∙ sym (lt-ltb t tag f))
           (λ f. le-ltb (t % 4294967296) (tag % 4294967296) (omega arith) ∙ sym (le-ltb t tag (omega arith)))
           (λ f. le-ltb (t % 4294967296) (tag % 4294967296) (omega arith) ∙ sym (le-ltb t tag (omega arith))))
-          (λ g. by-higher id (lower (λ x. x .position)) (rowOf d t) (rowOf distance₁ tag) g ∙ sym (le-ltb t tag (omega arith)))
+          (λ g. by-higher id (lower position) (rowOf d t) (rowOf distance₁ tag) g ∙ sym (le-ltb t tag (omega arith)))
 
 -- ---- rows of two arrays
 
@@ -258,19 +252,15 @@ distance-at i (suc n) (d ∷ ds) [] f h g = absurd (omega arith)
 distance-at zero (suc n) (d ∷ ds) (t ∷ ts) f h g = refl
 distance-at (suc i) (suc n) (d ∷ ds) (t ∷ ts) f h g = distance-at i n ds ts (omega arith) (omega arith) (omega arith)
 
-pub stops-few : (ds : List ℕ) (n k b : ℕ) → n < k → Stops ds n k b false
-unfolding nearest.exceeds
-stops-few ds n k b h = record {
-  value = λ passes ts g.
-      let q : length (rowsIn ds ts n) < k = rw (length-take n (rowsOf ds ts)) (omega arith) in
-      rw (lt-leb k (length (rowsIn ds ts n)) q);
-}
-
-pub stops-full : (ds : List ℕ) (n k b : ℕ) → 1 ≤ k → n ≤ k → k ≤ n → k ≤ length ds → Stops ds n k b (ltb (getD ds (k - 1) 0) b)
+-- a row is behind all k rows just if its distance exceeds the k-th
+pub behind-exceeds : (passes : Row → Bool) (ds ts : List ℕ) (n k b : ℕ) → 1 ≤ k → n ≤ k → k ≤ length ds → k ≤ length ts
+    → behindAll ds n k b ≡ nearest.exceeds (byDistance passes) k b (rowsIn ds ts n)
 unfolding nearest.exceeds kth
-stops-full ds n k b one few all room = record {
-  value = λ passes ts g.
-      let q : k ≤ length (rowsOf ds ts) = length-rowsOf k ds ts room g in
-      let f : k ≤ length (rowsIn ds ts n) = rw (length-take n (rowsOf ds ts)) (omega arith) in
-      rw (le-leb k (length (rowsIn ds ts n)) f, distance-at (k - 1) n ds ts (omega arith) (omega arith) (omega arith));
-}
+behind-exceeds passes ds ts n k b one few room roomTags =
+    by-cases (ltb n k)
+    (λ e. let q : length (rowsIn ds ts n) < k = rw (length-take n (rowsOf ds ts)) (omega (arith, ltb-true n k e)) in
+    rw (e, lt-leb k (length (rowsIn ds ts n)) q))
+    (λ e. let all : k ≤ n = ltb-false n k e in
+    let q : k ≤ length (rowsOf ds ts) = length-rowsOf k ds ts room roomTags in
+    let f : k ≤ length (rowsIn ds ts n) = rw (length-take n (rowsOf ds ts)) (omega arith) in
+    rw (e, ne-eqb k 0 (omega arith), le-leb k (length (rowsIn ds ts n)) f, distance-at (k - 1) n ds ts (omega arith) (omega arith) (omega arith)))

@@ -8,9 +8,8 @@ use lib.ListN.{length, getD, take, drop}
 use Rattle.lists.specs.Basics.{if}
 use Rattle.lists.specs.Sorting.{Sorted}
 use Rattle.lists.specs.Sorting as sorting
-use Rattle.search_theory.specs.Nearest as nearest
 use Rattle.search_rows.specs.declared.Row.{Row}
-use Rattle.search_rows.specs.Rows.{rowOrder, rowOf, byDistance}
+use Rattle.search_rows.specs.Rows.{rowOrder, rowOf}
 
 -- the rows of distances and tags, one of each
 unfoldable pub rowsOf : List ℕ → List ℕ → List Row
@@ -43,7 +42,3 @@ pub record GivesWay (distances tags : List ℕ) (i : ℕ) (x : Row) (r : Bool) :
 -- there are k rows, and the k-th is nearer than a distance
 abbrev pub behindAll : List ℕ → ℕ → ℕ → ℕ → Bool
 behindAll distances n k distance = if (ltb n k) false (if (eqb k 0) false (ltb (getD distances (k - 1) 0) distance))
-
--- the stop test of the visit, whatever the tags and the choice of candidates
-pub record Stops (distances : List ℕ) (n k bound : ℕ) (r : Bool) : Type 0 where
-  pub value : (passes : Row → Bool) (tags : List ℕ) → k ≤ length tags → r ≡ nearest.exceeds (byDistance passes) k bound (rowsIn distances tags n)

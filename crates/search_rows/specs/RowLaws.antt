@@ -20,16 +20,7 @@ use Rattle.search_theory.specs.Marks.{Strict, readOn, unmarked}
 use Rattle.search_theory.specs.Marks as marks
 use Rattle.search_theory.specs.Promises.{lists-join}
 use Rattle.search_rows.specs.declared.Row.{Row}
-use Rattle.search_rows.specs.Rows.{rowOrder, tieOrder, byDistance}
-
-abbrev distance : Row → ℕ
-distance x = x .distance
-
-abbrev id : Row → ℕ
-id x = x .id
-
-abbrev position : Row → ℕ
-position x = x .position
+use Rattle.search_rows.specs.Rows.{distance, id, position, rowOrder, tieOrder, byDistance}
 
 pub row-order : Order rowOrder
 row-order = weak-order (by-weak distance tieOrder (by-weak id (lower position) (lower-weak position)))

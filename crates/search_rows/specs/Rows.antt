@@ -5,18 +5,27 @@ use Rattle.lists.specs.Orders.{by, lower}
 use Rattle.search_theory.specs.Nearest.{Ranking}
 use Rattle.search_rows.specs.declared.Row.{Row}
 
+abbrev pub distance : Row → ℕ
+distance x = x .distance
+
+abbrev pub id : Row → ℕ
+id x = x .id
+
+abbrev pub position : Row → ℕ
+position x = x .position
+
 -- Demand 2's tie rule: the lower identifier. Position comes last and makes the order total: in a sound index identifiers
 -- are distinct, so it never decides.
 abbrev pub tieOrder : Row → Row → Bool
-tieOrder = by (λ x. x .id) (lower (λ x. x .position))
+tieOrder = by id (lower position)
 
 -- row order: by distance, equal distances by the tie rule
 abbrev pub rowOrder : Row → Row → Bool
-rowOrder = by (λ x. x .distance) tieOrder
+rowOrder = by distance tieOrder
 
 -- how a question ranks rows of which those that pass are candidates
 abbrev pub byDistance : (Row → Bool) → Ranking Row
-byDistance passes = record { cost = λ x. x .distance; tie = tieOrder; passes = passes }
+byDistance passes = record { cost = distance; tie = tieOrder; passes = passes }
 
 -- identifier and position as one number, in the order of the tie rule
 abbrev pub tagOf : Row → ℕ

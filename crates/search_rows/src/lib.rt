@@ -3,7 +3,7 @@ ghost use mathlib.Core.Path.{_≡_};
 ghost use Prim.Native.Nat.{_+_, _≤_, _<_};
 ghost use lib.ListN.{length};
 ghost use Rattle.search_rows.specs.Rows.{rowOrder, rowOf, tagOf};
-ghost use Rattle.search_rows.specs.Held.{behindAll, GivesWay, Held, Offered, Stops};
+ghost use Rattle.search_rows.specs.Held.{behindAll, GivesWay, Held, Offered};
 
 // A row (01): the squared distance and the identifier of a record, and the position of the leaf that holds it.
 #[repr(C)]
@@ -74,7 +74,8 @@ fn slide(distances: &mut [u64], tags: &mut [u64], n: usize, distance: u64, tag: 
     tags[i] = tag;
 }
 
-// Whether there are k rows, the k-th of them nearer than a distance: a row that far is behind all of them.
+// Whether there are k rows, the k-th of them nearer than a distance: a row that far is behind all of them. So is every row of a
+// span whose bound is that distance: the stop test of the visit.
 pub fn behind(distances: &[u64], n: usize, k: usize, distance: u64) -> bool
     requires { ⌜ k ≤ length (now distances) ⌝ }
     ensures { λ r. ⌜ r ≡ behindAll (now (distances .entry)) n k distance ⌝ }
@@ -104,15 +105,4 @@ pub fn offer(distances: &mut [u64], tags: &mut [u64], n: usize, k: usize, row: R
     }
     slide(distances, tags, n - 1, distance, tag);
     n
-}
-
-// Whether there are k rows and the bound exceeds the k-th distance.
-pub fn exceeds(distances: &[u64], n: usize, k: usize, bound: u64) -> bool
-    requires { ⌜ (1 ≤ k) × (n ≤ k) × (k ≤ length (now distances)) ⌝ }
-    ensures { λ r. ⌜ Stops (now (distances .entry)) n k bound r ⌝ }
-{
-    if n < k {
-        return false;
-    }
-    distances[k - 1] < bound
 }

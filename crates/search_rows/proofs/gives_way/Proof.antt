@@ -2,43 +2,31 @@ use Rattle.search_rows.proofs.HeldLaws.{way-none, way-some}
 use borrow.Author.Needs.{needs}
 use Rattle.search_rows.proofs.gives_way.Statement.{statement}
 use Rattle.search_rows.proofs.gives_way.Tie as tie
-use Rattle.search_rows.proofs.gives_way.Reads as reads
-use Rattle.search_rows.proofs.gives_way.Lts as lts
-use Rattle.search_rows.proofs.precedes.Reads as precedes-reads
 
--- src/lib.rt:57:9
 returns : tie.Need-returns
 returns c = way-none _ _ _ _ (c .if1 .taken)
 
--- src/lib.rt:59:25
 sub-precedes : tie.Need-sub-precedes
 sub-precedes c = search needs
 
--- src/lib.rt:59:15
 mul-precedes : tie.Need-mul-precedes
 mul-precedes c = search needs
 
--- src/lib.rt:59:15
 shared-slice-read-precedes : tie.Need-shared-slice-read-precedes
 shared-slice-read-precedes c = search needs
 
--- src/lib.rt:59:38
 sub-precedes-2 : tie.Need-sub-precedes-2
 sub-precedes-2 c = search needs
 
--- src/lib.rt:59:33
 mul-precedes-2 : tie.Need-mul-precedes-2
 mul-precedes-2 c = search needs
 
--- src/lib.rt:59:33
 shared-slice-read-precedes-2 : tie.Need-shared-slice-read-precedes-2
 shared-slice-read-precedes-2 c = search needs
 
--- src/lib.rt:59:6
 precedes-requires : tie.Need-precedes-requires
 precedes-requires c κs = search needs
 
--- src/lib.rt:52:1
 returns-2 : tie.Need-returns-2
 returns-2 c = way-some _ _ _ _ _ (c .before .before .before .if1 .left) (c .precedes .ensures)
 

@@ -2,18 +2,13 @@ use native.Mathlib.Omega.{arith}
 use Rattle.search_rows.proofs.HeldLaws.{nearer, farther, as-near}
 use Rattle.search_rows.proofs.precedes.Statement.{statement}
 use Rattle.search_rows.proofs.precedes.Tie as tie
-use Rattle.search_rows.proofs.precedes.Reads as reads
-use Rattle.search_rows.proofs.precedes.Lts as lts
 
--- src/lib.rt:39:9
 returns : tie.Need-returns
 returns c = nearer _ _ _ _ (c .if1 .taken)
 
--- src/lib.rt:42:9
 returns-2 : tie.Need-returns-2
 returns-2 c = farther _ _ _ _ (c .if2 .taken)
 
--- src/lib.rt:35:1
 returns-3 : tie.Need-returns-3
 returns-3 c = as-near _ _ _ _ (omega arith)
 

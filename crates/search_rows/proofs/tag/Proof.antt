@@ -5,26 +5,19 @@ use Rattle.search_rows.proofs.HeldLaws.{row-again}
 use borrow.Author.Needs.{needs}
 use Rattle.search_rows.proofs.tag.Statement.{statement}
 use Rattle.search_rows.proofs.tag.Tie as tie
-use Rattle.search_rows.proofs.tag.Reads as reads
-use Rattle.search_rows.proofs.tag.Lts as lts
 
--- src/lib.rt:20:14
 cast-id : tie.Need-cast-id
 cast-id c = search needs
 
--- src/lib.rt:21:20
 cast-position : tie.Need-cast-position
 cast-position c = search needs
 
--- src/lib.rt:22:5
 mul-result : tie.Need-mul-result
 mul-result c = search needs
 
--- src/lib.rt:22:5
 add-result : tie.Need-add-result
 add-result c = search needs
 
--- src/lib.rt:17:1
 returns : tie.Need-returns
 returns c = let x = c .before .before .args .row in let f : x .position < 4294967296 = omega arith in (refl, row-again x f)
 

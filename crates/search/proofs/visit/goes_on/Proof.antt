@@ -17,19 +17,19 @@ shared-slice-read-first c = search needs
 bound-in-requires : tie.Need-bound-in-requires
 bound-in-requires c κs = search needs
 
-exceeds-requires : tie.Need-exceeds-requires
-exceeds-requires c κs = search needs
+behind-requires : tie.Need-behind-requires
+behind-requires c κs = search needs
 
 returns-3 : tie.Need-returns-3
 returns-3 c = let S = ((c .before .before .before .before .before .before .before .before .before)) in
-    goes-far (now (S .args .index)) (now (S .args .slots)) (S .args .n) (now (S .args .distances)) (S .args .rows) (S .args .k) (S .args .steps) (c .before .before .before .before .before .if1 .left) (c .before .before .before .before .if2 .left) _ (c .before .before .bound-in .ensures) _ (c .before .exceeds .ensures) (c .if3 .taken)
+    goes-far (now (S .args .index)) (now (S .args .slots)) (S .args .n) (now (S .args .distances)) (S .args .rows) (S .args .k) (S .args .steps) (c .before .before .before .before .before .if1 .left) (c .before .before .before .before .if2 .left) _ (c .before .before .bound-in .ensures) _ (c .before .behind .ensures) (c .if3 .taken)
 
 level-in-requires : tie.Need-level-in-requires
 level-in-requires c κs = search needs
 
 returns-4 : tie.Need-returns-4
 returns-4 c = let S = ((c .before .before .before .before .before .before .before .before .before .before .before)) in
-    goes-leaf (now (S .args .index)) (now (S .args .slots)) (S .args .n) (now (S .args .distances)) (S .args .rows) (S .args .k) (S .args .steps) (c .before .before .before .before .before .before .before .if1 .left) (c .before .before .before .before .before .before .if2 .left) _ (c .before .before .before .before .bound-in .ensures) _ (c .before .before .before .exceeds .ensures) (c .before .before .if3 .left) _ (c .before .level-in .ensures) (c .if4 .taken)
+    goes-leaf (now (S .args .index)) (now (S .args .slots)) (S .args .n) (now (S .args .distances)) (S .args .rows) (S .args .k) (S .args .steps) (c .before .before .before .before .before .before .before .if1 .left) (c .before .before .before .before .before .before .if2 .left) _ (c .before .before .before .before .bound-in .ensures) _ (c .before .before .before .behind .ensures) (c .before .before .if3 .left) _ (c .before .level-in .ensures) (c .if4 .taken)
 
 page-in-requires : tie.Need-page-in-requires
 page-in-requires c κs = search needs
@@ -45,7 +45,7 @@ add-result c = search needs
 
 returns-5 : tie.Need-returns-5
 returns-5 c = let S = ((c .before .before .before .before .before .before .before .before .before .before .before .before .before)) in
-    goes-inner (now (S .args .index)) (now (S .args .slots)) (S .args .n) (now (S .args .distances)) (S .args .rows) (S .args .k) (S .args .steps) (c .before .before .before .before .before .before .before .before .before .if1 .left) (c .before .before .before .before .before .before .before .before .if2 .left) _ (c .before .before .before .before .before .before .bound-in .ensures) _ (c .before .before .before .before .before .exceeds .ensures) (c .before .before .before .before .if3 .left) _ (c .before .before .before .level-in .ensures) (c .before .before .if4 .left) _ _ (c .before .page-in .ensures) (c .entry-count .ensures .0)
+    goes-inner (now (S .args .index)) (now (S .args .slots)) (S .args .n) (now (S .args .distances)) (S .args .rows) (S .args .k) (S .args .steps) (c .before .before .before .before .before .before .before .before .before .if1 .left) (c .before .before .before .before .before .before .before .before .if2 .left) _ (c .before .before .before .before .before .before .bound-in .ensures) _ (c .before .before .before .before .before .behind .ensures) (c .before .before .before .before .if3 .left) _ (c .before .before .before .level-in .ensures) (c .before .before .if4 .left) _ _ (c .before .page-in .ensures) (c .entry-count .ensures .0)
 
 pub goes-on-spec : {M : Type 1} → statement M
 goes-on-spec =
@@ -55,7 +55,7 @@ goes-on-spec =
     returns-2
     shared-slice-read-first
     bound-in-requires
-    exceeds-requires
+    behind-requires
     returns-3
     level-in-requires
     returns-4
