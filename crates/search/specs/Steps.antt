@@ -3,7 +3,7 @@ use mathlib.Core.Path.{_≡_}
 use mathlib.Core.Logic.{_≢_}
 use mathlib.Core.Bool.{Bool, true, false}
 use mathlib.Core.List.{List}
-use Prim.Native.Nat.{ℕ, _+_, _-_, _≤_, _<_}
+use Prim.Native.Nat.{ℕ, _+_, _*_, _-_, _≤_, _<_}
 use lib.ListN.{length, take, getD}
 use Rattle.lists.specs.Sorting.{count}
 use Rattle.pagestore.specs.Store.{viewOf, level, innerAt, entriesIn, fieldAt}
@@ -15,14 +15,15 @@ use Rattle.search.specs.declared.Query.{Query}
 use Rattle.search.specs.declared.Seen.{Seen}
 use Rattle.search_frontier.specs.Keys.{boundIn, levelIn, numberIn}
 use Rattle.search_frontier.specs.Opening.{Tabled}
+use Rattle.search_model.specs.Numbers.{maxFeatures, maxLevel}
 use Rattle.search_model.specs.Asked.{Seekable, Asked, Askable, asking}
-use Rattle.search_model.specs.Visit.{ranking, Answer, answerOf, room, visited, readsNone, found}
+use Rattle.search_model.specs.Visit.{ranking, largeRoom, Answer, answerOf, room, visited, readsNone, found}
 use Rattle.search_model.specs.Questions.{rowsOf, toRead, unreadPages, AgreeBut}
 
 -- what a visit is lent: room for branches and for k rows
 pub record Visits (index asked near whole : List ℕ) (k : ℕ) (slots distances marks : List ℕ) : Type 0 where
   pub tables : Tabled asked near whole
-  pub low : fieldAt level index ≤ 4
+  pub low : fieldAt level index ≤ maxLevel
   pub one : 1 ≤ k
   pub room : length slots ≡ room index
   pub rows : k ≤ length distances
@@ -31,7 +32,7 @@ pub record Visits (index asked near whole : List ℕ) (k : ℕ) (slots distances
 -- a turn of the visit: n branches in the frontier, and rows, of which k are kept
 pub record Turns (slots : List ℕ) (n : ℕ) (distances : List ℕ) (rows k : ℕ) : Type 0 where
   pub fits : n ≤ length slots
-  pub size : length slots ≤ 8192
+  pub size : length slots ≤ largeRoom
   pub one : 1 ≤ k
   pub few : rows ≤ k
   pub room : k ≤ length distances
@@ -90,13 +91,13 @@ pub record Looks (asked : List ℕ) (k : ℕ) (distances marks : List ℕ) : Typ
 
 -- a question by value
 abbrev pub asks : Query → Asked
-asks w = asking (take (48 + w .d) (w .features)) (w .k)
+asks w = asking (take (3 * maxFeatures + w .d) (w .features)) (w .k)
 
 -- and with room for its rows
 pub record Searches (w : Query) (distances marks : List ℕ) : Type 0 where
-  pub slots : length (w .features) ≡ 64
-  pub few : w .d ≤ 16
-  pub looked : Looks (take (48 + w .d) (w .features)) (w .k) distances marks
+  pub slots : length (w .features) ≡ 4 * maxFeatures
+  pub few : w .d ≤ maxFeatures
+  pub looked : Looks (take (3 * maxFeatures + w .d) (w .features)) (w .k) distances marks
 
 -- What the search by itself promises of the bytes lent, with no check of them.
 pub record Searched (index : List ℕ) (q : Asked) (distances tags : List ℕ) (r : Seen) : Type 0 where

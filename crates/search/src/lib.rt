@@ -9,12 +9,24 @@ use crate::visit::best_first;
 use crate::visit::reads_none;
 use geometry::bounds::prepare;
 use pagestore::total_records;
+use search_model::FEATURE_PLACES;
+use search_model::FEW_RECORDS;
+use search_model::LARGE_ROOM;
+use search_model::MANY_RECORDS;
+use search_model::MIDDLE_ROOM;
+use search_model::REACHES_FROM;
+use search_model::SMALL_ROOM;
 
 mod visit;
 
+// The sizes of the tables that `prepare` fills.
+const NEAR_PLACES: usize = 288;
+
+const WHOLE_PLACES: usize = 32;
+
 // What is asked: the features, laid out in one list as `geometry::bounds::ask` does it, their number, and how many rows.
 pub struct Query {
-    pub features: [u16; 64],
+    pub features: [u16; FEATURE_PLACES],
     pub d: usize,
     pub k: usize,
 }
@@ -37,8 +49,8 @@ fn search_with(
     requires { ⌜ Seeks (now index) (now asked) k (now slots) (now distances) (now tags) ⌝ }
     ensures { λ r. ⌜ Searched (now (index .entry)) (asking (now (asked .entry)) k) (now (distances .exit)) (now (tags .exit)) r ⌝ }
 {
-    let mut near = [0u16; 288];
-    let mut whole = [0u64; 32];
+    let mut near = [0u16; NEAR_PLACES];
+    let mut whole = [0u64; WHOLE_PLACES];
     prepare(asked, &mut near, &mut whole);
     best_first(index, asked, &near, &whole, k, slots, distances, tags)
 }
@@ -58,25 +70,26 @@ fn search_for(
         return Seen { rows: 0, leaves: 0 };
     }
     let total = total_records(index);
-    if 4096 < total {
-        let mut slots = [0u64; 8192];
+    if MANY_RECORDS < total {
+        let mut slots = [0u64; LARGE_ROOM];
         return search_with(index, asked, k, &mut slots, distances, tags);
     }
-    if 1024 < total {
-        let mut slots = [0u64; 512];
+    if FEW_RECORDS < total {
+        let mut slots = [0u64; MIDDLE_ROOM];
         search_with(index, asked, k, &mut slots, distances, tags)
     } else {
-        let mut slots = [0u64; 128];
+        let mut slots = [0u64; SMALL_ROOM];
         search_with(index, asked, k, &mut slots, distances, tags)
     }
 }
 
-// The nearest of the index's records to what is asked, as distances and tags in the arrays lent: how many there are, and the number of leaves read.
+// The nearest of the index's records to what is asked, as distances and tags in the arrays lent: how many there are, and the number
+// of leaves read.
 pub fn search(index: &[u8], what: Query, distances: &mut [u64], tags: &mut [u64]) -> Seen
     requires { ⌜ Searches what (now distances) (now tags) ⌝ }
     ensures { λ r. ⌜ Searched (now (index .entry)) (asks what) (now (distances .exit)) (now (tags .exit)) r ⌝ }
 {
     let features = what.features;
-    let end = 48 + what.d;
+    let end = REACHES_FROM + what.d;
     search_for(index, &features[..end], what.k, distances, tags)
 }

@@ -3,6 +3,7 @@ ghost use mathlib.Core.Path.{_≡_};
 ghost use Prim.Native.Nat.{_≤_};
 ghost use lib.ListN.{length};
 ghost use Rattle.pagestore.specs.Store.{level, innerAt, entriesIn, fieldAt};
+ghost use Rattle.search_model.specs.Numbers.{maxItems, maxLevel};
 ghost use Rattle.search_model.specs.Asked.{asking};
 ghost use Rattle.search_model.specs.Branches.{rootBranch};
 ghost use Rattle.search_frontier.specs.Keys.{keyOf};
@@ -24,6 +25,7 @@ use search_frontier::place_in;
 use search_heap::pop;
 use search_leaves::filled;
 use search_leaves::visit_leaf;
+use search_model::MAX_LEVEL;
 use search_rows::behind;
 
 // Whether nothing is read: there are no records, or the root's level is that of no sound index.
@@ -33,12 +35,12 @@ pub fn reads_none(index: &[u8]) -> bool
     if total_records(index) == 0 {
         return true;
     }
-    4 < root_level(index)
+    MAX_LEVEL < root_level(index)
 }
 
 // The key of the root, which needs no bound.
 fn root_key(index: &[u8]) -> u64
-    requires { ⌜ fieldAt level (now index) ≤ 4 ⌝ }
+    requires { ⌜ fieldAt level (now index) ≤ maxLevel ⌝ }
     ensures { λ r. ⌜ r ≡ keyOf (rootBranch (now (index .entry))) ⌝ }
 {
     let level = root_level(index) as usize;
@@ -48,7 +50,7 @@ fn root_key(index: &[u8]) -> u64
 
 // The number of entries of an inner page.
 fn entry_count(index: &[u8], page: u32) -> usize
-    ensures { λ r. ⌜ (r ≡ length (entriesIn (innerAt (now (index .entry)) page))) × (r ≤ 16) ⌝ }
+    ensures { λ r. ⌜ (r ≡ length (entriesIn (innerAt (now (index .entry)) page))) × (r ≤ maxItems) ⌝ }
 {
     filled(count_at(index, page) as usize)
 }

@@ -9,36 +9,37 @@ use borrow.Author.Tests.{lt-ltb, le-ltb}
 use Rattle.lists.specs.Tests.{three, by-cases}
 use Rattle.lists.specs.Sorting.{insertBy}
 use Rattle.lists.specs.Orders.{lower, higher, by-lower, by-equal, by-higher, lex-first, lex-second, lex-last}
-use Rattle.search_model.specs.Branches.{Branch, boundOf, placeOf, levelOf, pageOf, higherFirst, tied, before, pageIn}
-use Rattle.search_frontier.specs.Keys.{keyOf, boundIn, placeIn, levelIn, numberIn, branchIn}
+use Rattle.search_model.specs.Numbers.{maxPages, maxLevel}
+use Rattle.search_model.specs.Branches.{Branch, lastPlace, boundOf, placeOf, levelOf, pageOf, higherFirst, tied, before, pageIn}
+use Rattle.search_frontier.specs.Keys.{levels, places, keyOf, boundIn, placeIn, levelIn, numberIn, branchIn}
 use Rattle.pagestore.specs.Store.{inRange}
 use Rattle.pagestore.specs.Store.RangeLaws.{range-fits}
 
 -- ---- PAGES IN RANGE
 
-pub page-inside : (b : List ℕ) (p : ℕ) → inRange b p ≡ true → (p ≡ pageIn b p) × (p < 16384)
+pub page-inside : (b : List ℕ) (p : ℕ) → inRange b p ≡ true → (p ≡ pageIn b p) × (p < maxPages)
 unfolding pageIn
 page-inside b p h = (rw h, range-fits b p h)
 
-pub page-outside : (b : List ℕ) (p : ℕ) → inRange b p ≡ false → (0 ≡ pageIn b p) × (0 < 16384)
+pub page-outside : (b : List ℕ) (p : ℕ) → inRange b p ≡ false → (0 ≡ pageIn b p) × (0 < maxPages)
 unfolding pageIn
 page-outside b p h = (rw h, omega arith)
 
-pub page-small : (b : List ℕ) (p : ℕ) → pageIn b p < 16384
+pub page-small : (b : List ℕ) (p : ℕ) → pageIn b p < maxPages
 unfolding pageIn
 page-small b p = by-cases (inRange b p) (λ e. rw e (range-fits b p e)) (λ e. rw e (omega arith))
 
 -- ---- KEYS
 
 -- the number of a branch in the frontier's heap
-module _ (x : Branch) (place : x .place < 8192) (level : x .level ≤ 4) (page : x .page < 16384) where
-  upper : keyOf x / 16384 ≡ (x .bound * 8192 + x .place) * 5 + (4 - x .level)
+module _ (x : Branch) (place : x .place ≤ lastPlace) (level : x .level ≤ maxLevel) (page : x .page < maxPages) where
+  upper : keyOf x / maxPages ≡ (x .bound * places + x .place) * levels + (maxLevel - x .level)
   upper = omega arith
 
-  middle : keyOf x / 16384 / 5 ≡ x .bound * 8192 + x .place
+  middle : keyOf x / maxPages / levels ≡ x .bound * places + x .place
   middle = let u = upper in omega arith
 
-  pub key-level : keyOf x / 16384 % 5 ≡ 4 - x .level
+  pub key-level : keyOf x / maxPages % levels ≡ maxLevel - x .level
   key-level = let u = upper in omega arith
 
   pub key-place : placeIn (keyOf x) ≡ x .place
@@ -58,13 +59,13 @@ module _ (x : Branch) (place : x .place < 8192) (level : x .level ≤ 4) (page :
 
 -- a number from its digits
 abbrev parts : ℕ → ℕ → ℕ → ℕ → ℕ
-parts b p l g = ((b * 8192 + p) * 5 + l) * 16384 + g
+parts b p l g = ((b * places + p) * levels + l) * maxPages + g
 
-key-parts : (a : ℕ) → a ≡ parts (boundIn a) (placeIn a) (a / 16384 % 5) (numberIn a)
+key-parts : (a : ℕ) → a ≡ parts (boundIn a) (placeIn a) (a / maxPages % levels) (numberIn a)
 key-parts a =
-    let u : a ≡ a / 16384 * 16384 + a % 16384 = omega arith in
-    let v : a / 16384 ≡ a / 16384 / 5 * 5 + a / 16384 % 5 = omega arith in
-    let w : a / 16384 / 5 ≡ a / 16384 / 5 / 8192 * 8192 + a / 16384 / 5 % 8192 = omega arith in
+    let u : a ≡ a / maxPages * maxPages + a % maxPages = omega arith in
+    let v : a / maxPages ≡ a / maxPages / levels * levels + a / maxPages % levels = omega arith in
+    let w : a / maxPages / levels ≡ a / maxPages / levels / places * places + a / maxPages / levels % places = omega arith in
     omega arith
 
 pub key-order : (a b : ℕ) → ltb a b ≡ before (branchIn a) (branchIn b)
@@ -74,17 +75,17 @@ key-order a b =
     let y = branchIn b in
     let ea = key-parts a in
     let eb = key-parts b in
-    let la : a / 16384 % 5 < 5 = omega arith in
-    let lb : b / 16384 % 5 < 5 = omega arith in
-    let pa : placeIn a < 8192 = omega arith in
-    let pb : placeIn b < 8192 = omega arith in
-    let na : numberIn a < 16384 = omega arith in
-    let nb : numberIn b < 16384 = omega arith in
+    let la : a / maxPages % levels < levels = omega arith in
+    let lb : b / maxPages % levels < levels = omega arith in
+    let pa : placeIn a < places = omega arith in
+    let pb : placeIn b < places = omega arith in
+    let na : numberIn a < maxPages = omega arith in
+    let nb : numberIn b < maxPages = omega arith in
     three (boundIn a) (boundIn b)
     (λ h. lt-ltb a b (omega arith) ∙ sym (by-lower boundOf tied x y h))
     (λ h. three (placeIn a) (placeIn b)
     (λ g. lt-ltb a b (omega arith) ∙ sym (by-equal boundOf tied x y h ∙ by-lower placeOf higherFirst x y g))
-    (λ g. three (a / 16384 % 5) (b / 16384 % 5)
+    (λ g. three (a / maxPages % levels) (b / maxPages % levels)
     (λ e. lt-ltb a b (omega arith) ∙ sym (by-equal boundOf tied x y h ∙ by-equal placeOf higherFirst x y g ∙ lex-first (higher levelOf) (lower pageOf) x y (lt-ltb (levelIn b) (levelIn a) (omega arith))))
     (λ e. three (numberIn a) (numberIn b)
     (λ f. lt-ltb a b (omega arith) ∙ sym (by-equal boundOf tied x y h ∙ by-equal placeOf higherFirst x y g

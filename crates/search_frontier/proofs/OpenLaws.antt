@@ -56,7 +56,7 @@ pub record Opening (slots₀ : List ℕ) (n : ℕ) (index asked near whole : Lis
   pub number : count ≡ min (inner .count) 16
   pub tables : Tabled asked near whole
   pub low : level ≤ 3
-  pub first : place < 8192
+  pub first : place ≤ lastPlace
   pub places : at ≤ place + i * 16 ^ level
   pub lengths : length slots ≡ length slots₀
   pub room : n + count ≤ length slots

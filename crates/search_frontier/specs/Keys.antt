@@ -2,12 +2,20 @@
 use mathlib.Core.List.{List, map}
 use Prim.Native.Nat.{ℕ, _+_, _*_, _-_, _/_, _%_, _≤_, _<_}
 use Rattle.search_heap.specs.Heap.{held}
-use Rattle.search_model.specs.Branches.{Branch}
+use Rattle.search_model.specs.Numbers.{maxPages, maxLevel}
+use Rattle.search_model.specs.Branches.{Branch, lastPlace}
 
--- Mixed radix: 16,384 pages, 5 levels (the highest first), 8,192 positions, and the bound above them. So a bound of weighted features
--- (`mostBound`) leaves the key in 64 bits.
+-- how many levels and positions there are
+abbrev pub levels : ℕ
+levels = 5
+
+abbrev pub places : ℕ
+places = 8192
+
+-- Mixed radix: pages, levels (the highest first), positions, and the bound above them. So a bound of weighted features (`mostBound`)
+-- leaves the key in 64 bits.
 abbrev pub keyOf : Branch → ℕ
-keyOf x = ((x .bound * 8192 + x .place) * 5 + (4 - x .level)) * 16384 + x .page
+keyOf x = ((x .bound * places + x .place) * levels + (maxLevel - x .level)) * maxPages + x .page
 
 -- no bound of 16 features of weights up to 1,000 is above this (`bound-small`)
 abbrev pub mostBound : ℕ
@@ -16,22 +24,22 @@ mostBound = 19030015000
 -- the fields of a branch fit a key
 pub record Fits (x : Branch) : Type 0 where
   pub bound : x .bound ≤ mostBound
-  pub place : x .place < 8192
-  pub level : x .level ≤ 4
-  pub page : x .page < 16384
+  pub place : x .place ≤ lastPlace
+  pub level : x .level ≤ maxLevel
+  pub page : x .page < maxPages
 
 -- and back, field by field
 abbrev pub boundIn : ℕ → ℕ
-boundIn key = key / 16384 / 5 / 8192
+boundIn key = key / maxPages / levels / places
 
 abbrev pub placeIn : ℕ → ℕ
-placeIn key = key / 16384 / 5 % 8192
+placeIn key = key / maxPages / levels % places
 
 abbrev pub levelIn : ℕ → ℕ
-levelIn key = 4 - key / 16384 % 5
+levelIn key = maxLevel - key / maxPages % levels
 
 abbrev pub numberIn : ℕ → ℕ
-numberIn key = key % 16384
+numberIn key = key % maxPages
 
 unfoldable pub branchIn : ℕ → Branch
 branchIn key = record { bound = boundIn key; place = placeIn key; level = levelIn key; page = numberIn key }

@@ -9,7 +9,7 @@ use Rattle.pagestore.specs.declared.Entry.{Entry}
 use Rattle.pagestore.specs.Store.{innerAt, entriesIn}
 use Rattle.search_heap.specs.Heap.{Heap}
 use Rattle.search_model.specs.Asked.{Seekable, Asked, spanBound, asking}
-use Rattle.search_model.specs.Branches.{before, branchOf, branches}
+use Rattle.search_model.specs.Branches.{lastPlace, before, branchOf, branches}
 use Rattle.search_frontier.specs.Keys.{keyOf, mostBound, frontier}
 
 -- a question that can be searched for, and its tables
@@ -30,7 +30,7 @@ EntryKey index asked l at e r = (k : ℕ) → r ≡ keyOf (branchOf index (askin
 pub record Opens (slots : List ℕ) (n : ℕ) (index asked near whole : List ℕ) (level place page : ℕ) : Type 0 where
   pub tables : Tabled asked near whole
   pub low : level ≤ 3
-  pub first : place < 8192
+  pub first : place ≤ lastPlace
   pub heap : Heap n slots
   pub room : n + length (entriesIn (innerAt index page)) ≤ length slots
 

@@ -1,6 +1,7 @@
 // The frontier: keys of branches in a heap.
 ghost use mathlib.Core.Path.{_≡_};
 ghost use Prim.Native.Nat.{_≤_, _<_, min};
+ghost use Rattle.search_model.specs.Numbers.{maxPages, maxLevel};
 ghost use Rattle.search_model.specs.Branches.{lastPlace, pageIn};
 ghost use Rattle.search_frontier.specs.Keys.{boundIn, placeIn, levelIn, numberIn, keyOf, Fits};
 ghost use Rattle.search_frontier.specs.Opening.{Tabled, SpanBound, EntryKey, Opens, OpenedAny};
@@ -13,31 +14,42 @@ use pagestore::entry_at;
 use pagestore::in_range;
 use search_heap::push;
 use search_leaves::filled;
+use search_model::LAST_PLACE;
+use search_model::MAX_LEVEL;
 use tree::leaf_count;
+
+// A key holds so many pages, levels and positions; the highest level comes first.
+const PAGES: u64 = 16384;
+
+const TOP: u64 = MAX_LEVEL as u64;
+
+const LEVELS: u64 = TOP + 1;
+
+const PLACES: u64 = LAST_PLACE as u64 + 1;
 
 // The branch of a key, field by field.
 pub fn bound_in(key: u64) -> u64
     ensures { λ r. ⌜ r ≡ boundIn key ⌝ }
 {
-    key / 16384 / 5 / 8192
+    key / PAGES / LEVELS / PLACES
 }
 
 pub fn place_in(key: u64) -> u32
     ensures { λ r. ⌜ r ≡ placeIn key ⌝ }
 {
-    (key / 16384 / 5 % 8192) as u32
+    (key / PAGES / LEVELS % PLACES) as u32
 }
 
 pub fn level_in(key: u64) -> usize
     ensures { λ r. ⌜ r ≡ levelIn key ⌝ }
 {
-    (4 - key / 16384 % 5) as usize
+    (TOP - key / PAGES % LEVELS) as usize
 }
 
 pub fn page_in(key: u64) -> u32
     ensures { λ r. ⌜ r ≡ numberIn key ⌝ }
 {
-    (key % 16384) as u32
+    (key % PAGES) as u32
 }
 
 // The key of a branch.
@@ -45,22 +57,22 @@ pub fn key_of(bound: u64, place: usize, level: usize, page: u32) -> u64
     requires { ⌜ Fits (record { bound = bound; place = place; level = level; page = page }) ⌝ }
     ensures { λ r. ⌜ r ≡ keyOf (record { bound = bound; place = place; level = level; page = page }) ⌝ }
 {
-    let upper = (bound * 8192 + place as u64) * 5 + (4 - level as u64);
-    upper * 16384 + page as u64
+    let upper = (bound * PLACES + place as u64) * LEVELS + (TOP - level as u64);
+    upper * PAGES + page as u64
 }
 
 // A page of the index, or 0.
 pub fn page_of(index: &[u8], page: u32) -> u32
-    ensures { λ r. ⌜ (r ≡ pageIn (now (index .entry)) page) × (r < 16384) ⌝ }
+    ensures { λ r. ⌜ (r ≡ pageIn (now (index .entry)) page) × (r < maxPages) ⌝ }
 {
     if in_range(index, page) { page } else { 0 }
 }
 
 // A position, or the greatest that a key holds.
 fn place_of(at: usize) -> usize
-    ensures { λ r. ⌜ (r ≡ min at lastPlace) × (r < 8192) ⌝ }
+    ensures { λ r. ⌜ (r ≡ min at lastPlace) × (r ≤ lastPlace) ⌝ }
 {
-    if at < 8191 { at } else { 8191 }
+    if at < LAST_PLACE { at } else { LAST_PLACE }
 }
 
 // The pair of a key.
@@ -92,7 +104,7 @@ fn entry_key(
     level: usize,
     at: usize,
 ) -> u64
-    requires { ⌜ Tabled (now asked) (now near) (now whole) × (level ≤ 4) ⌝ }
+    requires { ⌜ Tabled (now asked) (now near) (now whole) × (level ≤ maxLevel) ⌝ }
     ensures { λ r. ⌜ EntryKey (now (index .entry)) (now (asked .entry)) level at entry r ⌝ }
 {
     let bound = span_bound(asked, near, whole, entry);
@@ -114,7 +126,8 @@ pub fn open_page(
     page: u32,
 ) -> usize
     requires { ⌜ Opens (now slots) n (now index) (now asked) (now near) (now whole) level place page ⌝ }
-    ensures { λ r. ⌜ OpenedAny (now (slots .entry)) n (now (index .entry)) (now (asked .entry)) level place page r (now (slots .exit)) ⌝ }
+    ensures { λ r. ⌜ OpenedAny (now (slots .entry)) n (now (index .entry)) (now (asked .entry)) level place page r
+        (now (slots .exit)) ⌝ }
 {
     let count = filled(count_at(index, page) as usize);
     let mut held = n;

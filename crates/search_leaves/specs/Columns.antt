@@ -11,6 +11,7 @@ use Rattle.geometry.specs.Stored.{pointOf}
 use Rattle.pagestore.specs.declared.Record.{Record}
 use Rattle.pagestore.specs.Layout.{leafOf}
 use Rattle.pagestore.specs.LayoutLaws.{noRecord}
+use Rattle.search_model.specs.Numbers.{pageSize, maxItems, maxFeatures}
 use Rattle.search_rows.specs.declared.Row.{Row}
 use Rattle.search_rows.specs.Held.{behindAll}
 
@@ -35,16 +36,16 @@ mostCost = 4190209
 
 -- a leaf page, an asked point whose coordinates are as stored, and n of the page's 16 slots
 pub record Sized (page q : List ℕ) (n : ℕ) : Type 0 where
-  pub bytes : length page ≡ 1024
-  pub most : length q ≤ 16
+  pub bytes : length page ≡ pageSize
+  pub most : length q ≤ maxFeatures
   pub ranges : All (λ c. c < 2048) q
-  pub few : n ≤ 16
+  pub few : n ≤ maxItems
 
 -- the sums of the first n records hold what their first m coordinates cost
 pub record Sums (page q : List ℕ) (m n : ℕ) (sums : List ℕ) : Type 0 where
   pub sized : Sized page q n
   pub within : m ≤ length q
-  pub slots : length sums ≡ 16
+  pub slots : length sums ≡ maxItems
   pub each : (r : ℕ) → r < n → getD sums r 0 + costFrom page q m r ≡ costFrom page q 0 r
   pub low : (r : ℕ) → r < n → getD sums r 0 ≤ mostCost * m
 
@@ -64,7 +65,7 @@ pub record Quarters (page q : List ℕ) (s m n : ℕ) (sums : List ℕ) : Type 0
   pub sized : Sized page q n
   pub within : 4 * s ≤ length q
   pub turns : m ≤ s
-  pub slots : length sums ≡ 16
+  pub slots : length sums ≡ maxItems
   pub each : (r : ℕ) → r < n → getD sums r 0 + quartersLeft page q s m r ≡ costFrom page q 0 r
   pub low : (r : ℕ) → r < n → getD sums r 0 ≤ mostCost * (4 * m)
 

@@ -1,9 +1,10 @@
-// The squared distances of a leaf's records together, coordinate by coordinate: a column of the page holds one coordinate of all its records, so that
-// each loop goes over neighbours.
+// The squared distances of a leaf's records together, coordinate by coordinate: a column of the page holds one coordinate of all its
+// records, so that each loop goes over neighbours.
 ghost use mathlib.Core.Path.{_≡_};
 ghost use Prim.Native.Nat.{_+_, _*_, _≤_, _<_};
 ghost use lib.IntN.{pos, natAbs, _-ℤ_};
 ghost use lib.ListN.{length, getD};
+ghost use Rattle.search_model.specs.Numbers.{pageSize, maxItems, maxFeatures};
 ghost use Rattle.search_leaves.specs.Columns.{coordsAt, gapSquare, mostCost, Sums, Quarters};
 use pagestore::read_coord;
 
@@ -35,7 +36,7 @@ fn square_gap(x: u16, y: u16) -> u32
 
 // What coordinate m of record r costs, where that of the asked point is x.
 fn cost_at(page: &[u8], m: usize, r: usize, x: u16) -> u32
-    requires { ⌜ (length (now page) ≡ 1024) × (m < 16) × (r < 16) × (x < 2048) ⌝ }
+    requires { ⌜ (length (now page) ≡ pageSize) × (m < maxFeatures) × (r < maxItems) × (x < 2048) ⌝ }
     ensures { λ c. ⌜ (c ≡ gapSquare x (getD (coordsAt (now (page .entry)) r) m 0)) × (c ≤ mostCost) ⌝ }
 {
     square_gap(x, read_coord(page, m, r))

@@ -4,6 +4,7 @@ ghost use Prim.Native.Nat.{_≤_, _<_, min};
 ghost use lib.ListN.{length, take};
 ghost use Rattle.lists.specs.Basics.{indicator};
 ghost use Rattle.lists.specs.Sorting.{count};
+ghost use Rattle.search_model.specs.Numbers.{pageSize, maxItems};
 ghost use Rattle.search_rows.specs.Held.{Held};
 ghost use Rattle.search_leaves.specs.Columns.{notPast, BehindPast};
 ghost use Rattle.search_model.specs.Asked.{AskedPoint, Seekable};
@@ -13,17 +14,25 @@ use pagestore::in_range;
 use pagestore::lanes;
 use pagestore::read_count;
 use pagestore::read_ident;
+use search_model::MAX_ITEMS;
+use search_model::PAGE_SIZE;
+use search_model::REACHES_FROM;
 use search_rows::Row;
 use search_rows::behind;
 use search_rows::offer;
 
 mod columns;
 
-// How many items a page with this count has: there are 16 slots.
+// The greatest distance of 32 bits.
+const FAR: u32 = 4294967295;
+
+const WIDE_FAR: u64 = FAR as u64;
+
+// How many items a page with this count has: there are so many slots.
 pub fn filled(count: usize) -> usize
-    ensures { λ r. ⌜ r ≡ min count 16 ⌝ }
+    ensures { λ r. ⌜ r ≡ min count maxItems ⌝ }
 {
-    if count < 16 { count } else { 16 }
+    if count < MAX_ITEMS { count } else { MAX_ITEMS }
 }
 
 fn wide(x: u32) -> u64
@@ -38,17 +47,13 @@ fn limit_of(distances: &[u64], n: usize, k: usize) -> u32
     ensures { λ r. ⌜ BehindPast (now (distances .entry)) n k r ⌝ }
 {
     if n < k {
-        return 4294967295;
+        return FAR;
     }
     if k == 0 {
-        return 4294967295;
+        return FAR;
     }
     let last = distances[k - 1];
-    if last < 4294967295 {
-        last as u32
-    } else {
-        4294967295
-    }
+    if last < WIDE_FAR { last as u32 } else { FAR }
 }
 
 fn not_past(limit: u32, x: u32) -> u32
@@ -59,7 +64,7 @@ fn not_past(limit: u32, x: u32) -> u32
 
 // How many of the first n sums are not beyond the limit.
 fn within(sums: &[u32], n: usize, limit: u32) -> u32
-    requires { ⌜ (n ≤ length (now sums)) × (n ≤ 16) ⌝ }
+    requires { ⌜ (n ≤ length (now sums)) × (n ≤ maxItems) ⌝ }
     ensures { λ r. ⌜ r ≡ count (notPast limit) (take n (now (sums .entry))) ⌝ }
 {
     let mut near = 0;
@@ -90,8 +95,9 @@ fn offer_record(
     n: usize,
     k: usize,
 ) -> usize
-    requires { ⌜ (length (now page) ≡ 1024) × (i < 16) × Held (now distances) (now tags) n k ⌝ }
-    ensures { λ r. ⌜ OfferedRecord (now (page .entry)) i distance position (now (distances .entry)) (now (tags .entry)) n k r (now (distances .exit)) (now (tags .exit)) ⌝ }
+    requires { ⌜ (length (now page) ≡ pageSize) × (i < maxItems) × Held (now distances) (now tags) n k ⌝ }
+    ensures { λ r. ⌜ OfferedRecord (now (page .entry)) i distance position (now (distances .entry)) (now (tags .entry)) n k r
+        (now (distances .exit)) (now (tags .exit)) ⌝ }
 {
     if behind(distances, n, k, distance) {
         return n;
@@ -119,12 +125,13 @@ fn offer_leaf(
     n: usize,
     k: usize,
 ) -> usize
-    requires { ⌜ (length (now page) ≡ 1024) × AskedPoint (now q) × Held (now distances) (now tags) n k ⌝ }
-    ensures { λ r. ⌜ OfferedPart (now (page .entry)) (now (q .entry)) position (now (distances .entry)) (now (tags .entry)) n k r (now (distances .exit)) (now (tags .exit)) ⌝ }
+    requires { ⌜ (length (now page) ≡ pageSize) × AskedPoint (now q) × Held (now distances) (now tags) n k ⌝ }
+    ensures { λ r. ⌜ OfferedPart (now (page .entry)) (now (q .entry)) position (now (distances .entry)) (now (tags .entry)) n k r
+        (now (distances .exit)) (now (tags .exit)) ⌝ }
 {
     let count = filled(read_count(page));
     let full = lanes(count);
-    let mut sums = [0u32; 16];
+    let mut sums = [0u32; MAX_ITEMS];
     add_columns(page, q, full, &mut sums);
     if within(&sums, full, limit_of(distances, n, k)) == 0 {
         return n;
@@ -151,12 +158,13 @@ pub fn visit_leaf(
     k: usize,
 ) -> usize
     requires { ⌜ Seekable (now asked) × Held (now distances) (now tags) n k ⌝ }
-    ensures { λ r. ⌜ OfferedLeaf (now (index .entry)) page (now (asked .entry)) position (now (distances .entry)) (now (tags .entry)) n k r (now (distances .exit)) (now (tags .exit)) ⌝ }
+    ensures { λ r. ⌜ OfferedLeaf (now (index .entry)) page (now (asked .entry)) position (now (distances .entry)) (now (tags .entry)) n k r
+        (now (distances .exit)) (now (tags .exit)) ⌝ }
 {
     if in_range(index, page) {
-        let at = page as usize * 1024;
-        let end = at + 1024;
-        let d = asked.len() - 48;
+        let at = page as usize * PAGE_SIZE;
+        let end = at + PAGE_SIZE;
+        let d = asked.len() - REACHES_FROM;
         offer_leaf(
             &index[at..end],
             &asked[..d],

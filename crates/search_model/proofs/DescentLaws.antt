@@ -17,6 +17,7 @@ use Rattle.search_theory.specs.FrontierLaws.{seek-end, seek-read, seek-root}
 use Rattle.search_theory.specs.VisitLaws.{visit-read}
 use Rattle.search_rows.specs.declared.Row.{Row}
 use Rattle.tree_model.specs.Trees.{Item, leaves}
+use Rattle.search_model.specs.Numbers.{maxFeatures}
 use Rattle.search_model.specs.Asked.{Asked, Askable}
 use Rattle.search_model.specs.Branches.{Branch, boundOf, placeOf, levelOf, pageOf, higherFirst, lastPlace, tied, before, isLeaf, kids, rowsAt}
 use Rattle.search_model.specs.Visit.{ranking, answerOf, placed}
@@ -67,7 +68,7 @@ shown-answer o u e =
     let n : length (o .read) ≡ length (u .read) = sym (length-map (o .read) placed) ∙ ap (λ (x : List Row × List (ℕ × ℕ)). length (x .1)) e ∙ length-map (u .read) placed in
     λ i. record { rows = e i .0; leaves = n i }
 
-module _ (c : List ℕ) (q : Asked) (d : ℕ) (low : 1 ≤ d) (high : d ≤ 16) (suits : Askable d q) where
+module _ (c : List ℕ) (q : Asked) (d : ℕ) (low : 1 ≤ d) (high : d ≤ maxFeatures) (suits : Askable d q) where
   abbrev Down : ℕ → Branch → Type 0
   Down l x = Descends isLeaf (kids c q) before l x
 

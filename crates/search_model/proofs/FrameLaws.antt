@@ -17,6 +17,7 @@ use Rattle.pagestore.specs.declared.Record.{Record}
 use Rattle.pagestore.specs.Store.{inRange, innerAt, entriesIn}
 use Rattle.tree_model.specs.Trees.{Item, noRecord, rankOf, firstKey, lastKey, records, leaves, entryOf}
 use Rattle.tree.specs.Lookup.{leafCount}
+use Rattle.search_model.specs.Numbers.{maxFeatures}
 use Rattle.search_model.specs.Asked.{Asked, spanBound, Askable}
 use Rattle.search_model.specs.Branches.{Branch, lastPlace, isLeaf, pageIn, branches, opened, kids}
 use Rattle.search_model.specs.Questions.{leafBound, leafBranch}
@@ -159,7 +160,7 @@ ordered-kids d l t o =
     all-map (λ u h. record { up = h .0; right = h .1 .0; some = h .1 .1 })
     (all-both (parts-up (rankOf d) (records (suc l)) (t .1) (o .up)) (all-both (parts-right (records (suc l)) (t .1) (o .right)) (o .some .1)))
 
-module _ (d : ℕ) (low : 1 ≤ d) (high : d ≤ 16) (q : Asked) (suits : Askable d q) where
+module _ (d : ℕ) (low : 1 ≤ d) (high : d ≤ maxFeatures) (q : Asked) (suits : Askable d q) where
   abbrev spanOf : (l : ℕ) → Item (suc l) → ℕ
   spanOf l t = spanBound q (firstKey d (records (suc l) t)) (lastKey d (records (suc l) t))
 

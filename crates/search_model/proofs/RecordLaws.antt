@@ -25,6 +25,7 @@ use Rattle.pagestore.specs.declared.Record.{Record}
 use Rattle.pagestore.specs.Fits.{RecordFits}
 use Rattle.tree_model.specs.Trees.{pointIn, keyOf, rankOf, noRecord, firstKey, lastKey}
 use Rattle.tree_model.specs.Sound.{RecordOk}
+use Rattle.search_model.specs.Numbers.{maxFeatures}
 use Rattle.search_model.specs.Asked.{Asked, distanceTo, spanBound, Askable}
 
 module _ {A : Type 0} (f : A → ℕ) where
@@ -65,7 +66,7 @@ pub span-between : (d : ℕ) (q : Asked) (rs : List Record) → spanBound q (fir
 unfolding spanBound firstKey lastKey keyOf
 span-between d q rs = refl
 
-module _ (d : ℕ) (low : 1 ≤ d) (high : d ≤ 16) where
+module _ (d : ℕ) (low : 1 ≤ d) (high : d ≤ maxFeatures) where
   point-length : (r : Record) → Right d r → length (pointIn d r) ≡ d
   point-length r g = length-point (take d (r .coords)) ∙ length-take-le d (r .coords) (omega (arith, g .fits .slots))
 

@@ -22,6 +22,7 @@ use Rattle.pagestore.specs.Store.PageLaws.{leaf-view, inner-view, records-fit}
 use Rattle.pagestore.specs.Store.RangeLaws.{range-high}
 use Rattle.tree_model.specs.Trees.{Item, records, pages, leaves, entryOf, node, Rep, treeAt, treeOf, live, leavesOf}
 use Rattle.tree_model.specs.Sound.{isPage, freshPages, RootFilled, Filled, SoundIndex}
+use Rattle.search_model.specs.Numbers.{maxLevel}
 use Rattle.search_model.proofs.FrameLaws.{Frame, Branching, Ordered, ordered-kids, concatMap-records, leaf-records, parts-right}
 
 -- ---- A TREE AND ITS LEAVES
@@ -90,7 +91,7 @@ root-branching zero t r f h = rw (leaf-records t) at h
 root-branching (suc l) t r f h = (r .0, all-map (filled-branching l) f)
 
 -- a tree of 65,535 records has 4 levels of inner pages at most
-pub root-level : (l : ℕ) (t : Item (suc l)) → RootFilled l t → All (Filled l) (t .1) → length (records (suc l) t) ≤ 65535 → l ≤ 4
+pub root-level : (l : ℕ) (t : Item (suc l)) → RootFilled l t → All (Filled l) (t .1) → length (records (suc l) t) ≤ 65535 → l ≤ maxLevel
 unfolding RootFilled records
 root-level zero t r f h = omega arith
 root-level (suc l) t r f h =
@@ -182,7 +183,7 @@ module _ (b : List ℕ) (s : SoundIndex b) where
   unfolding live
   live-length = sym (s .total)
 
-  pub tree-level : v .level ≤ 4
+  pub tree-level : v .level ≤ maxLevel
   tree-level = root-level (v .level) tree (s .rootFill) (s .fills) (omega (arith, live-length, s .most))
 
   pub tree-leaves : (n : ℕ) → 8 ≤ n → v .total ≤ n → 8 * length (leavesOf v) ≤ n

@@ -19,6 +19,7 @@ use Rattle.pagestore.specs.declared.Record.{Record}
 use Rattle.pagestore.specs.Store.{level, total, root, View, viewOf, pagesIn, leafAt, recordsIn, fieldAt}
 use Rattle.tree_model.specs.Trees.{Item, leaves, pages, treeOf, leavesOf}
 use Rattle.tree_model.specs.Sound.{SoundIndex}
+use Rattle.search_model.specs.Numbers.{maxLevel}
 use Rattle.search_model.specs.Asked.{Asked, distanceTo, candidate, Askable}
 use Rattle.search_model.specs.Branches.{Branch, boundOf, lastPlace, tied, before, isLeaf, pageIn, kids, rootBranch, rowOf, rowsAmong, rowsAt}
 use Rattle.search_model.specs.Visit.{ranking, answerOf, room, visited, readsNone, found}
@@ -78,7 +79,7 @@ module _ (b : List ℕ) (s : SoundIndex b) (q : Asked) (suits : Askable (viewOf 
   unfolding readsNone
   reads-some c h t =
       let z : eqb (fieldAt total c) 0 ≡ false = ne-eqb (fieldAt total c) 0 (omega (arith, h .total)) in
-      let w : ltb 4 (fieldAt level c) ≡ false = le-ltb 4 (fieldAt level c) (omega (arith, h .level, tree-level b s)) in rw (z, w)
+      let w : ltb maxLevel (fieldAt level c) ≡ false = le-ltb maxLevel (fieldAt level c) (omega (arith, h .level, tree-level b s)) in rw (z, w)
 
   -- the visit from the root is that of all leaves by (bound, position)
   pub visited-like : (c : List ℕ) → Like c → 0 < v .total → shown (visited c q) ≡ shown (bestFirst ranking boundOf (rowsAt c q) (q .k) tied (indexLeaves b q))

@@ -14,6 +14,7 @@ use Rattle.geometry.specs.Questions.{sizeOf, askedOf, Packed}
 use Rattle.geometry.specs.Stored.{pointOf}
 use Rattle.pagestore.specs.declared.Record.{Record}
 use Rattle.tree_model.specs.Trees.{pointIn}
+use Rattle.search_model.specs.Numbers.{maxFeatures}
 
 -- the features asked for, one for each coordinate, and how many rows
 pub record Asked : Type 0 where
@@ -54,7 +55,7 @@ askingPoint p k = plainly (pointOf p) k
 -- a point that can be asked: 1 to 16 coordinates in range, as stored
 pub record AskedPoint (p : List ℕ) : Type 0 where
   pub some : 1 ≤ length p
-  pub most : length p ≤ 16
+  pub most : length p ≤ maxFeatures
   pub ranges : All (λ c. c ≤ 2000) p
 
 -- the point of a question that is one list: its low ends

@@ -1,3 +1,4 @@
+pub mod Numbers
 pub mod Asked
 pub mod Branches
 pub mod Visit

@@ -16,6 +16,7 @@ use Rattle.search_rows.specs.declared.Row.{Row}
 use Rattle.pagestore.specs.declared.Record.{Record}
 use Rattle.pagestore.specs.Store.{View}
 use Rattle.tree_model.specs.Trees.{Item, firstKey, lastKey, live, leavesOf}
+use Rattle.search_model.specs.Numbers.{pageSize}
 use Rattle.search_model.specs.Asked.{Asked, candidate, spanBound}
 use Rattle.search_model.specs.Branches.{Branch, before, rowsAmong}
 use Rattle.search_model.specs.Visit.{ranking, placed}
@@ -97,4 +98,4 @@ pub data Exchanged (d : ℕ) (read : Item 1 → Bool) : List (Item 1) → List (
 -- c has the length of the index b and its bytes, but for those of the pages ps
 pub record AgreeBut (ps b c : List ℕ) : Type 0 where
   pub lent : length c ≡ length b
-  pub bytes : (i : ℕ) → mult (i / 1024) ps ≡ 0 → getD c i 0 ≡ getD b i 0
+  pub bytes : (i : ℕ) → mult (i / pageSize) ps ≡ 0 → getD c i 0 ≡ getD b i 0

@@ -11,6 +11,7 @@ use Rattle.search_theory.specs.Nearest.{Ranking, Outcome, exceeds}
 use Rattle.search_theory.specs.Frontier.{seek}
 use Rattle.search_rows.specs.declared.Row.{Row}
 use Rattle.search_rows.specs.Rows.{byDistance}
+use Rattle.search_model.specs.Numbers.{maxLevel}
 use Rattle.search_model.specs.Asked.{Asked, spanBound}
 use Rattle.search_model.specs.Branches.{Branch, boundOf, before, isLeaf, pageIn, branches, opened, kids, rootBranch, rowsAmong, rowsAt}
 
@@ -26,18 +27,34 @@ pub record Answer : Type 0 where
 abbrev pub answerOf : Outcome Row Branch → Answer
 answerOf o = record { rows = o .rows; leaves = length (o .read) }
 
+-- many records, and few
+abbrev pub manyRecords : ℕ
+manyRecords = 4096
+
+abbrev pub fewRecords : ℕ
+fewRecords = 1024
+
+abbrev pub largeRoom : ℕ
+largeRoom = 8192
+
+abbrev pub middleRoom : ℕ
+middleRoom = 512
+
+abbrev pub smallRoom : ℕ
+smallRoom = 128
+
 -- How many branches the frontier has room for: no more than there are leaves, and a leaf but the root has 8 records or more.
 unfoldable pub room : List ℕ → ℕ
-room b = if (ltb 4096 (fieldAt total b)) 8192 (if (ltb 1024 (fieldAt total b)) 512 128)
+room b = if (ltb manyRecords (fieldAt total b)) largeRoom (if (ltb fewRecords (fieldAt total b)) middleRoom smallRoom)
 
 -- The visit from the root on. As many steps are taken at most as twice the pages: in a sound index they and the room are enough.
 unfoldable pub visited : List ℕ → Asked → Outcome Row Branch
 unfolding seek exceeds filter insertAll offerAll spanBound pageIn branches opened rowsAmong room
 visited b q = seek ranking boundOf (rowsAt b q) before isLeaf (kids b q) (q .k) (room b) (2 * pagesIn b) (rootBranch b ∷ []) []
 
--- nothing is read where the header's total is 0 (01), or where the root's level is above 4: no sound index has such a root
+-- nothing is read where the header's total is 0 (01), or where the root's level is above the highest: no sound index has such a root
 unfoldable pub readsNone : List ℕ → Bool
-readsNone b = eqb (fieldAt total b) 0 || ltb 4 (fieldAt level b)
+readsNone b = eqb (fieldAt total b) 0 || ltb maxLevel (fieldAt level b)
 
 -- what the search finds in the index b of what is asked
 unfoldable pub found : List ℕ → Asked → Answer

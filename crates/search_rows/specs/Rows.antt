@@ -27,9 +27,12 @@ rowOrder = by distance tieOrder
 abbrev pub byDistance : (Row → Bool) → Ranking Row
 byDistance passes = record { cost = distance; tie = tieOrder; passes = passes }
 
+abbrev pub tagBase : ℕ
+tagBase = 4294967296
+
 -- identifier and position as one number, in the order of the tie rule
 abbrev pub tagOf : Row → ℕ
-tagOf x = x .id * 4294967296 + x .position
+tagOf x = x .id * tagBase + x .position
 
 abbrev pub rowOf : ℕ → ℕ → Row
-rowOf distance tag = record { distance = distance; id = tag / 4294967296; position = tag % 4294967296 }
+rowOf distance tag = record { distance = distance; id = tag / tagBase; position = tag % tagBase }

@@ -13,21 +13,24 @@ pub struct Row {
     pub position: u32,
 }
 
+// A tag holds the identifier above the position, of 32 bits.
+const TAG_BASE: u64 = 4294967296;
+
 // The number that orders rows of equal distance: the identifier, and then the position.
 pub fn tag(row: Row) -> u64
     ensures { λ r. ⌜ (r ≡ tagOf row) × (rowOf (row .distance) r ≡ row) ⌝ }
 {
     let id = row.id as u64;
     let position = row.position as u64;
-    id * 4294967296 + position
+    id * TAG_BASE + position
 }
 
 // The row of a distance and a tag.
 pub fn row_of(distance: u64, tag: u64) -> Row
     ensures { λ r. ⌜ r ≡ rowOf distance tag ⌝ }
 {
-    let id = (tag / 4294967296) as u32;
-    let position = (tag % 4294967296) as u32;
+    let id = (tag / TAG_BASE) as u32;
+    let position = (tag % TAG_BASE) as u32;
     Row {
         distance: distance,
         id: id,
@@ -62,7 +65,8 @@ fn gives_way(distances: &[u64], tags: &[u64], i: usize, distance: u64, tag: u64)
 // Puts the row of (distance, tag) in among the n rows, from the last on; those behind it move up by one.
 fn slide(distances: &mut [u64], tags: &mut [u64], n: usize, distance: u64, tag: u64)
     requires { ⌜ Held (now distances) (now tags) n (n + 1) ⌝ }
-    ensures { λ r. ⌜ Offered (now (distances .entry)) (now (tags .entry)) n (n + 1) (rowOf distance tag) (n + 1) (now (distances .exit)) (now (tags .exit)) ⌝ }
+    ensures { λ r. ⌜ Offered (now (distances .entry)) (now (tags .entry)) n (n + 1) (rowOf distance tag) (n + 1)
+        (now (distances .exit)) (now (tags .exit)) ⌝ }
 {
     let mut i = n;
     while gives_way(distances, tags, i, distance, tag) {
