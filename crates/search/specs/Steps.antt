@@ -5,11 +5,8 @@ use mathlib.Core.Bool.{Bool, true, false}
 use mathlib.Core.List.{List}
 use Prim.Native.Nat.{ℕ, _+_, _*_, _-_, _≤_, _<_}
 use lib.ListN.{length, take, getD}
-use Rattle.lists.specs.Sorting.{count}
 use Rattle.pagestore.specs.Store.{viewOf, level, innerAt, entriesIn, fieldAt}
-use Rattle.tree_model.specs.Trees.{leavesOf}
 use Rattle.tree_model.specs.Sound.{SoundIndex}
-use Rattle.search_theory.specs.Nearest.{nearest}
 use Rattle.search_rows.specs.Held.{rowsIn, behindAll, Held}
 use Rattle.search.specs.declared.Query.{Query}
 use Rattle.search.specs.declared.Seen.{Seen}
@@ -17,8 +14,8 @@ use Rattle.search_frontier.specs.Keys.{boundIn, levelIn, numberIn}
 use Rattle.search_frontier.specs.Opening.{Tabled}
 use Rattle.search_model.specs.Numbers.{maxFeatures, maxLevel}
 use Rattle.search_model.specs.Asked.{Seekable, Asked, Askable, asking}
-use Rattle.search_model.specs.Visit.{ranking, largeRoom, Answer, answerOf, room, visited, readsNone, found}
-use Rattle.search_model.specs.Questions.{rowsOf, toRead, unreadPages, AgreeBut}
+use Rattle.search_model.specs.Visit.{largeRoom, Answer, answerOf, room, visited, readsNone, found}
+use Rattle.search_model.specs.Questions.{answerDue, unreadPages, AgreeBut}
 
 -- what a visit is lent: room for branches and for k rows
 pub record Visits (index asked near whole : List ℕ) (k : ℕ) (slots distances marks : List ℕ) : Type 0 where
@@ -57,7 +54,8 @@ pub data Ends (index slots : List ℕ) (n : ℕ) (distances : List ℕ) (rows k 
   spent : steps ≡ 0 → Ends index slots n distances rows k steps
   empty : n ≡ 0 → Ends index slots n distances rows k steps
   far : 0 < steps → 0 < n → behindAll distances rows k (boundIn (firstKey slots)) ≡ true → Ends index slots n distances rows k steps
-  full : 0 < steps → 0 < n → behindAll distances rows k (boundIn (firstKey slots)) ≡ false → levelIn (firstKey slots) ≢ 0 → length slots < widened index slots n → Ends index slots n distances rows k steps
+  full : 0 < steps → 0 < n → behindAll distances rows k (boundIn (firstKey slots)) ≡ false → levelIn (firstKey slots) ≢ 0
+      → length slots < widened index slots n → Ends index slots n distances rows k steps
 
 -- r says which
 pub record GoesOn (index slots : List ℕ) (n : ℕ) (distances : List ℕ) (rows k steps : ℕ) (r : Bool) : Type 0 where
@@ -107,4 +105,4 @@ pub record Searched (index : List ℕ) (q : Asked) (distances tags : List ℕ) (
   -- Demand 3: for every sound index of which these are the bytes, but for the pages of the leaves left unread, the rows are the
   -- k nearest of its candidates, and the leaves read are as many as its set has.
   pub sound : (b : List ℕ) → SoundIndex b → Askable (viewOf b .d) q → AgreeBut (unreadPages (viewOf b) q) b index
-      → answerIn distances tags r ≡ record { rows = nearest ranking (q .k) (rowsOf (viewOf b) q); leaves = count (toRead (viewOf b) q) (leavesOf (viewOf b)) }
+      → answerIn distances tags r ≡ answerDue (viewOf b) q

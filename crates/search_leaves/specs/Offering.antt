@@ -33,7 +33,8 @@ abbrev pub Tells : List ℕ → ℕ → Bool → Type 0
 Tells page i r = (q : Asked) → r ≡ candidate q (recordIn page i)
 
 -- the record in slot i of a leaf page is offered, at that distance from whatever is asked
-pub record OfferedRecord (page : List ℕ) (i distance position : ℕ) (distances tags : List ℕ) (n k r : ℕ) (distances' tags' : List ℕ) : Type 0 where
+pub record OfferedRecord (page : List ℕ) (i distance position : ℕ) (distances tags : List ℕ) (n k r : ℕ)
+    (distances' tags' : List ℕ) : Type 0 where
   pub held : Held distances' tags' r k
   pub rows : (q : Asked) → distance ≡ distanceTo q (recordIn page i)
       → rowsIn distances' tags' r ≡ sorting.offerAll rowOrder k (rowsAmong q position (recordIn page i ∷ [])) (rowsIn distances tags n)

@@ -25,7 +25,7 @@ use Rattle.tree_model.specs.Sound.{SoundIndex}
 use Rattle.search_model.specs.Asked.{Asked, candidate, Askable}
 use Rattle.search_model.specs.Branches.{Branch, boundOf, tied, before, rowOf, rowsAmong, rowsAt}
 use Rattle.search_model.specs.Visit.{ranking, Answer, visited, readsNone, found, placed, leavesRead}
-use Rattle.search_model.specs.Questions.{rowsFrom, rowsOf, leafBranch, toRead, setFrom, readingOrder}
+use Rattle.search_model.specs.Questions.{answerDue, rowsFrom, rowsOf, leafBranch, toRead, setFrom, readingOrder}
 use Rattle.search_model.proofs.FrameLaws.{leafBranches}
 use Rattle.search_model.proofs.DescentLaws.{branch-order}
 use Rattle.search_model.proofs.SoundLaws.{leafItems, records-leaves, none-held}
@@ -56,11 +56,7 @@ module _ (b : List ℕ) (s : SoundIndex b) (q : Asked) (suits : Askable (viewOf 
   abbrev v : View
   v = viewOf b
 
-  -- what the search gives
-  abbrev pub asked : Answer
-  asked = record { rows = nearest ranking (q .k) (rowsOf v q); leaves = count (toRead v q) (leavesOf v) }
-
-  exact-some : 0 < v .total → found b q ≡ asked
+  exact-some : 0 < v .total → found b q ≡ answerDue v q
   exact-some t =
       let o : Outcome Row Branch = bestFirst ranking boundOf (rowsAt b q) (q .k) tied (indexLeaves b q) in
       let r : o .rows ≡ nearest ranking (q .k) (rowsOf v q) = flatly.rows-nearest ranking row-order boundOf tied branch-order (indexLeaves b q) (rowsAt b q) (floors b s q suits one) (q .k) one ∙ ap (nearest ranking (q .k)) (rows-all b s q suits one) in
@@ -69,13 +65,13 @@ module _ (b : List ℕ) (s : SoundIndex b) (q : Asked) (suits : Askable (viewOf 
       ∙ ap (λ (xs : List Row). count (λ x. inSet ranking (q .k) xs (x .bound)) (indexLeaves b q)) (rows-all b s q suits one) ∙ count-set v q 0 (leavesOf v) (leaves-some b s q suits one t) in
       found-like b s q suits one b (like-self b s q suits one) t ∙ (λ i. record { rows = r i; leaves = n i })
 
-  exact-none : v .total ≡ 0 → found b q ≡ asked
+  exact-none : v .total ≡ 0 → found b q ≡ answerDue v q
   unfolding viewOf rowsOf
   exact-none e =
       let h = none-held b s e in
       found-none b s q suits one b e ∙ sym (rw (none-rows q 0 (leavesOf v) h, none-set v q (leavesOf v) h, nearest-none (q .k)))
 
-  pub found-exact : found b q ≡ asked
+  pub found-exact : found b q ≡ answerDue v q
   found-exact = by-cases (ltb 0 (v .total)) (λ e. exact-some (ltb-true 0 (v .total) e)) (λ e. exact-none (omega (arith, ltb-false 0 (v .total) e)))
 
   -- rows-nearest: the rows are the k nearest of the live candidates, by distance and then by identifier, or all if fewer live

@@ -1,4 +1,5 @@
--- Demand 3's set in the letter's own words: on every sound index `toRead`, which goes by bounds, picks the leaves that are `Called`, which goes by points.
+-- Demand 3's set in the letter's own words: on every sound index `toRead`, which goes by bounds, picks the leaves that are `Called`,
+-- which goes by points.
 use mathlib.Core.Path.{_≡_, refl, sym, ap, _∙_}
 use mathlib.Core.Bool.{true}
 use mathlib.Core.Logic.{_⊎_, inl, inr}
@@ -101,7 +102,8 @@ module _ (b : List ℕ) (s : SoundIndex b) (q : Asked) (suits : Askable (viewOf 
   unfolding leavesOf Branching
   leaves-bound h = all-map (λ t (o : Ordered (v .d) 0 t). leaf-bound t o (o .some)) (leaves-ordered (v .d) (v .level) (treeOf v) (tree-ordered b s h))
 
-  -- set-points: a leaf is in the set just if it holds records, and fewer than k candidates live or its span has a grid point no farther than the last row
+  -- set-points: a leaf is in the set just if it holds records, and fewer than k candidates live or its span has a grid point no
+  -- farther than the last row
   pub set-points : All (λ t. (toRead v q t ≡ true → Called v q t) × (Called v q t → toRead v q t ≡ true)) (leavesOf v)
   unfolding leavesOf Branching toRead
   set-points =

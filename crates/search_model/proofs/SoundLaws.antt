@@ -1,5 +1,5 @@
--- What the search uses of a sound index: its inner pages hold its tree, records are in order and in range, and 4 levels, room for one branch for
--- 8 records each, and twice as many steps as pages are enough.
+-- What the search uses of a sound index: its inner pages hold its tree, records are in order and in range, and 4 levels, room for one
+-- branch for 8 records each, and twice as many steps as pages are enough.
 use mathlib.Core.Path.{_≡_, refl, sym, ap, ap₂, _∙_}
 use mathlib.Core.Bool.{true}
 use mathlib.Core.List.{List, [], _∷_, _++_, map, append-nil}

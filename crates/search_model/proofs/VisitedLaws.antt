@@ -1,4 +1,5 @@
--- The visit of an index with the header and the inner pages of a sound one is that of its leaves by (bound, position), and no row of a leaf is nearer than its bound.
+-- The visit of an index with the header and the inner pages of a sound one is that of its leaves by (bound, position), and no row of a
+-- leaf is nearer than its bound.
 use mathlib.Core.Path.{_≡_, refl, sym, ap, ap₂, _∙_}
 use mathlib.Core.Bool.{false}
 use mathlib.Core.List.{List, [], _∷_, _++_}

@@ -1,5 +1,5 @@
--- What is asked, as one value, and what it means: how far a record is, whether it is looked for at all, and the bound of a span; the order of rows is
--- `rowOrder`, of the crate search_rows. Every statement about a question goes over this value.
+-- What is asked, as one value, and what it means: how far a record is, whether it is looked for at all, and the bound of a span; the
+-- order of rows is `rowOrder`, of the crate search_rows. Every statement about a question goes over this value.
 use mathlib.Core.Path.{_≡_}
 use mathlib.Core.Bool.{Bool, true}
 use mathlib.Core.List.{List}

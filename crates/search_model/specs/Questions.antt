@@ -9,7 +9,7 @@ use lib.IntN.{ℤ}
 use lib.ListN.{length, getD}
 use Rattle.lists.specs.Basics.{if}
 use Rattle.lists.specs.Counts.{mult}
-use Rattle.lists.specs.Sorting.{filter, sort}
+use Rattle.lists.specs.Sorting.{filter, count, sort}
 use Rattle.geometry.specs.Features.{Feature, distTo, InSpan}
 use Rattle.search_theory.specs.Nearest.{nearest, lastCost, inSet}
 use Rattle.search_rows.specs.declared.Row.{Row}
@@ -19,7 +19,7 @@ use Rattle.tree_model.specs.Trees.{Item, firstKey, lastKey, live, leavesOf}
 use Rattle.search_model.specs.Numbers.{pageSize}
 use Rattle.search_model.specs.Asked.{Asked, candidate, spanBound}
 use Rattle.search_model.specs.Branches.{Branch, before, rowsAmong}
-use Rattle.search_model.specs.Visit.{ranking, placed}
+use Rattle.search_model.specs.Visit.{ranking, Answer, placed}
 
 -- the rows of leaves, the first of them at position p
 unfoldable pub rowsFrom : Asked → ℕ → List (Item 1) → List Row
@@ -47,11 +47,16 @@ unfoldable pub toRead : View → Asked → Item 1 → Bool
 unfolding rowsOf leafBound
 toRead v q t = ltb 0 (length (t .1)) && inSet ranking (q .k) (rowsOf v q) (leafBound (v .d) q t)
 
--- The same set in the letter's own words (`set-points`). The span of the records rs has a whole-number point, within the coordinate range, no farther
--- from what is asked than m:
+-- the answer that demands 2 and 3 call for: the k nearest rows, and as many leaves as the set has
+abbrev pub answerDue : View → Asked → Answer
+answerDue v q = record { rows = nearest ranking (q .k) (rowsOf v q); leaves = count (toRead v q) (leavesOf v) }
+
+-- The same set in the letter's own words (`set-points`). The span of the records rs has a whole-number point, within the coordinate
+-- range, no farther from what is asked than m:
 pub record Near (d : ℕ) (fs : List Feature) (rs : List Record) (m : ℕ) : Type 0 where
   pub point : List ℤ
-  pub inside : InSpan (length fs) (firstKey d rs .pyramid .0) (firstKey d rs .height .0) (lastKey d rs .pyramid .0) (lastKey d rs .height .0) point
+  pub inside :
+      InSpan (length fs) (firstKey d rs .pyramid .0) (firstKey d rs .height .0) (lastKey d rs .pyramid .0) (lastKey d rs .height .0) point
   pub near : distTo fs point ≤ m
 
 -- the distance of the last row that demand 2 calls for
