@@ -19,9 +19,10 @@ use Rattle.pagestore.specs.declared.Entry.{Entry}
 use Rattle.pagestore.specs.declared.Leaf.{Leaf}
 use Rattle.pagestore.specs.Store.{features, root, level, leafAt, innerAt, recordsIn, entriesIn, fieldAt}
 use Rattle.tree_model.specs.Trees.{rankOf}
-use Rattle.tree.specs.Entries.{choose, childAt}
-use Rattle.tree.specs.Keyed.{leafFor, samePoint, heldAmong, holdsAt}
-use Rattle.tree_core.specs.CodeTerms.{otherIdent}
+use Rattle.tree_model.specs.Inserting.{choose}
+use Rattle.tree_model.specs.Deleting.{otherIdent}
+use Rattle.tree_core.specs.Entries.{childAt}
+use Rattle.tree_core.specs.Keyed.{leafFor, samePoint, heldAmong, holdsAt}
 
 -- ---- the leaf
 

@@ -1,7 +1,7 @@
 // Whether a record stands where its key leads: one page of each level is read.
 ghost use mathlib.Core.Path.{_≡_};
 ghost use Rattle.pagestore.specs.Store.{leafAt, recordsIn};
-ghost use Rattle.tree.specs.Keyed.{leafFor, samePoint, heldAmong, holdsAt};
+ghost use Rattle.tree_core.specs.Keyed.{leafFor, samePoint, heldAmong, holdsAt};
 use pagestore::Record;
 use pagestore::features_of;
 use pagestore::record_at;

@@ -19,10 +19,12 @@ use Rattle.pagestore.specs.declared.Leaf.{Leaf}
 use Rattle.pagestore.specs.declared.Inner.{Inner}
 use Rattle.pagestore.specs.Store.{Field, features, root, level, total, leafAt, innerAt, recordsIn, entriesIn, setLeaf, setInner, fieldAt, setField, freePage}
 use Rattle.tree_model.specs.Trees.{rankOf}
-use Rattle.tree_core.specs.Entries.{choose, childAt, leafEntry, innerEntry}
-use Rattle.tree_core.specs.Insertion.{writeInner}
-use Rattle.tree_core.specs.Deletion.{Deleted, deleteRecord, rebalancedItems, Rebalanced, putRebalanced, rebalancedPages, leftOf, leave, fixUnderflow, deleteAt, collapseRoot, takeFromTotal, deleteFrom}
-use Rattle.tree_core.specs.CodeTerms.{otherIdent, grownList, LeftDone, deletedOf, RebalanceDone, leftCount, rebalancedBelow}
+use Rattle.tree_model.specs.Inserting.{choose}
+use Rattle.tree_model.specs.Deleting.{deleteRecord, rebalancedItems, leftOf, otherIdent, leftCount}
+use Rattle.tree_core.specs.Entries.{childAt, leafEntry, innerEntry}
+use Rattle.tree_core.specs.Insertion.{writeInner, Rewritten}
+use Rattle.tree_core.specs.Deletion.{Deleted, putRebalanced, rebalancedPages, leave, fixUnderflow, deleteAt, collapseRoot, takeFromTotal, deleteFrom, rebalancedBelow}
+use Rattle.tree_core.specs.CodeTerms.{grownList, LeftDone, deletedOf, RewriteDone}
 use Rattle.tree_core.specs.declared.Grown.{Grown}
 use Rattle.tree_core.specs.declared.Grown.the-variants.{One, Two}
 use Rattle.tree_core.specs.declared.Left.{Left}
@@ -61,75 +63,45 @@ module _ {A : Type 0} where
   pub last-few : (k n : ℕ) (xs ys : List A) → n ≡ length xs → length xs ≤ 16 → length ys ≤ 16 → length xs + length ys ≤ 16 + k → length (slice k 16 xs ++ slice (k - n) 16 ys) ≤ 16
   last-few k n xs ys e f g h = rw (last-both k n xs ys e f g) (omega (arith, length-drop k (xs ++ ys), length-append xs ys))
 
-  -- they join, or are cut after the first k
-  RebalanceWays : List A → List A → ℕ → Type 0
-  RebalanceWays xs ys k =
-      ((k ≡ length xs + length ys) × (rebalancedItems xs ys ≡ (xs ++ ys) ∷ []))
-      ⊎ ((k ≢ length xs + length ys) × (rebalancedItems xs ys ≡ take k (xs ++ ys) ∷ drop k (xs ++ ys) ∷ []))
-
-  even-ways : (xs ys : List A) → RebalanceWays xs ys (leftCount (length xs) (length ys))
-  unfolding RebalanceWays rebalancedItems leftCount
-  even-ways xs ys =
-      by-cases (ltb (length xs) 8)
-      (λ e. by-cases (ltb 8 (length ys))
-      (λ f. let a = ltb-true (length xs) 8 e in let b = ltb-true 8 (length ys) f in
-      simp (e, f) (inr (
-        λ (z : length xs + 1 ≡ length xs + length ys). omega arith,
-        rw (take-append-add xs ys 1, drop-append-add xs ys 1) refl,
-      )))
-      (λ f. simp (e, f) (inl (refl, refl))))
-      (λ e. by-cases (ltb (length ys) 8)
-      (λ f. by-cases (ltb 8 (length xs))
-      (λ g. let a = ltb-true 8 (length xs) g in let b = ltb-true (length ys) 8 f in
-      simp (e, f, g) (inr (
-        λ (z : length xs - 1 ≡ length xs + length ys). omega arith,
-        rw (take-append-le (length xs - 1) xs ys (omega arith), drop-append-le (length xs - 1) xs ys (omega arith)) refl,
-      )))
-      (λ g. simp (e, f, g) (inl (refl, refl))))
-      (λ f. let b = ltb-false (length ys) 8 f in
-      simp (e, f) (inr (λ (z : length xs ≡ length xs + length ys). omega arith, rw (take-append-seam xs ys, drop-append-seam xs ys) refl))))
-
   -- (n and m are the numbers of their items)
   module _ (xs ys : List A) (n m k : ℕ) (x : n ≡ length xs) (y : m ≡ length ys) (e : k ≡ leftCount n m) where
     cut-is : k ≡ leftCount (length xs) (length ys)
     cut-is = rw (x, y) at e
 
-    pub even-join : {us : List A} → k ≡ n + m → us ≡ take k (xs ++ ys) → us ∷ [] ≡ rebalancedItems xs ys
-    unfolding RebalanceWays
-    even-join {us} f g =
+    pub merged-items : {us : List A} → k ≡ n + m → us ≡ take k (xs ++ ys) → us ∷ [] ≡ rebalancedItems xs ys
+    unfolding rebalancedItems
+    merged-items {us} f g =
         let w : us ≡ xs ++ ys = g ∙ take-all k (xs ++ ys) (omega (arith, length-append xs ys)) in
-        let f' : k ≡ length xs + length ys = omega arith in
-        ⊎-elim (λ h. ap (λ (l : List A). l ∷ []) w ∙ sym (h .1)) (λ h. absurd (h .0 (sym cut-is ∙ f'))) (even-ways xs ys)
+        rw (eq-eqb (leftCount (length xs) (length ys)) (length xs + length ys) (omega (arith, cut-is))) (ap (λ (l : List A). l ∷ []) w)
 
-    pub even-share : {us vs : List A} → k ≢ n + m → us ≡ take k (xs ++ ys) → vs ≡ drop k (xs ++ ys) → us ∷ vs ∷ [] ≡ rebalancedItems xs ys
-    unfolding RebalanceWays
-    even-share {us} {vs} f g h =
-        let f' : k ≢ length xs + length ys = λ (z : k ≡ length xs + length ys). f (omega arith) in
-        ⊎-elim (λ w. absurd (f' (cut-is ∙ w .0))) (λ w. rw (g, h, cut-is) (sym (w .1))) (even-ways xs ys)
+    pub redistributed-items : {us vs : List A} → k ≢ n + m → us ≡ take k (xs ++ ys) → vs ≡ drop k (xs ++ ys) → us ∷ vs ∷ [] ≡ rebalancedItems xs ys
+    unfolding rebalancedItems
+    redistributed-items {us} {vs} f g h =
+        rw (ne-eqb (leftCount (length xs) (length ys)) (length xs + length ys) (λ (z : leftCount (length xs) (length ys) ≡ length xs + length ys). f (omega (arith, cut-is))), ← cut-is) (rw (g, h) refl)
 
   module _ (write : List ℕ → ℕ → List A → List ℕ) (entry : ℕ → List A → Entry) (b : List ℕ) (p q : ℕ) where
-    pub put-joined : {us : List A} {b1 y : List ℕ} {e : Entry} → b1 ≡ write b p us → y ≡ freePage b1 q → e ≡ entry p us → RebalanceDone (putRebalanced write entry b p q (us ∷ [])) y (One e)
+    pub put-merged : {us : List A} {b1 y : List ℕ} {e : Entry} → b1 ≡ write b p us → y ≡ freePage b1 q → e ≡ entry p us → RewriteDone (putRebalanced write entry b p q (us ∷ [])) y (One e)
     unfolding putRebalanced
-    put-joined f g h = record { bytes = rw f at g; entries = ap (λ (x : Entry). x ∷ []) h }
+    put-merged f g h = record { bytes = rw f at g; entries = ap (λ (x : Entry). x ∷ []) h }
 
-    pub put-shared : {us vs : List A} {b1 y : List ℕ} {e f : Entry} → b1 ≡ write b p us → y ≡ write b1 q vs → e ≡ entry p us → f ≡ entry q vs
-        → RebalanceDone (putRebalanced write entry b p q (us ∷ vs ∷ [])) y (Two e f)
+    pub put-redistributed : {us vs : List A} {b1 y : List ℕ} {e f : Entry} → b1 ≡ write b p us → y ≡ write b1 q vs → e ≡ entry p us → f ≡ entry q vs
+        → RewriteDone (putRebalanced write entry b p q (us ∷ vs ∷ [])) y (Two e f)
     unfolding putRebalanced
-    put-shared {us} {vs} {b1} {y} {e} {f} h k i j = record { bytes = cc; entries = cc }
+    put-redistributed {us} {vs} {b1} {y} {e} {f} h k i j = record { bytes = cc; entries = cc }
 
 pub rebalance-leaves : (d : ℕ) (b : List ℕ) (p q : ℕ) {a c : Leaf} {zs : List (List Record)} {y : List ℕ} {g : Grown} → a ≡ leafAt b p → c ≡ leafAt b q
-    → zs ≡ rebalancedItems (recordsIn a) (recordsIn c) → RebalanceDone (putRebalanced setLeaf (leafEntry d) b p q zs) y g → RebalanceDone (rebalancedPages d 0 b p q) y g
+    → zs ≡ rebalancedItems (recordsIn a) (recordsIn c) → RewriteDone (putRebalanced setLeaf (leafEntry d) b p q zs) y g → RewriteDone (rebalancedPages d 0 b p q) y g
 unfolding rebalancedPages
 rebalance-leaves d b p q a= c= e h = rw (e, a=, c=) at h
 
 pub rebalance-inners : (d l v : ℕ) (b : List ℕ) (p q : ℕ) {a c : Inner} {zs : List (List Entry)} {y : List ℕ} {g : Grown} → 0 < l → v ≡ l → a ≡ innerAt b p → c ≡ innerAt b q
-    → zs ≡ rebalancedItems (entriesIn a) (entriesIn c) → RebalanceDone (putRebalanced (writeInner v) innerEntry b p q zs) y g → RebalanceDone (rebalancedPages d l b p q) y g
+    → zs ≡ rebalancedItems (entriesIn a) (entriesIn c) → RewriteDone (putRebalanced (writeInner v) innerEntry b p q zs) y g → RewriteDone (rebalancedPages d l b p q) y g
 unfolding rebalancedPages
 rebalance-inners d zero v b p q z f a= c= e h = absurd (omega arith)
 rebalance-inners d (suc l) v b p q z f a= c= e h = rw (f, e, a=, c=) at h
 
-pub even-level : (d l : ℕ) (b : List ℕ) (p q : ℕ) {y : List ℕ} {g : Grown} → l ≡ 0 → RebalanceDone (rebalancedPages d 0 b p q) y g → RebalanceDone (rebalancedPages d l b p q) y g
-even-level d l b p q e h = rw e h
+pub rebalance-level : (d l : ℕ) (b : List ℕ) (p q : ℕ) {y : List ℕ} {g : Grown} → l ≡ 0 → RewriteDone (rebalancedPages d 0 b p q) y g → RewriteDone (rebalancedPages d l b p q) y g
+rebalance-level d l b p q e h = rw e h
 
 -- ---- the page above
 
@@ -150,28 +122,27 @@ set-in slots c i e =
 pub leave-is : (l : ℕ) (b : List ℕ) (p : ℕ) (es : List Entry) {y : List ℕ} {x : Left} → y ≡ setInner b p l es → x .entry ≡ innerEntry p es → x .count ≡ length es → LeftDone (leave l b p es) y x
 leave-is l b p es f g h = record { bytes = f; entry = g; count = h }
 
-pub evened-is : (d l h : ℕ) (b : List ℕ) (p : ℕ) (es : List Entry) (i n : ℕ) {j u w v : ℕ} {fs : List Entry} {b1 y : List ℕ} {g : Grown} {x : Left}
-    → n ≡ length es → j ≡ leftOf i n → u ≡ childAt es j → w ≡ childAt es (j + 1) → RebalanceDone (rebalancedPages d l b u w) b1 g
+pub rebalanced-below : (d l h : ℕ) (b : List ℕ) (p : ℕ) (es : List Entry) (i n : ℕ) {j u w v : ℕ} {fs : List Entry} {b1 y : List ℕ} {g : Grown} {x : Left}
+    → n ≡ length es → j ≡ leftOf i n → u ≡ childAt es j → w ≡ childAt es (j + 1) → RewriteDone (rebalancedPages d l b u w) b1 g
     → v ≡ h → fs ≡ take j es ++ (grownList g ++ drop (j + 2) es) → LeftDone (leave v b1 p fs) y x → LeftDone (rebalancedBelow d l h b p es i) y x
 unfolding rebalancedBelow
-evened-is d l h b p es i n {j} {u} {w} {v} {fs} {b1} {y} {g} {x} n= j= u= w= o v= fs= q =
+rebalanced-below d l h b p es i n {j} {u} {w} {v} {fs} {b1} {y} {g} {x} n= j= u= w= o v= fs= q =
     let two : j + 2 ≡ suc (suc j) = omega arith in
     let fs' : fs ≡ take j es ++ (grownList g ++ drop (suc (suc j)) es) = fs= ∙ ap (λ (m : ℕ). take j es ++ (grownList g ++ drop m es)) two in
     rw (fs', v=, o .bytes, o .entries, u=, w=, add-one j, j=, n=) at q
 
-pub mend-whole : (d l : ℕ) (b : List ℕ) (p : ℕ) (es : List Entry) (i : ℕ) (o : Left) {v : ℕ} {fs : List Entry} {y : List ℕ} {x : Left} → 0 < l → v ≡ l → fs ≡ set es i (o .entry) → 8 ≤ o .count
+pub fix-none : (d l : ℕ) (b : List ℕ) (p : ℕ) (es : List Entry) (i : ℕ) (o : Left) {v : ℕ} {fs : List Entry} {y : List ℕ} {x : Left} → 0 < l → v ≡ l → fs ≡ set es i (o .entry) → 8 ≤ o .count
     → LeftDone (leave v b p fs) y x → LeftDone (fixUnderflow d (l - 1) p es i (deletedOf b o)) y x
 unfolding fixUnderflow
-mend-whole d zero b p es i o z v= fs= h q = absurd (omega arith)
-mend-whole d (suc l) b p es i o z v= fs= h q = rw (sub-one, le-leb 8 (o .count) h) (rw (v=, fs=) at q)
+fix-none d zero b p es i o z v= fs= h q = absurd (omega arith)
+fix-none d (suc l) b p es i o z v= fs= h q = rw (sub-one, le-leb 8 (o .count) h) (rw (v=, fs=) at q)
 
-pub mend-evened : (d l : ℕ) (b : List ℕ) (p : ℕ) (es : List Entry) (i : ℕ) (o : Left) {v : ℕ} {fs : List Entry} {y : List ℕ} {x : Left} → 0 < l → v ≡ l → fs ≡ set es i (o .entry) → o .count < 8
+pub fix-rebalanced : (d l : ℕ) (b : List ℕ) (p : ℕ) (es : List Entry) (i : ℕ) (o : Left) {v : ℕ} {fs : List Entry} {y : List ℕ} {x : Left} → 0 < l → v ≡ l → fs ≡ set es i (o .entry) → o .count < 8
     → LeftDone (rebalancedBelow d (l - 1) v b p fs i) y x → LeftDone (fixUnderflow d (l - 1) p es i (deletedOf b o)) y x
-unfolding fixUnderflow rebalancedBelow
-mend-evened d zero b p es i o z v= fs= h q = absurd (omega arith)
-mend-evened d (suc l) b p es i o z v= fs= h q =
-    let n : length (set es i (o .entry)) ≡ length es = length-set es i (o .entry) in
-    rw (sub-one, lt-leb 8 (o .count) h) (rw (v=, fs=, n, sub-one) at q)
+unfolding fixUnderflow
+fix-rebalanced d zero b p es i o z v= fs= h q = absurd (omega arith)
+fix-rebalanced d (suc l) b p es i o z v= fs= h q =
+    rw (sub-one, lt-leb 8 (o .count) h) (rw (v=, fs=, sub-one) at q)
 
 -- ---- one step of the recursion
 
@@ -195,11 +166,11 @@ delete-inner d (suc l) b p x {k} {i} {child} {es} {b1} {y} {o} {z} n k= es= i= c
 
 -- ---- the root
 
-pub root-gives : (l : ℕ) (b : List ℕ) (p : ℕ) {c : ℕ} {es : List Entry} {b1 b2 y : List ℕ} → 0 < l → es ≡ entriesIn (innerAt b p) → c ≡ childAt es 0
+pub root-collapses : (l : ℕ) (b : List ℕ) (p : ℕ) {c : ℕ} {es : List Entry} {b1 b2 y : List ℕ} → 0 < l → es ≡ entriesIn (innerAt b p) → c ≡ childAt es 0
     → b1 ≡ setField root b c → b2 ≡ setField level b1 (l - 1) → y ≡ freePage b2 p → y ≡ collapseRoot l b p 1
 unfolding collapseRoot
-root-gives zero b p z es= c= b1= b2= y= = absurd (omega arith)
-root-gives (suc l) b p {c} {es} {b1} {b2} {y} z es= c= b1= b2= y= = let b2' : b2 ≡ setField level b1 l = rw sub-one at b2= in cc
+root-collapses zero b p z es= c= b1= b2= y= = absurd (omega arith)
+root-collapses (suc l) b p {c} {es} {b1} {b2} {y} z es= c= b1= b2= y= = let b2' : b2 ≡ setField level b1 l = rw sub-one at b2= in cc
 
 pub root-leaf : (l : ℕ) (b : List ℕ) (p n : ℕ) → l ≡ 0 → b ≡ collapseRoot l b p n
 unfolding collapseRoot

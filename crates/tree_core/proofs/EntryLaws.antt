@@ -22,7 +22,8 @@ use Rattle.geometry.specs.Stored.{pointOf}
 use Rattle.pagestore.specs.declared.Record.{Record}
 use Rattle.pagestore.specs.declared.Entry.{Entry}
 use Rattle.tree_model.specs.Trees.{keyOf, firstKey, lastKey, noRecord}
-use Rattle.tree_core.specs.Entries.{notAbove, choose, childAt, noKey, noEntry, leafEntry, innerEntry}
+use Rattle.tree_model.specs.Inserting.{notAbove, choose}
+use Rattle.tree_core.specs.Entries.{childAt, noKey, noEntry, leafEntry, innerEntry}
 
 -- ---- the slots that a stored count takes in
 

@@ -17,10 +17,11 @@ use Rattle.pagestore.specs.declared.Record.{Record}
 use Rattle.pagestore.specs.declared.Entry.{Entry}
 use Rattle.pagestore.specs.Store.{leafAt, innerAt, recordsIn, entriesIn, setLeaf, setInner, pageTaken, takePage}
 use Rattle.tree_model.specs.Trees.{rankOf}
-use Rattle.tree_core.specs.Entries.{choose, childAt, replaced, leafEntry, innerEntry}
+use Rattle.tree_model.specs.Inserting.{choose, replaced, insertRecord, rankBelow}
+use Rattle.tree_core.specs.Entries.{childAt, leafEntry, innerEntry}
 use Rattle.tree_core.specs.Held.{Held}
-use Rattle.tree_core.specs.Insertion.{insertRecord, put, writeInner, insertAt}
-use Rattle.tree_core.specs.CodeTerms.{rankBelow, grownList, Done}
+use Rattle.tree_core.specs.Insertion.{put, writeInner, insertAt}
+use Rattle.tree_core.specs.CodeTerms.{grownList, RewriteDone}
 use Rattle.tree_core.specs.declared.Grown.{Grown}
 use Rattle.tree_core.specs.declared.Grown.the-variants.{One, Two}
 use Rattle.tree_core.proofs.HeldLaws.{held-is}
@@ -75,22 +76,22 @@ fill-is d x k i rs ys e f g = g ∙ insert-is d x k i rs e f
 -- ---- items put to a page
 
 module _ {A : Type 0} (write : List ℕ → ℕ → List A → List ℕ) (entry : ℕ → List A → Entry) (b : List ℕ) (p : ℕ) (xs : List A) where
-  pub put-one : (n : ℕ) {ys : List A} {x : List ℕ} {e : Entry} → length xs ≡ n → n ≤ 16 → ys ≡ slice 0 n xs → x ≡ write b p ys → e ≡ entry p ys → Done (put write entry b p xs) x (One e)
+  pub put-one : (n : ℕ) {ys : List A} {x : List ℕ} {e : Entry} → length xs ≡ n → n ≤ 16 → ys ≡ slice 0 n xs → x ≡ write b p ys → e ≡ entry p ys → RewriteDone (put write entry b p xs) x (One e)
   unfolding put
   put-one n {ys} {x} {e} l h i f g =
       let w : ys ≡ xs = i ∙ take-all n xs (omega arith) in
       rw (le-leb (length xs) 16 (omega arith)) (record { bytes = rw w at f; entries = ap (λ (z : Entry). z ∷ []) (rw w at g) })
 
   -- the items as they are held
-  pub put-held : {n : ℕ} {slots : List A} {x : List ℕ} {e : Entry} → Held n slots xs → n ≤ 16 → x ≡ write b p (take n slots) → e ≡ entry p (take n slots) → Done (put write entry b p xs) x (One e)
+  pub put-held : {n : ℕ} {slots : List A} {x : List ℕ} {e : Entry} → Held n slots xs → n ≤ 16 → x ≡ write b p (take n slots) → e ≡ entry p (take n slots) → RewriteDone (put write entry b p xs) x (One e)
   put-held {n} {slots} {x} {e} h k f g = put-one n (sym (h .count)) k (h .items ∙ sym (take-all n xs (omega (arith, h .count)))) f g
 
   -- as many as a page's count takes in
-  pub put-filled : (n : ℕ) (slots : List A) {x : List ℕ} {e : Entry} → length slots ≡ 16 → n ≤ 16 → take n slots ≡ xs → x ≡ write b p (take n slots) → e ≡ entry p (take n slots) → Done (put write entry b p xs) x (One e)
+  pub put-filled : (n : ℕ) (slots : List A) {x : List ℕ} {e : Entry} → length slots ≡ 16 → n ≤ 16 → take n slots ≡ xs → x ≡ write b p (take n slots) → e ≡ entry p (take n slots) → RewriteDone (put write entry b p xs) x (One e)
   put-filled n slots {x} {e} l k h f g = put-held (record { count = sym (length-take-le n slots (omega arith)) ∙ ap length h; items = h }) k f g
 
   pub put-two : {n : ℕ} {b1 b2 x : List ℕ} {lo hi : List A} {e f : Entry} → length xs ≡ 17 → n ≡ pageTaken b → b1 ≡ takePage b → lo ≡ slice 0 9 xs → hi ≡ slice 9 17 xs
-      → b2 ≡ write b1 p lo → x ≡ write b2 n hi → e ≡ entry p lo → f ≡ entry n hi → Done (put write entry b p xs) x (Two e f)
+      → b2 ≡ write b1 p lo → x ≡ write b2 n hi → e ≡ entry p lo → f ≡ entry n hi → RewriteDone (put write entry b p xs) x (Two e f)
   unfolding put
   put-two {n} {b1} {b2} {x} {lo} {hi} {e} {f} l n= b1= lo= hi= b2= x= e= f= =
       let w : hi ≡ drop 9 xs = hi= ∙ ap (λ (z : List A). drop 9 z) (take-all 17 xs (omega arith)) in
@@ -103,20 +104,20 @@ level-is b p v l es e f = rw e at f
 -- ---- one step of the recursion
 
 pub leaf-step : (d : ℕ) (b : List ℕ) (p : ℕ) (x : Record) {rs : List Record} {y : List ℕ} {g : Grown} → rs ≡ insertRecord d x (recordsIn (leafAt b p))
-    → Done (put setLeaf (leafEntry d) b p rs) y g → Done (insertAt d 0 b p x) y g
+    → RewriteDone (put setLeaf (leafEntry d) b p rs) y g → RewriteDone (insertAt d 0 b p x) y g
 unfolding insertAt
 leaf-step d b p x e h = rw e at h
 
-pub level-zero : (d level : ℕ) (b : List ℕ) (p : ℕ) (x : Record) {y : List ℕ} {g : Grown} → level ≡ 0 → Done (insertAt d 0 b p x) y g → Done (insertAt d level b p x) y g
+pub level-zero : (d level : ℕ) (b : List ℕ) (p : ℕ) (x : Record) {y : List ℕ} {g : Grown} → level ≡ 0 → RewriteDone (insertAt d 0 b p x) y g → RewriteDone (insertAt d level b p x) y g
 level-zero d level b p x e h = rw e h
 
 pub inner-step : (d level : ℕ) (b : List ℕ) (p : ℕ) (x : Record) {k i child : ℕ} {es : List Entry} {b1 y : List ℕ} {g r : Grown}
     → level ≢ 0 → k ≡ rankOf d x → es ≡ entriesIn (innerAt b p) → i ≡ choose k (entriesIn (innerAt b p)) → child ≡ childAt (entriesIn (innerAt b p)) i
-    → Done (insertAt d (level - 1) b child x) b1 g → Done (put (writeInner level) innerEntry b1 p (replaced i (grownList g) es)) y r → Done (insertAt d level b p x) y r
+    → RewriteDone (insertAt d (level - 1) b child x) b1 g → RewriteDone (put (writeInner level) innerEntry b1 p (replaced i (grownList g) es)) y r → RewriteDone (insertAt d level b p x) y r
 unfolding insertAt
 inner-step d zero b p x z e₀ e₁ e₂ e₃ h h' = absurd (z refl)
 inner-step d (suc l) b p x {k} {i} {child} {es} {b1} {y} {g} {r} z e₀ e₁ e₂ e₃ h h' =
-    let f : Done (insertAt d l b child x) b1 g = rw sub-one at h in
+    let f : RewriteDone (insertAt d l b child x) b1 g = rw sub-one at h in
     rw (f .bytes, f .entries, e₃, e₂, e₀, e₁) at h'
 
 pub length-grown : (g : Grown) → length (grownList g) ≤ 2

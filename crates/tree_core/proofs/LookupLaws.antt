@@ -21,9 +21,9 @@ use Rattle.pagestore.specs.declared.Entry.{Entry}
 use Rattle.pagestore.specs.declared.Leaf.{Leaf}
 use Rattle.pagestore.specs.declared.Inner.{Inner}
 use Rattle.pagestore.specs.Store.{root, level, leafAt, innerAt, recordsIn, entriesIn, fieldAt}
+use Rattle.tree_model.specs.Deleting.{otherIdent}
 use Rattle.tree_core.specs.Entries.{noEntry}
 use Rattle.tree_core.specs.Lookup.{recordsUnder, withIdent, blank, findUnder, findIn}
-use Rattle.tree_core.specs.CodeTerms.{otherIdent}
 
 -- ---- in a leaf
 

@@ -12,9 +12,10 @@ use Rattle.pagestore.specs.declared.Record.{Record}
 use Rattle.pagestore.specs.declared.Entry.{Entry}
 use Rattle.pagestore.specs.Store.{Field, features, root, level, total, innerAt, countAt, entriesIn, setInner, fieldAt, setField, pageTaken, takePage}
 use Rattle.tree_model.specs.Trees.{rankOf}
-use Rattle.tree_core.specs.Entries.{choose, childAt}
+use Rattle.tree_model.specs.Inserting.{choose}
+use Rattle.tree_core.specs.Entries.{childAt}
 use Rattle.tree_core.specs.Insertion.{insertAt, growRoot, addToTotal, insertInto, fullRun, pagesWanted}
-use Rattle.tree_core.specs.CodeTerms.{grownList, Done}
+use Rattle.tree_core.specs.CodeTerms.{grownList, RewriteDone}
 use Rattle.tree_core.specs.declared.Grown.{Grown}
 use Rattle.tree_core.specs.declared.Grown.the-variants.{One, Two}
 
@@ -38,7 +39,7 @@ unfolding addToTotal
 total-step b p q r = rw (q, p) at r
 
 pub insert-steps : (b : List ℕ) (x : Record) {d l p : ℕ} {b1 b2 y : List ℕ} {g : Grown} → d ≡ fieldAt features b → l ≡ fieldAt level b → p ≡ fieldAt root b
-    → Done (insertAt d l b p x) b1 g → b2 ≡ growRoot l b1 (grownList g) → y ≡ addToTotal b2 → y ≡ insertInto b x
+    → RewriteDone (insertAt d l b p x) b1 g → b2 ≡ growRoot l b1 (grownList g) → y ≡ addToTotal b2 → y ≡ insertInto b x
 unfolding insertInto
 insert-steps b x {d} {l} {p} {b1} {b2} {y} {g} d= l= p= h b2= y= =
     y= ∙ ap addToTotal (b2= ∙ rw (h .bytes, h .entries, d=, l=, p=))

@@ -1,32 +1,23 @@
--- Insertion (01, "The tree") on the bytes of an index. Nothing is assumed of them.
-use mathlib.Core.Bool.{Bool}
+-- Insertion (tree_model `Inserting`) on the bytes of an index. Nothing is assumed of them.
 use mathlib.Core.List.{List, [], _∷_}
 use Prim.Native.Nat.{ℕ, zero, suc, _+_, _%_, _^_}
-use lib.Dec.{leb, ltb, eqb}
+use lib.Dec.{leb, eqb}
 use lib.ListN.{length, take, drop}
 use Rattle.lists.specs.Basics.{if, indicator}
-use Rattle.lists.specs.Sorting.{insertBy}
 use Rattle.pagestore.specs.declared.Record.{Record}
 use Rattle.pagestore.specs.declared.Entry.{Entry}
 use Rattle.pagestore.specs.Store.{features, root, level, total, leafAt, innerAt, countAt, recordsIn, entriesIn, setLeaf, setInner, fieldAt, setField, pageTaken, takePage}
 use Rattle.tree_model.specs.Trees.{rankOf}
-use Rattle.tree_core.specs.Entries.{choose, childAt, replaced, leafEntry, innerEntry}
+use Rattle.tree_model.specs.Inserting.{choose, replaced, insertRecord}
+use Rattle.tree_core.specs.Entries.{childAt, leafEntry, innerEntry}
 
--- the index after an insertion below a page, and the entries of what the page has become: itself, or itself and a new page on its right
-pub record Inserted : Type 0 where
+-- the index after the items of a page or two have been written anew, and the entries of the pages that hold them: one, or two neighbours
+pub record Rewritten : Type 0 where
   pub bytes : List ℕ
   pub entries : List Entry
 
--- one record comes before another in the order of keys
-abbrev pub keyBefore : ℕ → Record → Record → Bool
-keyBefore d x y = ltb (rankOf d x) (rankOf d y)
-
--- the record r put into records in key order
-abbrev pub insertRecord : ℕ → Record → List Record → List Record
-insertRecord d r rs = insertBy (keyBefore d) r rs
-
 -- The items xs at page p. A page that would hold 17 keeps the first 9; the last 8 go to a new page on the right.
-unfoldable pub put : {A : Type 0} → (List ℕ → ℕ → List A → List ℕ) → (ℕ → List A → Entry) → List ℕ → ℕ → List A → Inserted
+unfoldable pub put : {A : Type 0} → (List ℕ → ℕ → List A → List ℕ) → (ℕ → List A → Entry) → List ℕ → ℕ → List A → Rewritten
 put write entry b p xs =
     if (leb (length xs) 16)
     (record { bytes = write b p xs; entries = entry p xs ∷ [] })
@@ -35,12 +26,12 @@ put write entry b p xs =
       entries = entry p (take 9 xs) ∷ entry (pageTaken b) (drop 9 xs) ∷ [];
     })
 
--- an inner page of level l
+-- the write of an inner page of level l
 abbrev pub writeInner : ℕ → List ℕ → ℕ → List Entry → List ℕ
 writeInner l b p es = setInner b p l es
 
 -- the record r inserted below page p of level l: into the leaf, or below the child that is chosen, whose entries then take its place
-unfoldable pub insertAt : ℕ → ℕ → List ℕ → ℕ → Record → Inserted
+unfoldable pub insertAt : ℕ → ℕ → List ℕ → ℕ → Record → Rewritten
 insertAt d zero b p r = put setLeaf (leafEntry d) b p (insertRecord d r (recordsIn (leafAt b p)))
 insertAt d (suc l) b p r =
     let es = entriesIn (innerAt b p) in

@@ -3,7 +3,7 @@ ghost use mathlib.Core.Path.{_≡_};
 ghost use Prim.Native.Nat.{_≤_};
 ghost use Rattle.lists.specs.Leading.{leading};
 ghost use Rattle.pagestore.specs.Store.{leafAt, recordsIn};
-ghost use Rattle.tree_core.specs.CodeTerms.{otherIdent};
+ghost use Rattle.tree_model.specs.Deleting.{otherIdent};
 use crate::keys::filled_at;
 use pagestore::ident_at;
 

@@ -8,7 +8,8 @@ ghost use Rattle.tree_core.specs.Entries.{leafEntry, innerEntry};
 ghost use Rattle.tree_core.specs.Held.{Held};
 ghost use Rattle.tree_core.specs.Insertion.{writeInner};
 ghost use Rattle.tree_core.specs.Deletion.{putRebalanced, rebalancedPages};
-ghost use Rattle.tree_core.specs.CodeTerms.{leftCount, RebalanceDone};
+ghost use Rattle.tree_model.specs.Deleting.{leftCount};
+ghost use Rattle.tree_core.specs.CodeTerms.{RewriteDone};
 use pagestore::Inner;
 use pagestore::Leaf;
 use pagestore::inner_at;
@@ -77,7 +78,7 @@ fn last_records(a: Leaf, b: Leaf, k: usize) -> Leaf
 }
 
 fn put_merged_leaf(index: &mut [u8], p: u32, q: u32, items: Leaf, d: u8) -> Grown
-    ensures { λ r. ⌜ RebalanceDone (putRebalanced setLeaf (leafEntry d) (now (index .entry)) p q (recordsIn items ∷ [])) (now (index .exit)) r ⌝ }
+    ensures { λ r. ⌜ RewriteDone (putRebalanced setLeaf (leafEntry d) (now (index .entry)) p q (recordsIn items ∷ [])) (now (index .exit)) r ⌝ }
 {
     set_leaf(index, p, items);
     free_page(index, q);
@@ -85,7 +86,7 @@ fn put_merged_leaf(index: &mut [u8], p: u32, q: u32, items: Leaf, d: u8) -> Grow
 }
 
 fn put_redistributed_leaf(index: &mut [u8], p: u32, q: u32, low: Leaf, high: Leaf, d: u8) -> Grown
-    ensures { λ r. ⌜ RebalanceDone (putRebalanced setLeaf (leafEntry d) (now (index .entry)) p q (recordsIn low ∷ recordsIn high ∷ [])) (now (index .exit)) r ⌝ }
+    ensures { λ r. ⌜ RewriteDone (putRebalanced setLeaf (leafEntry d) (now (index .entry)) p q (recordsIn low ∷ recordsIn high ∷ [])) (now (index .exit)) r ⌝ }
 {
     set_leaf(index, p, low);
     set_leaf(index, q, high);
@@ -93,7 +94,7 @@ fn put_redistributed_leaf(index: &mut [u8], p: u32, q: u32, low: Leaf, high: Lea
 }
 
 fn rebalance_leaves(index: &mut [u8], p: u32, q: u32, d: u8) -> Grown
-    ensures { λ r. ⌜ RebalanceDone (rebalancedPages d 0 (now (index .entry)) p q) (now (index .exit)) r ⌝ }
+    ensures { λ r. ⌜ RewriteDone (rebalancedPages d 0 (now (index .entry)) p q) (now (index .exit)) r ⌝ }
 {
     let a = leaf_at(index, p);
     let b = leaf_at(index, q);
@@ -132,7 +133,7 @@ fn last_entries(a: Inner, b: Inner, level: u8, k: usize) -> Inner
 }
 
 fn put_merged_inner(index: &mut [u8], p: u32, q: u32, items: Inner) -> Grown
-    ensures { λ r. ⌜ RebalanceDone (putRebalanced (writeInner (items .level)) innerEntry (now (index .entry)) p q (entriesIn items ∷ [])) (now (index .exit)) r ⌝ }
+    ensures { λ r. ⌜ RewriteDone (putRebalanced (writeInner (items .level)) innerEntry (now (index .entry)) p q (entriesIn items ∷ [])) (now (index .exit)) r ⌝ }
 {
     set_inner(index, p, items);
     free_page(index, q);
@@ -141,7 +142,7 @@ fn put_merged_inner(index: &mut [u8], p: u32, q: u32, items: Inner) -> Grown
 
 fn put_redistributed_inner(index: &mut [u8], p: u32, q: u32, low: Inner, high: Inner) -> Grown
     requires { ⌜ high .level ≡ low .level ⌝ }
-    ensures { λ r. ⌜ RebalanceDone (putRebalanced (writeInner (low .level)) innerEntry (now (index .entry)) p q (entriesIn low ∷ entriesIn high ∷ [])) (now (index .exit)) r ⌝ }
+    ensures { λ r. ⌜ RewriteDone (putRebalanced (writeInner (low .level)) innerEntry (now (index .entry)) p q (entriesIn low ∷ entriesIn high ∷ [])) (now (index .exit)) r ⌝ }
 {
     set_inner(index, p, low);
     set_inner(index, q, high);
@@ -150,7 +151,7 @@ fn put_redistributed_inner(index: &mut [u8], p: u32, q: u32, low: Inner, high: I
 
 fn rebalance_inners(index: &mut [u8], p: u32, q: u32, level: u8, d: u8) -> Grown
     requires { ⌜ 0 < level ⌝ }
-    ensures { λ r. ⌜ RebalanceDone (rebalancedPages d level (now (index .entry)) p q) (now (index .exit)) r ⌝ }
+    ensures { λ r. ⌜ RewriteDone (rebalancedPages d level (now (index .entry)) p q) (now (index .exit)) r ⌝ }
 {
     let a = inner_at(index, p);
     let b = inner_at(index, q);
@@ -167,7 +168,7 @@ fn rebalance_inners(index: &mut [u8], p: u32, q: u32, level: u8, d: u8) -> Grown
 
 // Evens out the neighbours p and q of a level.
 pub fn rebalance_pages(index: &mut [u8], p: u32, q: u32, level: u8, d: u8) -> Grown
-    ensures { λ r. ⌜ RebalanceDone (rebalancedPages d level (now (index .entry)) p q) (now (index .exit)) r ⌝ }
+    ensures { λ r. ⌜ RewriteDone (rebalancedPages d level (now (index .entry)) p q) (now (index .exit)) r ⌝ }
 {
     if level == 0 {
         return rebalance_leaves(index, p, q, d);

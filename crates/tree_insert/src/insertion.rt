@@ -5,10 +5,11 @@ ghost use Prim.Native.Nat.{_+_, _<_, _≤_, max};
 ghost use Rattle.lists.specs.Leading.{leading};
 ghost use Rattle.pagestore.specs.Store.{recordsIn, entriesIn, setLeaf};
 ghost use Rattle.tree_model.specs.Trees.{rankOf};
-ghost use Rattle.tree_core.specs.Entries.{replaced, leafEntry, innerEntry};
+ghost use Rattle.tree_model.specs.Inserting.{replaced, insertRecord, rankBelow};
+ghost use Rattle.tree_core.specs.Entries.{leafEntry, innerEntry};
 ghost use Rattle.tree_core.specs.Held.{Held, heldRecords, heldEntries};
-ghost use Rattle.tree_core.specs.Insertion.{insertRecord, put, writeInner, insertAt};
-ghost use Rattle.tree_core.specs.CodeTerms.{rankBelow, grownList, Done};
+ghost use Rattle.tree_core.specs.Insertion.{put, writeInner, insertAt};
+ghost use Rattle.tree_core.specs.CodeTerms.{grownList, RewriteDone};
 use pagestore::Entry;
 use pagestore::Inner;
 use pagestore::Leaf;
@@ -66,7 +67,7 @@ fn insert_record(leaf: Leaf, x: Record, rank: u64, d: u8) -> RecordList
 // A leaf of 17 records: the first 9 stay, the last 8 go to a new page on the right.
 fn split_leaf(index: &mut [u8], page: u32, all: RecordList, d: u8) -> Grown
     requires { ⌜ all .count ≡ 17 ⌝ }
-    ensures { λ r. ⌜ Done (put setLeaf (leafEntry d) (now (index .entry)) page (heldRecords all)) (now (index .exit)) r ⌝ }
+    ensures { λ r. ⌜ RewriteDone (put setLeaf (leafEntry d) (now (index .entry)) page (heldRecords all)) (now (index .exit)) r ⌝ }
 {
     let low = leaf_of(all, 0, 9);
     let high = leaf_of(all, 9, 17);
@@ -78,7 +79,7 @@ fn split_leaf(index: &mut [u8], page: u32, all: RecordList, d: u8) -> Grown
 
 fn put_records(index: &mut [u8], page: u32, all: RecordList, d: u8) -> Grown
     requires { ⌜ all .count ≤ 17 ⌝ }
-    ensures { λ r. ⌜ Done (put setLeaf (leafEntry d) (now (index .entry)) page (heldRecords all)) (now (index .exit)) r ⌝ }
+    ensures { λ r. ⌜ RewriteDone (put setLeaf (leafEntry d) (now (index .entry)) page (heldRecords all)) (now (index .exit)) r ⌝ }
 {
     let n = all.count;
     if n == 17 {
@@ -92,7 +93,7 @@ fn put_records(index: &mut [u8], page: u32, all: RecordList, d: u8) -> Grown
 // A leaf with room for one record more.
 fn fill_leaf(index: &mut [u8], page: u32, leaf: Leaf, x: Record, rank: u64, d: u8) -> Grown
     requires { ⌜ (leaf .count < 16) × (rank ≡ rankOf d x) ⌝ }
-    ensures { λ r. ⌜ Done (put setLeaf (leafEntry d) (now (index .entry)) page (insertRecord d x (recordsIn leaf))) (now (index .exit)) r ⌝ }
+    ensures { λ r. ⌜ RewriteDone (put setLeaf (leafEntry d) (now (index .entry)) page (insertRecord d x (recordsIn leaf))) (now (index .exit)) r ⌝ }
 {
     let i = place_of(leaf, rank, d);
     let next = pagestore::insert_record(leaf, i, x);
@@ -102,7 +103,7 @@ fn fill_leaf(index: &mut [u8], page: u32, leaf: Leaf, x: Record, rank: u64, d: u
 
 fn insert_leaf(index: &mut [u8], page: u32, x: Record, rank: u64, d: u8) -> Grown
     requires { ⌜ rank ≡ rankOf d x ⌝ }
-    ensures { λ r. ⌜ Done (insertAt d 0 (now (index .entry)) page x) (now (index .exit)) r ⌝ }
+    ensures { λ r. ⌜ RewriteDone (insertAt d 0 (now (index .entry)) page x) (now (index .exit)) r ⌝ }
 {
     let leaf = leaf_at(index, page);
     if leaf.count < 16 {
@@ -114,7 +115,7 @@ fn insert_leaf(index: &mut [u8], page: u32, x: Record, rank: u64, d: u8) -> Grow
 
 fn split_inner(index: &mut [u8], page: u32, level: u8, all: EntryList) -> Grown
     requires { ⌜ all .count ≡ 17 ⌝ }
-    ensures { λ r. ⌜ Done (put (writeInner level) innerEntry (now (index .entry)) page (heldEntries all)) (now (index .exit)) r ⌝ }
+    ensures { λ r. ⌜ RewriteDone (put (writeInner level) innerEntry (now (index .entry)) page (heldEntries all)) (now (index .exit)) r ⌝ }
 {
     let low = inner_of(all, level, 0, 9);
     let high = inner_of(all, level, 9, 17);
@@ -126,7 +127,7 @@ fn split_inner(index: &mut [u8], page: u32, level: u8, all: EntryList) -> Grown
 
 fn put_entries(index: &mut [u8], page: u32, level: u8, all: EntryList) -> Grown
     requires { ⌜ all .count ≤ 17 ⌝ }
-    ensures { λ r. ⌜ Done (put (writeInner level) innerEntry (now (index .entry)) page (heldEntries all)) (now (index .exit)) r ⌝ }
+    ensures { λ r. ⌜ RewriteDone (put (writeInner level) innerEntry (now (index .entry)) page (heldEntries all)) (now (index .exit)) r ⌝ }
 {
     let n = all.count;
     if n == 17 {
@@ -175,7 +176,7 @@ fn renewed(inner: Inner, level: u8, i: usize, e: Entry) -> Inner
 // A page whose child has not split.
 fn put_entry(index: &mut [u8], page: u32, level: u8, inner: Inner, i: usize, e: Entry) -> Grown
     requires { ⌜ (i ≤ 15) × (i ≤ inner .count) ⌝ }
-    ensures { λ r. ⌜ Done (put (writeInner level) innerEntry (now (index .entry)) page (replaced i (e ∷ []) (entriesIn inner))) (now (index .exit)) r ⌝ }
+    ensures { λ r. ⌜ RewriteDone (put (writeInner level) innerEntry (now (index .entry)) page (replaced i (e ∷ []) (entriesIn inner))) (now (index .exit)) r ⌝ }
 {
     let next = renewed(inner, level, i, e);
     set_inner(index, page, next);
@@ -185,7 +186,7 @@ fn put_entry(index: &mut [u8], page: u32, level: u8, inner: Inner, i: usize, e: 
 // A page, with what its child has become in the child's place.
 fn put_inner(index: &mut [u8], page: u32, level: u8, inner: Inner, i: usize, grown: Grown) -> Grown
     requires { ⌜ (i ≤ 15) × (i ≤ inner .count) ⌝ }
-    ensures { λ r. ⌜ Done (put (writeInner level) innerEntry (now (index .entry)) page (replaced i (grownList grown) (entriesIn inner))) (now (index .exit)) r ⌝ }
+    ensures { λ r. ⌜ RewriteDone (put (writeInner level) innerEntry (now (index .entry)) page (replaced i (grownList grown) (entriesIn inner))) (now (index .exit)) r ⌝ }
 {
     if let Grown::One(e) = grown {
         return put_entry(index, page, level, inner, i, e);
@@ -197,7 +198,7 @@ fn put_inner(index: &mut [u8], page: u32, level: u8, inner: Inner, i: usize, gro
 // Inserts a record below a page; the level falls at each call.
 pub fn insert_at(index: &mut [u8], page: u32, level: u8, x: Record, rank: u64, d: u8) -> Grown
     requires { ⌜ rank ≡ rankOf d x ⌝ }
-    ensures { λ r. ⌜ Done (insertAt d level (now (index .entry)) page x) (now (index .exit)) r ⌝ }
+    ensures { λ r. ⌜ RewriteDone (insertAt d level (now (index .entry)) page x) (now (index .exit)) r ⌝ }
 {
     if level == 0 {
         return insert_leaf(index, page, x, rank, d);

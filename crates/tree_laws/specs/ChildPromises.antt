@@ -20,8 +20,10 @@ use Rattle.pagestore.specs.declared.Entry.{Entry}
 use Rattle.pagestore.specs.Store.{innerAt, entriesIn, levelAt, viewOf}
 use Rattle.tree_model.specs.Trees.{Item, records, pages, noRecord, rankOf, entryOf, treeOf}
 use Rattle.tree_model.specs.Sound.{SoundIndex}
-use Rattle.tree.specs.Entries.{notAbove, choose, noEntry}
-use Rattle.tree_laws.specs.Shapes.{Ok, Some, Root, ok-root, records-some, no-pages, first-rank}
+use Rattle.tree_model.specs.Inserting.{notAbove, choose}
+use Rattle.tree_model.specs.TreeLaws.{no-pages}
+use Rattle.tree_core.specs.Entries.{noEntry}
+use Rattle.tree_laws.specs.Shapes.{Ok, Some, Root, ok-root, records-some, first-rank}
 use Rattle.tree_laws.specs.LevelLaws.{root-level}
 use Rattle.tree_laws.specs.Frames.{Held}
 use Rattle.tree_laws.specs.InsertSim.{inner-items}

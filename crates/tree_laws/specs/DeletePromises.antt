@@ -11,11 +11,12 @@ use Rattle.pagestore.specs.declared.Record.{Record}
 use Rattle.pagestore.specs.Store.{features, root, level, total, fieldAt, levelAt, freeAt, viewOf}
 use Rattle.tree_model.specs.Trees.{rankOf, identOf, treeOf, live}
 use Rattle.tree_model.specs.Sound.{SoundIndex}
-use Rattle.tree.specs.Deletion.{deleteRecord, deleteAt, collapseRoot, takeFromTotal, deleteFrom}
-use Rattle.tree.specs.Lookup.{findIn}
-use Rattle.tree_laws.specs.Shapes.{Shape}
+use Rattle.tree_model.specs.Deleting.{deleteRecord, deletedTree}
+use Rattle.tree_model.specs.Inserting.{Shape}
+use Rattle.tree_core.specs.Deletion.{deleteAt, collapseRoot, takeFromTotal, deleteFrom}
+use Rattle.tree_core.specs.Lookup.{findIn}
 use Rattle.tree_laws.specs.DeleteTree.{Known}
-use Rattle.tree_laws.specs.DeleteRoot.{deletedTree, givenRoot, delete-root}
+use Rattle.tree_laws.specs.DeleteRoot.{givenRoot, delete-root}
 use Rattle.tree_laws.specs.LevelLaws.{given-root-below}
 use Rattle.tree_laws.specs.Wholes.{Whole, shapeAt, sound-whole, sound-right, view-d}
 use Rattle.tree_laws.specs.Depth.{level-small}
@@ -45,22 +46,22 @@ module _ (b : List ℕ) (i : ℕ) (s : SoundIndex b) (h : 0 < mult i (map identO
   known : All (Known (viewOf b .d) (findIn b i)) (live (viewOf b))
   known = all-map (λ x (f : x .id ≡ i → x ≡ findIn b i) g. ap (rankOf d) (f (g ∙ find-ident b i s h))) (find-only b i s)
 
-  abbrev lowered : List ℕ
-  lowered = collapseRoot (fieldAt level b) (deleteAt (fieldAt features b) (fieldAt level b) b (fieldAt root b) (findIn b i) .bytes) (fieldAt root b) (deleteAt (fieldAt features b) (fieldAt level b) b (fieldAt root b) (findIn b i) .count)
+  abbrev collapsed : List ℕ
+  collapsed = collapseRoot (fieldAt level b) (deleteAt (fieldAt features b) (fieldAt level b) b (fieldAt root b) (findIn b i) .bytes) (fieldAt root b) (deleteAt (fieldAt features b) (fieldAt level b) b (fieldAt root b) (findIn b i) .count)
 
-  found : Changed d b lowered (deletedTree (viewOf b .d) (findIn b i) (shapeAt b)) (deleteRecord (findIn b i .id) (live (viewOf b))) (pagesGiven b i ++ freeAt b)
+  found : Changed d b collapsed (deletedTree (viewOf b .d) (findIn b i) (shapeAt b)) (deleteRecord (findIn b i .id) (live (viewOf b))) (pagesGiven b i ++ freeAt b)
   unfolding live pagesGiven
   found =
       let v = level-small b (viewOf b .level) (treeOf (viewOf b)) (w .ok) (w .own) in
       rw (w .features-are, w .level-is, w .root-is) (delete-root d b r (viewOf b .level) (treeOf (viewOf b)) (omega arith) w known)
 
-  changed : Changed d b lowered (deletedTree (viewOf b .d) (findIn b i) (shapeAt b)) (deleteRecord i (live (viewOf b))) (pagesGiven b i ++ freeAt b)
-  changed = subst (λ (j : ℕ). Changed d b lowered (deletedTree (viewOf b .d) (findIn b i) (shapeAt b)) (deleteRecord j (live (viewOf b))) (pagesGiven b i ++ freeAt b)) (find-ident b i s h) found
+  changed : Changed d b collapsed (deletedTree (viewOf b .d) (findIn b i) (shapeAt b)) (deleteRecord i (live (viewOf b))) (pagesGiven b i ++ freeAt b)
+  changed = subst (λ (j : ℕ). Changed d b collapsed (deletedTree (viewOf b .d) (findIn b i) (shapeAt b)) (deleteRecord j (live (viewOf b))) (pagesGiven b i ++ freeAt b)) (find-ident b i s h) found
 
   shorter : length (deleteRecord i (live (viewOf b))) + 1 ≡ length (live (viewOf b))
   shorter = del-one i (live (viewOf b)) h
 
-  count : fieldAt total lowered - 1 ≡ length (deleteRecord i (live (viewOf b)))
+  count : fieldAt total collapsed - 1 ≡ length (deleteRecord i (live (viewOf b)))
   count = omega (arith, changed .others total refl refl refl refl, sound-right b s .total-is, shorter)
 
   -- the index is sound again
@@ -68,18 +69,18 @@ module _ (b : List ℕ) (i : ℕ) (s : SoundIndex b) (h : 0 < mult i (map identO
   unfolding deleteFrom takeFromTotal
   delete-sound =
       let rt = sound-right b s in
-      changed-sound (fieldAt total lowered - 1) rt changed (del-all i (rt .ranges)) (λ j. omega (arith, ident-del i j (live (viewOf b)), rt .distinct j)) count
+      changed-sound (fieldAt total collapsed - 1) rt changed (del-all i (rt .ranges)) (λ j. omega (arith, ident-del i j (live (viewOf b)), rt .distinct j)) count
       (omega (arith, shorter, rt .most))
 
   -- its records are the old ones without the one of that identifier
   pub delete-live : live (viewOf (deleteIdent b i)) ≡ deleteRecord i (live (viewOf b))
   unfolding deleteFrom takeFromTotal
-  delete-live = total-changed (fieldAt total lowered - 1) changed .0
+  delete-live = total-changed (fieldAt total collapsed - 1) changed .0
 
   -- no page is wanted, and those given up come before the pages that were free
   pub delete-pages : freeAt (deleteIdent b i) ≡ pagesGiven b i ++ freeAt b
   unfolding deleteFrom takeFromTotal
-  delete-pages = total-changed (fieldAt total lowered - 1) changed .1
+  delete-pages = total-changed (fieldAt total collapsed - 1) changed .1
 
   -- lower levels first: from the last freed back, their levels fall
   pub delete-order : Descending (map (levelAt b) (pagesGiven b i))
@@ -89,12 +90,12 @@ module _ (b : List ℕ) (i : ℕ) (s : SoundIndex b) (h : 0 < mult i (map identO
   -- level and tree: a child left with 7 is evened out with its partner, an inner root with one child gives way
   pub delete-shape : _≡_ {A = Shape} (shapeAt (deleteIdent b i)) (deletedTree (viewOf b .d) (findIn b i) (shapeAt b))
   unfolding deleteFrom takeFromTotal
-  delete-shape = total-changed (fieldAt total lowered - 1) changed .4
+  delete-shape = total-changed (fieldAt total collapsed - 1) changed .4
 
   pub delete-length : length (deleteIdent b i) ≡ length b
   unfolding deleteFrom takeFromTotal
-  delete-length = total-changed (fieldAt total lowered - 1) changed .2
+  delete-length = total-changed (fieldAt total collapsed - 1) changed .2
 
   pub delete-features : viewOf (deleteIdent b i) .d ≡ viewOf b .d
   unfolding deleteFrom takeFromTotal
-  delete-features = view-d (deleteIdent b i) ∙ total-changed (fieldAt total lowered - 1) changed .3
+  delete-features = view-d (deleteIdent b i) ∙ total-changed (fieldAt total collapsed - 1) changed .3

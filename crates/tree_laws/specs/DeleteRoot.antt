@@ -17,13 +17,15 @@ use Rattle.pagestore.specs.declared.Entry.{Entry}
 use Rattle.pagestore.specs.Store.{pageAt, features, root, level, freed, fieldAt, inRange, innerAt, entriesIn, freeAt, freePage}
 use Rattle.pagestore.specs.Store.FreeLaws.{page-free, free-free}
 use Rattle.tree_model.specs.Trees.{Item, records, pages, rankOf}
-use Rattle.tree.specs.Entries.{childAt}
-use Rattle.tree.specs.Deletion.{Deleted, deleteRecord, deleteAt, collapseRoot}
-use Rattle.tree_laws.specs.Shapes.{Ok, Some, Root, ok-root, Shape, noTree, child-at}
+use Rattle.tree_model.specs.Deleting.{deleteRecord, deleteTree, collapsed, deletedTree}
+use Rattle.tree_model.specs.Inserting.{Shape, noTree}
+use Rattle.tree_core.specs.Entries.{childAt}
+use Rattle.tree_core.specs.Deletion.{Deleted, deleteAt, collapseRoot}
+use Rattle.tree_laws.specs.Shapes.{Ok, Some, Root, ok-root, child-at}
 use Rattle.tree_laws.specs.Idents.{del-all, del-length, del-rising}
 use Rattle.tree_laws.specs.Frames.{Held, held-frame, Well, Kept, kept-range, kept-free, freed-le}
 use Rattle.tree_laws.specs.InsertSim.{inner-items}
-use Rattle.tree_laws.specs.DeleteTree.{deleteTree, same-page, Known, delete-after, delete-kept, delete-records, delete-free, delete-tree, given}
+use Rattle.tree_laws.specs.DeleteTree.{same-page, Known, delete-after, delete-kept, delete-records, delete-free, delete-tree, given}
 use Rattle.tree_laws.specs.DeleteSim.{DeleteSim, delete-sim}
 use Rattle.tree_laws.specs.Wholes.{Whole}
 use Rattle.tree_laws.specs.Header.{setRoot, root-length, root-field, root-page, root-free, root-well, root-range, root-set, level-set, Changed, changed-over}
@@ -32,15 +34,6 @@ use Rattle.tree_laws.specs.Header.{setRoot, root-length, root-field, roo
 unfoldable pub givenRoot : ℕ → (l : ℕ) → Record → Item (suc l) → List ℕ
 givenRoot d zero r t = []
 givenRoot d (suc l) r t = if (eqb (length (deleteTree d (suc l) r [] t .tree .1)) 1) (t .0 ∷ []) [] ++ given d (suc l) r t
-
--- the tree of a root x of level l, which gives way to a child that is alone
-unfoldable pub lowered : (l : ℕ) → Item (suc l) → Shape
-lowered zero x = (0, x)
-lowered (suc l) x = if (eqb (length (x .1)) 1) (l, getD (x .1) 0 (noTree l)) (suc l, x)
-
--- the tree after a deletion
-unfoldable pub deletedTree : ℕ → Record → Shape → Shape
-deletedTree d r s = lowered (s .0) (deleteTree d (s .0) r [] (s .1) .tree)
 
 -- the root p of b over the one tree c
 module _ (d l : ℕ) (b : List ℕ) (p : ℕ) (c : Item (suc l)) (v : suc l < 256) (well : Well b) (ok : Ok (suc l) c) (held : Held d (suc (suc l)) b (p, c ∷ []))
@@ -174,12 +167,12 @@ module _ (d : ℕ) (b : List ℕ) (r : Record) (l : ℕ) (t : Item (suc l)) (v :
       }
 
 -- an inner root that is left with one child
-gives-way : (d : ℕ) (b : List ℕ) (r : Record) (l : ℕ) (t : Item (suc (suc l))) (v : suc l < 256) (w : Whole d b (suc l) t) (kn : All (Known d r) (records (suc (suc l)) t))
+collapses : (d : ℕ) (b : List ℕ) (r : Record) (l : ℕ) (t : Item (suc (suc l))) (v : suc l < 256) (w : Whole d b (suc l) t) (kn : All (Known d r) (records (suc (suc l)) t))
     → length (deleteTree d (suc l) r (freeAt b) t .tree .1) ≡ 1
     → Changed d b (freePage (setRoot (deleteAt d (suc l) b (t .0) r .bytes) (childAt (entriesIn (innerAt (deleteAt d (suc l) b (t .0) r .bytes) (t .0))) 0) l) (t .0))
     (l, getD (deleteTree d (suc l) r (freeAt b) t .tree .1) 0 (noTree l)) (deleteRecord (r .id) (records (suc (suc l)) t)) (t .0 ∷ (given d (suc l) r t ++ freeAt b))
 unfolding records concatMap
-gives-way d b r l t v w kn e =
+collapses d b r l t v w kn e =
     let x = deleteTree d (suc l) r (freeAt b) t .tree in
     let b1 = deleteAt d (suc l) b (t .0) r .bytes in
     let c = getD (x .1) 0 (noTree l) in
@@ -201,9 +194,9 @@ gives-way d b r l t v w kn e =
     (low-changed d l b1 (t .0) c v wl okc held own (features-o d b r (suc l) t v w kn) rise)
 
 inner-root : (d : ℕ) (b : List ℕ) (r : Record) (l : ℕ) (t : Item (suc (suc l))) → suc l < 256 → Whole d b (suc l) t → All (Known d r) (records (suc (suc l)) t)
-    → Changed d b (collapseRoot (suc l) (deleteAt d (suc l) b (t .0) r .bytes) (t .0) (deleteAt d (suc l) b (t .0) r .count)) (lowered (suc l) (deleteTree d (suc l) r [] t .tree))
+    → Changed d b (collapseRoot (suc l) (deleteAt d (suc l) b (t .0) r .bytes) (t .0) (deleteAt d (suc l) b (t .0) r .count)) (collapsed (suc l) (deleteTree d (suc l) r [] t .tree))
     (deleteRecord (r .id) (records (suc (suc l)) t)) (givenRoot d (suc l) r t ++ freeAt b)
-unfolding collapseRoot lowered givenRoot Some
+unfolding collapseRoot collapsed givenRoot Some
 inner-root d b r l t v w kn =
     let b1 = deleteAt d (suc l) b (t .0) r .bytes in
     let x = deleteTree d (suc l) r (freeAt b) t .tree in
@@ -218,13 +211,13 @@ inner-root d b r l t v w kn =
     rw ce
     (subst (G (eqb n 1)) xe
     (bool-cases (λ c. G c x) (eqb n 1)
-    (λ e. gives-way d b r l t v w kn (ne ∙ eqb-true n 1 e))
+    (λ e. collapses d b r l t v w kn (ne ∙ eqb-true n 1 e))
     (λ e. let e' = eqb-false n 1 e in
     stay d b r (suc l) t v w kn (record { some = omega (arith, near .low, ne, e'); most = near .high; subs = near .subs }))))
 
 -- THE DELETION
 pub delete-root : (d : ℕ) (b : List ℕ) (r : Record) (l : ℕ) (t : Item (suc l)) → l < 256 → Whole d b l t → All (Known d r) (records (suc l) t)
     → Changed d b (collapseRoot l (deleteAt d l b (t .0) r .bytes) (t .0) (deleteAt d l b (t .0) r .count)) (deletedTree d r (l, t)) (deleteRecord (r .id) (records (suc l) t)) (givenRoot d l r t ++ freeAt b)
-unfolding collapseRoot deletedTree lowered givenRoot given deleteTree Some
+unfolding collapseRoot deletedTree collapsed givenRoot given deleteTree Some
 delete-root d b r zero t v w kn = stay d b r zero t v w kn (leaf-root d r (freeAt b) t (w .ok))
 delete-root d b r (suc l) t v w kn = inner-root d b r l t v w kn

@@ -5,12 +5,12 @@ use mathlib.Core.Logic.{_≢_}
 use mathlib.Core.List.{List, [], _∷_, _++_, map}
 use Prim.Native.Nat.{ℕ, zero, suc, _+_, _-_, _^_, _≤_, _<_}
 use native.Mathlib.Omega.{arith}
-use lib.Dec.{leb, ltb}
+use lib.Dec.{leb, eqb}
 use lib.ListN.{length, take, drop, getD, set, length-map, length-set}
-use lib.Seq.{split-at, drop-cons, set-split}
-use borrow.Author.Tests.{leb-true, le-ltb}
+use lib.Seq.{split-at, drop-cons, set-split, take-append-seam, drop-append-seam}
+use borrow.Author.Tests.{leb-true, le-ltb, ne-eqb}
 use Rattle.lists.specs.Basics.{if, indicator, All, none, also, concatMap, concatMap-append, all-head, all-append, all-left, all-right}
-use Rattle.lists.specs.Choices.{if-cases, indicator-le, indicator-true}
+use Rattle.lists.specs.Choices.{bool-cases, if-cases, indicator-le, indicator-true}
 use Rattle.lists.specs.Counts.{mult, mult-append, mult-more, mult-self, absent}
 use Rattle.lists.specs.ConcatMapLaws.{map-append}
 use Rattle.lists.specs.Parts.{all-drop, all-set, concatMap-set, concatMap-pair, map-take, map-drop, map-set}
@@ -22,20 +22,23 @@ use Rattle.pagestore.specs.Store.RangeLaws.{range-fits}
 use Rattle.pagestore.specs.Store.PageLaws.{page-same, page-other}
 use Rattle.pagestore.specs.Store.FreeLaws.{free-page, page-free, free-free}
 use Rattle.tree_model.specs.Trees.{Item, pages, rankOf, entryOf, node}
-use Rattle.tree.specs.Entries.{choose, childAt, innerEntry}
-use Rattle.tree.specs.Insertion.{writeInner}
-use Rattle.tree.specs.Deletion.{Deleted, deleteRecord, rebalancedItems, Rebalanced, putRebalanced, rebalancedPages, leftOf, leave, fixUnderflow, deleteAt}
-use Rattle.tree_laws.specs.Shapes.{Ok, Some, Root, ok-root, noTree, no-pages, child-at, chosen, chosen-lt}
+use Rattle.tree_model.specs.Inserting.{choose, noTree, chosen, Cut}
+use Rattle.tree_model.specs.Deleting.{deleteRecord, leftCount, rebalancedItems, leftOf, placePair, rebalancedPair, deleteTree}
+use Rattle.tree_model.specs.TreeLaws.{no-pages}
+use Rattle.tree_core.specs.Entries.{childAt, innerEntry}
+use Rattle.tree_core.specs.Insertion.{writeInner, Rewritten}
+use Rattle.tree_core.specs.Deletion.{Deleted, putRebalanced, rebalancedPages, leave, rebalancedBelow, fixUnderflow, deleteAt}
+use Rattle.tree_laws.specs.Shapes.{Ok, Some, Root, ok-root, child-at, chosen-lt}
 use Rattle.tree_laws.specs.Idents.{del-all, del-length}
 use Rattle.tree_laws.specs.EntryLaws.{leaf-entry, inner-entry}
 use Rattle.tree_laws.specs.Frames.{Held, held-list, held-zero, Well, Kept, kept-range, kept-trans, kept-page, kept-free, freed-le, node-fits}
 use Rattle.tree_laws.specs.InsertSim.{writeNode, entryAs, one-sim, leaf-items, inner-items, sum-at}
-use Rattle.tree_laws.specs.DeleteTree.{Even, two, one, Less, glue, evened, Near, pair-near, pair-lt, pair-even, pair-ok, pair-pages, pair-length, deleteTree, delete-near, delete-kept}
+use Rattle.tree_laws.specs.DeleteTree.{Balanced, two, one, Near, pair-near, pair-lt, pair-balanced, pair-ok, pair-pages, pair-length, delete-near, delete-kept}
 
--- TWO PAGES EVENED OUT
+-- TWO PAGES REBALANCED
 
 -- r is what the trees of c say, and of b no page but p and q has changed
-record PairSim (d l : ℕ) (b : List ℕ) (p q : ℕ) (r : Rebalanced) (c : Less (Item l)) : Type 0 where
+record PairSim (d l : ℕ) (b : List ℕ) (p q : ℕ) (r : Rewritten) (c : Cut (Item l)) : Type 0 where
   held : All (Held d (suc l) (r .bytes)) (c .trees)
   entries : r .entries ≡ map (entryOf d l) (c .trees)
   free : freeAt (r .bytes) ≡ c .free
@@ -75,9 +78,9 @@ module _ (d l : ℕ) (b : List ℕ) (p q : ℕ) (xs ys : List (Item l)) (v : l <
   free-q : mult q (freeAt b) ≡ 0
   free-q = omega (arith, bound q, mult-self q (concatMap (pages l) ys))
 
-  glue-sim : {zs : List (List (Item l))} → Even xs ys zs → PairSim d l b p q (putRebalanced (writeNode d l) (entryAs d l) b p q zs) (glue p q (freeAt b) zs)
-  unfolding putRebalanced glue Held
-  glue-sim (two {us = us} {vs = vs} e a1 a2 a3 a4) =
+  place-sim : {zs : List (List (Item l))} → Balanced xs ys zs → PairSim d l b p q (putRebalanced (writeNode d l) (entryAs d l) b p q zs) (placePair p q (freeAt b) zs)
+  unfolding putRebalanced placePair Held
+  place-sim (two {us = us} {vs = vs} e a1 a2 a3 a4) =
       let x1 = node d l us in
       let x2 = node d l vs in
       let b1 = setPage b p x1 in
@@ -100,7 +103,7 @@ module _ (d l : ℕ) (b : List ℕ) (p q : ℕ) (xs ys : List (Item l)) (v : l <
         frame = fr;
         kept = kept-trans k1 (kept-page b1 q x2 (k1 .well) f2);
       }
-  glue-sim (one {us = us} e a1 a2) =
+  place-sim (one {us = us} e a1 a2) =
       let x1 = node d l us in
       let b1 = setPage b p x1 in
       let ok' : All (Ok l) us = rw e ok in
@@ -125,34 +128,25 @@ module _ (d l : ℕ) (b : List ℕ) (p q : ℕ) (xs ys : List (Item l)) (v : l <
 
 -- WHAT THE CODE WRITES IS THE TREE'S
 
-rebalancedBy : {A : Type 0} → Bool → Bool → Bool → Bool → ℕ → List A → List A → List (List A)
-rebalancedBy c1 c2 c3 c4 n xs ys =
-    if c1 (if c2 ((xs ++ take 1 ys) ∷ drop 1 ys ∷ []) ((xs ++ ys) ∷ []))
-    (if c3 (if c4 (take n xs ∷ (drop n xs ++ ys) ∷ []) ((xs ++ ys) ∷ [])) (xs ∷ ys ∷ []))
+rebalanced-map : {A B : Type 0} (f : A → B) (xs ys : List A) → rebalancedItems (map f xs) (map f ys) ≡ map (map f) (rebalancedItems xs ys)
+unfolding rebalancedItems
+rebalanced-map {A} {B} f xs ys =
+    let k = leftCount (length xs) (length ys) in
+    rw (length-map xs f, length-map ys f, ← map-append f xs ys)
+    (bool-cases
+    (λ c. if c (map f (xs ++ ys) ∷ []) (take k (map f (xs ++ ys)) ∷ drop k (map f (xs ++ ys)) ∷ []) ≡ map (map f) (if c ((xs ++ ys) ∷ []) (take k (xs ++ ys) ∷ drop k (xs ++ ys) ∷ [])))
+    (eqb k (length xs + length ys)) (λ _. refl) (λ _. rw (map-take f k (xs ++ ys), map-drop f k (xs ++ ys))))
 
-evenBy-map : {A B : Type 0} (f : A → B) (c1 c2 c3 c4 : Bool) (n : ℕ) (xs ys : List A) → rebalancedBy c1 c2 c3 c4 n (map f xs) (map f ys) ≡ map (map f) (rebalancedBy c1 c2 c3 c4 n xs ys)
-unfolding rebalancedBy
-evenBy-map f true true c3 c4 n xs ys = rw (map-take f 1 ys, map-drop f 1 ys, ← map-append f xs (take 1 ys))
-evenBy-map f true false c3 c4 n xs ys = rw (← map-append f xs ys)
-evenBy-map f false c2 true true n xs ys = rw (map-take f n xs, map-drop f n xs, ← map-append f (drop n xs) ys)
-evenBy-map f false c2 true false n xs ys = rw (← map-append f xs ys)
-evenBy-map f false c2 false c4 n xs ys = refl
-
-even-map : {A B : Type 0} (f : A → B) (xs ys : List A) → rebalancedItems (map f xs) (map f ys) ≡ map (map f) (rebalancedItems xs ys)
-unfolding rebalancedItems rebalancedBy
-even-map f xs ys =
-    rw (length-map xs f, length-map ys f) (evenBy-map f (ltb (length xs) 8) (ltb 8 (length ys)) (ltb (length ys) 8) (ltb 8 (length xs)) (length xs - 1) xs ys)
-
-glue-map : (d l : ℕ) (b : List ℕ) (p q : ℕ) {zs : List (List (Item (suc l)))} → All (All (Ok (suc l))) zs
+place-map : (d l : ℕ) (b : List ℕ) (p q : ℕ) {zs : List (List (Item (suc l)))} → All (All (Ok (suc l))) zs
     → putRebalanced (writeInner (suc l)) innerEntry b p q (map (map (entryOf d l)) zs) ≡ putRebalanced (writeNode d (suc l)) (entryAs d (suc l)) b p q zs
 unfolding putRebalanced setPage node
-glue-map d l b p q none = refl
-glue-map d l b p q (also {x = us} h none) = rw (inner-entry d l p us h)
-glue-map d l b p q (also {x = us} h (also {x = vs} g t)) = rw (inner-entry d l p us h, inner-entry d l q vs g)
+place-map d l b p q none = refl
+place-map d l b p q (also {x = us} h none) = rw (inner-entry d l p us h)
+place-map d l b p q (also {x = us} h (also {x = vs} g t)) = rw (inner-entry d l p us h, inner-entry d l q vs g)
 
-even-oks : {A : Type 0} {P : A → Type 0} {xs ys : List A} {zs : List (List A)} → Even xs ys zs → All P (xs ++ ys) → All (All P) zs
-even-oks {A} {P} (two {us = us} {vs = vs} e a b c d) o = let o' : All P (us ++ vs) = rw e o in also (all-left us vs o') (also (all-right us vs o') none)
-even-oks {A} {P} (one {us = us} e a b) o = let o' : All P us = rw e o in also o' none
+balanced-oks : {A : Type 0} {P : A → Type 0} {xs ys : List A} {zs : List (List A)} → Balanced xs ys zs → All P (xs ++ ys) → All (All P) zs
+balanced-oks {A} {P} (two {us = us} {vs = vs} e a b c d) o = let o' : All P (us ++ vs) = rw e o in also (all-left us vs o') (also (all-right us vs o') none)
+balanced-oks {A} {P} (one {us = us} e a b) o = let o' : All P us = rw e o in also o' none
 
 rebalance-pages : (d l : ℕ) (b : List ℕ) (x y : Item (suc l)) → Held d (suc l) b x → Held d (suc l) b y → All (All (Ok l)) (rebalancedItems (x .1) (y .1))
     → rebalancedPages d l b (x .0) (y .0) ≡ putRebalanced (writeNode d l) (entryAs d l) b (x .0) (y .0) (rebalancedItems (x .1) (y .1))
@@ -162,7 +156,7 @@ rebalance-pages d zero b x y h g o =
     (ap (λ (en : ℕ → List Record → Entry). putRebalanced setLeaf en b (x .0) (y .0) (rebalancedItems (x .1) (y .1))) (fun-ext (λ z. fun-ext (λ us. leaf-entry d z us))))
 rebalance-pages d (suc l) b x y h g o =
     rw (inner-items d l b x h, inner-items d l b y g)
-    (ap (putRebalanced (writeInner (suc l)) innerEntry b (x .0) (y .0)) (even-map (entryOf d l) (x .1) (y .1)) ∙ glue-map d l b (x .0) (y .0) o)
+    (ap (putRebalanced (writeInner (suc l)) innerEntry b (x .0) (y .0)) (rebalanced-map (entryOf d l) (x .1) (y .1)) ∙ place-map d l b (x .0) (y .0) o)
 
 -- DELETION BELOW A PAGE
 
@@ -238,7 +232,7 @@ module _ (d l : ℕ) (b : List ℕ) (p : ℕ) (ts : List (Item (suc l))) (i : �
   c = getD (set ts i x) (suc (leftOf i (length ts))) (noTree l)
 
   abbrev rest : List (Item (suc l))
-  rest = take (leftOf i (length ts)) us ++ (evened l fs (leftOf i (length ts)) us .trees ++ drop (suc (suc (leftOf i (length ts)))) us)
+  rest = take (leftOf i (length ts)) us ++ (rebalancedPair l fs (leftOf i (length ts)) us .trees ++ drop (suc (suc (leftOf i (length ts)))) us)
 
   pl : suc (leftOf i (length ts)) < length (set ts i x)
   pl = pair-lt l ts i x lt g2 ok nx
@@ -267,21 +261,21 @@ module _ (d l : ℕ) (b : List ℕ) (p : ℕ) (ts : List (Item (suc l))) (i : �
   nc : Near l c
   nc = all-at (pair-near l ts i x lt g2 ok nx) (suc (leftOf i (length ts))) (noTree l) pl
 
-  ev : Even (a .1) (c .1) (rebalancedItems (a .1) (c .1))
-  ev = pair-even l ts i x lt g2 ok nx
+  ev : Balanced (a .1) (c .1) (rebalancedItems (a .1) (c .1))
+  ev = pair-balanced l ts i x lt g2 ok nx
 
-  ps : PairSim d l (o .bytes) (a .0) (c .0) (putRebalanced (writeNode d l) (entryAs d l) (o .bytes) (a .0) (c .0) (rebalancedItems (a .1) (c .1))) (glue (a .0) (c .0) (freeAt (o .bytes)) (rebalancedItems (a .1) (c .1)))
+  ps : PairSim d l (o .bytes) (a .0) (c .0) (putRebalanced (writeNode d l) (entryAs d l) (o .bytes) (a .0) (c .0) (rebalancedItems (a .1) (c .1))) (placePair (a .0) (c .0) (freeAt (o .bytes)) (rebalancedItems (a .1) (c .1)))
   unfolding Held pages
   ps =
-      glue-sim d l (o .bytes) (a .0) (c .0) (a .1) (c .1) (omega arith) (ih .kept .well) (λ q. omega (arith, own1 q, pair-sum2 q)) (all-append (held-a .1) (held-c .1)) (all-append (na .subs) (nc .subs)) ev
+      place-sim d l (o .bytes) (a .0) (c .0) (a .1) (c .1) (omega arith) (ih .kept .well) (λ q. omega (arith, own1 q, pair-sum2 q)) (all-append (held-a .1) (held-c .1)) (all-append (na .subs) (nc .subs)) ev
 
   v-is : rebalancedPages d l (o .bytes) (a .0) (c .0) ≡ putRebalanced (writeNode d l) (entryAs d l) (o .bytes) (a .0) (c .0) (rebalancedItems (a .1) (c .1))
-  v-is = rebalance-pages d l (o .bytes) a c held-a held-c (even-oks ev (all-append (na .subs) (nc .subs)))
+  v-is = rebalance-pages d l (o .bytes) a c held-a held-c (balanced-oks ev (all-append (na .subs) (nc .subs)))
 
   abbrev b2 : List ℕ
   b2 = rebalancedPages d l (o .bytes) (a .0) (c .0) .bytes
 
-  ps' : PairSim d l (o .bytes) (a .0) (c .0) (rebalancedPages d l (o .bytes) (a .0) (c .0)) (evened l fs (leftOf i (length ts)) us)
+  ps' : PairSim d l (o .bytes) (a .0) (c .0) (rebalancedPages d l (o .bytes) (a .0) (c .0)) (rebalancedPair l fs (leftOf i (length ts)) us)
   ps' = rw v-is (rw (ih .free) at ps)
 
   -- the pages of the other children aren't those of the pair
@@ -301,7 +295,7 @@ module _ (d l : ℕ) (b : List ℕ) (p : ℕ) (ts : List (Item (suc l))) (i : �
   own2 : (q : ℕ) → mult q (p ∷ concatMap (pages (suc l)) rest) + mult q (freeAt b2) ≤ indicator (inRange b2 q)
   own2 q =
       let m = pair-pages l ts i x lt g2 ok nx fs q in
-      let f : mult q (freeAt b2) ≡ mult q (evened l fs (leftOf i (length ts)) us .free) = ap (mult q) (ps' .free) in
+      let f : mult q (freeAt b2) ≡ mult q (rebalancedPair l fs (leftOf i (length ts)) us .free) = ap (mult q) (ps' .free) in
       let f1 : mult q (freeAt (o .bytes)) ≡ mult q fs = ap (mult q) (ih .free) in
       rw (kept-range (ps' .kept) q) (omega (arith, own1 q, mult-append q (p ∷ []) (concatMap (pages (suc l)) rest), mult-append q (p ∷ []) (concatMap (pages (suc l)) us)))
 
@@ -312,29 +306,30 @@ module _ (d l : ℕ) (b : List ℕ) (p : ℕ) (ts : List (Item (suc l))) (i : �
   unfolding Ok
   plain-sim h = leave-sim d l (o .bytes) p us v (ih .kept .well) own1 held1 (all-set i x (h, nx .high, nx .subs) ok) (omega (arith, length-set ts i x))
 
-  -- with 8 or more left there is nothing to even out
+  -- with 8 or more left there is nothing to rebalance
   noop : 8 ≤ length (x .1) → rebalancedItems (a .1) (c .1) ≡ a .1 ∷ c .1 ∷ []
-  unfolding rebalancedItems Ok
+  unfolding rebalancedItems leftCount Ok
   noop h =
       let oks : All (Ok (suc l)) us = all-set i x (h, nx .high, nx .subs) ok in
       let oa = all-at oks (leftOf i (length ts)) (noTree l) (omega (arith, pl)) in
       let oc = all-at oks (suc (leftOf i (length ts))) (noTree l) pl in
-      rw (le-ltb (length (a .1)) 8 (oa .0), le-ltb (length (c .1)) 8 (oc .0))
+      let n : leftCount (length (a .1)) (length (c .1)) ≡ length (a .1) = rw (le-ltb (length (a .1)) 8 (oa .0), le-ltb (length (c .1)) 8 (oc .0)) in
+      rw (n, ne-eqb (length (a .1)) (length (a .1) + length (c .1)) (λ (z : length (a .1) ≡ length (a .1) + length (c .1)). omega (arith, oc .0)), take-append-seam (a .1) (c .1), drop-append-seam (a .1) (c .1))
 
-  plain-rest : 8 ≤ length (x .1) → (us ≡ rest) × (fs ≡ evened l fs (leftOf i (length ts)) us .free)
-  unfolding glue
+  plain-rest : 8 ≤ length (x .1) → (us ≡ rest) × (fs ≡ rebalancedPair l fs (leftOf i (length ts)) us .free)
+  unfolding placePair
   plain-rest h = rw (noop h) (split2, refl)
 
-  mend-is : fixUnderflow d l p (map (entryOf d l) ts) i o ≡ if (leb 8 (o .count)) (leave (suc l) (o .bytes) p (map (entryOf d l) us)) (leave (suc l) b2 p (map (entryOf d l) rest))
-  unfolding fixUnderflow
-  mend-is =
+  fix-is : fixUnderflow d l p (map (entryOf d l) ts) i o ≡ if (leb 8 (o .count)) (leave (suc l) (o .bytes) p (map (entryOf d l) us)) (leave (suc l) b2 p (map (entryOf d l) rest))
+  unfolding fixUnderflow rebalancedBelow
+  fix-is =
       let e : set (map (entryOf d l) ts) i (o .entry) ≡ map (entryOf d l) us = ap (set (map (entryOf d l) ts) i) (ih .entry) ∙ map-set (entryOf d l) ts i x in
-      let n : length (map (entryOf d l) ts) ≡ length ts = length-map ts (entryOf d l) in
+      let n : length (map (entryOf d l) us) ≡ length ts = length-map us (entryOf d l) ∙ length-set ts i x in
       let ca : childAt (map (entryOf d l) us) (leftOf i (length ts)) ≡ a .0 = child-at d l (leftOf i (length ts)) us in
       let cb : childAt (map (entryOf d l) us) (suc (leftOf i (length ts))) ≡ c .0 = child-at d l (suc (leftOf i (length ts))) us in
-      rw (e, n, ca, cb, ps' .entries, map-take (entryOf d l) (leftOf i (length ts)) us, map-drop (entryOf d l) (suc (suc (leftOf i (length ts)))) us, map-append (entryOf d l) (take (leftOf i (length ts)) us) (evened l fs (leftOf i (length ts)) us .trees ++ drop (suc (suc (leftOf i (length ts)))) us), map-append (entryOf d l) (evened l fs (leftOf i (length ts)) us .trees) (drop (suc (suc (leftOf i (length ts)))) us))
+      rw (e, n, ca, cb, ps' .entries, map-take (entryOf d l) (leftOf i (length ts)) us, map-drop (entryOf d l) (suc (suc (leftOf i (length ts)))) us, map-append (entryOf d l) (take (leftOf i (length ts)) us) (rebalancedPair l fs (leftOf i (length ts)) us .trees ++ drop (suc (suc (leftOf i (length ts)))) us), map-append (entryOf d l) (rebalancedPair l fs (leftOf i (length ts)) us .trees) (drop (suc (suc (leftOf i (length ts)))) us))
 
-  -- from the bytes before, over the child's deletion (and the rebalancing out) and the parent's write
+  -- from the bytes before, over the child's deletion (and the rebalancing) and the parent's write
   over : {b1 : List ℕ} {o' : Deleted} {t : Item (suc (suc l))} {gs : List ℕ}
       → ((q : ℕ) → mult q (p ∷ concatMap (pages (suc l)) ts) ≡ 0 → mult q (freeAt b) ≡ 0 → (pageAt b1 q ≡ pageAt b q) × (mult q (freeAt b1) ≡ 0)) → Kept b b1
       → DeleteSim d (suc l) b1 (p ∷ []) o' t gs → DeleteSim d (suc l) b (p ∷ concatMap (pages (suc l)) ts) o' t gs
@@ -362,15 +357,15 @@ module _ (d l : ℕ) (b : List ℕ) (p : ℕ) (ts : List (Item (suc l))) (i : �
         ap (mult q) (ps' .free) ∙ omega (arith, mult-append q (p ∷ []) (concatMap (pages (suc l)) us)),
       )
 
-  mend-sim : DeleteSim d (suc l) b (p ∷ concatMap (pages (suc l)) ts) (fixUnderflow d l p (map (entryOf d l) ts) i o) (p, rest) (evened l fs (leftOf i (length ts)) us .free)
-  mend-sim =
-      rw mend-is
-      (if-cases (λ g. DeleteSim d (suc l) b (p ∷ concatMap (pages (suc l)) ts) g (p, rest) (evened l fs (leftOf i (length ts)) us .free)) (leb 8 (o .count)) _ _
+  fix-sim : DeleteSim d (suc l) b (p ∷ concatMap (pages (suc l)) ts) (fixUnderflow d l p (map (entryOf d l) ts) i o) (p, rest) (rebalancedPair l fs (leftOf i (length ts)) us .free)
+  fix-sim =
+      rw fix-is
+      (if-cases (λ g. DeleteSim d (suc l) b (p ∷ concatMap (pages (suc l)) ts) g (p, rest) (rebalancedPair l fs (leftOf i (length ts)) us .free)) (leb 8 (o .count)) _ _
       (λ e. let h : 8 ≤ length (x .1) = omega (arith, leb-true 8 (o .count) e, ih .count) in
       let pr = plain-rest h in
-      let s : DeleteSim d (suc l) (o .bytes) (p ∷ []) (leave (suc l) (o .bytes) p (map (entryOf d l) us)) (p, us) (evened l fs (leftOf i (length ts)) us .free) = rw (ih .free ∙ pr .1) at (plain-sim h) in
-      let s' : DeleteSim d (suc l) (o .bytes) (p ∷ []) (leave (suc l) (o .bytes) p (map (entryOf d l) us)) (p, rest) (evened l fs (leftOf i (length ts)) us .free) =
-      subst (λ (w : List (Item (suc l))). DeleteSim d (suc l) (o .bytes) (p ∷ []) (leave (suc l) (o .bytes) p (map (entryOf d l) us)) (p, w) (evened l fs (leftOf i (length ts)) us .free)) (pr .0) s in
+      let s : DeleteSim d (suc l) (o .bytes) (p ∷ []) (leave (suc l) (o .bytes) p (map (entryOf d l) us)) (p, us) (rebalancedPair l fs (leftOf i (length ts)) us .free) = rw (ih .free ∙ pr .1) at (plain-sim h) in
+      let s' : DeleteSim d (suc l) (o .bytes) (p ∷ []) (leave (suc l) (o .bytes) p (map (entryOf d l) us)) (p, rest) (rebalancedPair l fs (leftOf i (length ts)) us .free) =
+      subst (λ (w : List (Item (suc l))). DeleteSim d (suc l) (o .bytes) (p ∷ []) (leave (suc l) (o .bytes) p (map (entryOf d l) us)) (p, w) (rebalancedPair l fs (leftOf i (length ts)) us .free)) (pr .0) s in
       over frame1 (ih .kept) s')
       (λ e. over frame2 (kept-trans (ih .kept) (ps' .kept)) (rw (ps' .free) at short-sim)))
 
@@ -409,4 +404,4 @@ delete-sim d (suc l) b r t v o held well own =
     let ih : DeleteSim d l b (pages (suc l) c) (deleteAt d l b (c .0) r) (u .tree) (u .free) =
     delete-sim d l b r c (omega arith) (ok-root l c okc) (all-at (held .1) i (noTree l) lt) well (λ q. omega (arith, own q, sum-at l q (t .0) (t .1) i lt)) in
     rw (inner-step d l r b t held)
-    (mend-sim d l b (t .0) (t .1) i lt (o .some) (o .most) v (deleteAt d l b (c .0) r) (u .tree) (u .free) own (held .1) (o .subs) (delete-near d l r (freeAt b) c okc) ih (λ q. delete-kept d l r q (freeAt b) c (ok-root l c okc)))
+    (fix-sim d l b (t .0) (t .1) i lt (o .some) (o .most) v (deleteAt d l b (c .0) r) (u .tree) (u .free) own (held .1) (o .subs) (delete-near d l r (freeAt b) c okc) ih (λ q. delete-kept d l r q (freeAt b) c (ok-root l c okc)))

@@ -4,10 +4,10 @@ use mathlib.Core.Logic.{_≢_}
 use mathlib.Core.List.{List, [], _∷_, _++_, append-assoc, append-nil}
 use Prim.Native.Nat.{ℕ, zero, suc, _+_, _-_, _≤_, _<_}
 use native.Mathlib.Omega.{arith}
-use lib.Dec.{ltb}
+use lib.Dec.{ltb, eqb}
 use lib.ListN.{length, take, drop, getD, set, length-set, take-append-drop, length-append, length-take, length-drop}
 use lib.Seq.{take-set-le, drop-set-lt, getD-set-same, getD-set-other}
-use borrow.Author.Tests.{ltb-true, ltb-false}
+use borrow.Author.Tests.{ltb-true, ltb-false, eq-eqb, ne-eqb}
 use Rattle.lists.specs.Basics.{if, All, none, also, concatMap, concatMap-append, all-append, all-left, all-right, all-map}
 use Rattle.lists.specs.Choices.{if-cases}
 use Rattle.lists.specs.Counts.{mult, mult-append}
@@ -17,70 +17,71 @@ use Rattle.lists.specs.AscendingBy.{AscendingBy, rising-left, rising-right}
 use Rattle.lists.specs.Tabulated.{all-take, all-at}
 use Rattle.pagestore.specs.declared.Record.{Record}
 use Rattle.tree_model.specs.Trees.{Item, records, pages, rankOf}
-use Rattle.tree.specs.Deletion.{deleteRecord, rebalancedItems, leftOf}
-use Rattle.tree_laws.specs.Shapes.{Ok, Some, Root, ok-root, noTree, concatMap-records, no-pages, chosen, chosen-lt, before-chosen, behind-chosen}
+use Rattle.tree_model.specs.Deleting.{deleteRecord, leftCount, rebalancedItems, leftOf, placePair, rebalancedPair, Rest, deleteTree}
+use Rattle.tree_model.specs.Inserting.{noTree, chosen}
+use Rattle.tree_model.specs.TreeLaws.{concatMap-records, no-pages}
+use Rattle.tree_laws.specs.Shapes.{Ok, Some, Root, ok-root, chosen-lt, before-chosen, behind-chosen}
 use Rattle.tree_laws.specs.Idents.{del-left, del-right, del-all, del-length}
 
--- EVENING OUT
+-- REBALANCING
 
--- three ways: the two lists, cut elsewhere, or joined
-pub data Even {A : Type 0} (xs ys : List A) : List (List A) → Type 0 where
-  two : {us vs : List A} → us ++ vs ≡ xs ++ ys → 8 ≤ length us → length us ≤ 16 → 8 ≤ length vs → length vs ≤ 16 → Even xs ys (us ∷ vs ∷ [])
-  one : {us : List A} → us ≡ xs ++ ys → 8 ≤ length us → length us ≤ 16 → Even xs ys (us ∷ [])
+-- two ways: cut elsewhere, or merged
+pub data Balanced {A : Type 0} (xs ys : List A) : List (List A) → Type 0 where
+  two : {us vs : List A} → us ++ vs ≡ xs ++ ys → 8 ≤ length us → length us ≤ 16 → 8 ≤ length vs → length vs ≤ 16 → Balanced xs ys (us ∷ vs ∷ [])
+  one : {us : List A} → us ≡ xs ++ ys → 8 ≤ length us → length us ≤ 16 → Balanced xs ys (us ∷ [])
 
-even-is : {A : Type 0} (xs ys : List A) → 7 ≤ length xs → length xs ≤ 16 → 7 ≤ length ys → length ys ≤ 16 → 15 ≤ length xs + length ys → Even xs ys (rebalancedItems xs ys)
+-- what the left one is to hold, of two that may be rebalanced: all, if that fits a page, or so many that both are filled
+data Shared (n m : ℕ) : ℕ → Type 0 where
+  all : n + m ≤ 16 → Shared n m (n + m)
+  some : {k : ℕ} → 8 ≤ k → k ≤ 16 → k + 8 ≤ n + m → n + m ≤ k + 16 → Shared n m k
+
+left-shared : (n m : ℕ) → 7 ≤ n → n ≤ 16 → 7 ≤ m → m ≤ 16 → 15 ≤ n + m → Shared n m (leftCount n m)
+unfolding leftCount
+left-shared n m a b c d e =
+    if-cases (Shared n m) (ltb n 8) _ _
+    (λ h. let h' : n < 8 = ltb-true _ _ h in
+    if-cases (Shared n m) (ltb 8 m) _ _
+    (λ g. let g' : 8 < m = ltb-true _ _ g in some (omega arith) (omega arith) (omega arith) (omega arith))
+    (λ g. let g' : m ≤ 8 = ltb-false _ _ g in all (omega arith)))
+    (λ h. let h' : 8 ≤ n = ltb-false _ _ h in
+    if-cases (Shared n m) (ltb m 8) _ _
+    (λ g. let g' : m < 8 = ltb-true _ _ g in
+    if-cases (Shared n m) (ltb 8 n) _ _
+    (λ f. let f' : 8 < n = ltb-true _ _ f in some (omega arith) (omega arith) (omega arith) (omega arith))
+    (λ f. let f' : n ≤ 8 = ltb-false _ _ f in all (omega arith)))
+    (λ g. let g' : 8 ≤ m = ltb-false _ _ g in some (omega arith) (omega arith) (omega arith) (omega arith)))
+
+balanced-by : {A : Type 0} (xs ys : List A) {k : ℕ} → 15 ≤ length xs + length ys → Shared (length xs) (length ys) k
+    → Balanced xs ys (if (eqb k (length xs + length ys)) ((xs ++ ys) ∷ []) (take k (xs ++ ys) ∷ drop k (xs ++ ys) ∷ []))
+balanced-by xs ys e (all a) = rw (eq-eqb (length xs + length ys) (length xs + length ys) refl) (one {us = xs ++ ys} refl (omega (arith, length-append xs ys)) (omega (arith, length-append xs ys)))
+balanced-by xs ys {k} e (some a b c d) =
+    let n = length-append xs ys in
+    let t = length-take k (xs ++ ys) in
+    let u = length-drop k (xs ++ ys) in
+    rw (ne-eqb k (length xs + length ys) (λ (z : k ≡ length xs + length ys). omega arith)) (two {us = take k (xs ++ ys)} {vs = drop k (xs ++ ys)} (take-append-drop k (xs ++ ys)) (omega arith) (omega arith) (omega arith) (omega arith))
+
+balanced-is : {A : Type 0} (xs ys : List A) → 7 ≤ length xs → length xs ≤ 16 → 7 ≤ length ys → length ys ≤ 16 → 15 ≤ length xs + length ys → Balanced xs ys (rebalancedItems xs ys)
 unfolding rebalancedItems
-even-is {A} xs ys a b c d e =
-    if-cases (Even xs ys) (ltb (length xs) 8) _ _
-    (λ h. let h' : length xs < 8 = ltb-true _ _ h in
-    if-cases (Even xs ys) (ltb 8 (length ys)) _ _
-    (λ g. let g' : 8 < length ys = ltb-true _ _ g in
-    two (append-assoc xs (take 1 ys) (drop 1 ys) ∙ ap (λ (z : List A). xs ++ z) (take-append-drop 1 ys))
-    (omega (arith, length-append xs (take 1 ys), length-take 1 ys)) (omega (arith, length-append xs (take 1 ys), length-take 1 ys)) (omega (arith, length-drop 1 ys)) (omega (arith, length-drop 1 ys)))
-    (λ g. let g' : length ys ≤ 8 = ltb-false _ _ g in one refl (omega (arith, length-append xs ys)) (omega (arith, length-append xs ys))))
-    (λ h. let h' : 8 ≤ length xs = ltb-false _ _ h in
-    if-cases (Even xs ys) (ltb (length ys) 8) _ _
-    (λ g. let g' : length ys < 8 = ltb-true _ _ g in
-    if-cases (Even xs ys) (ltb 8 (length xs)) _ _
-    (λ f. let f' : 8 < length xs = ltb-true _ _ f in
-    let n = length xs - 1 in
-    two (sym (append-assoc (take n xs) (drop n xs) ys) ∙ ap (λ (z : List A). z ++ ys) (take-append-drop n xs))
-    (omega (arith, length-take n xs)) (omega (arith, length-take n xs)) (omega (arith, length-append (drop n xs) ys, length-drop n xs)) (omega (arith, length-append (drop n xs) ys, length-drop n xs)))
-    (λ f. let f' : length xs ≤ 8 = ltb-false _ _ f in one refl (omega (arith, length-append xs ys)) (omega (arith, length-append xs ys))))
-    (λ g. let g' : 8 ≤ length ys = ltb-false _ _ g in two refl h' b g' d))
+balanced-is xs ys a b c d e = balanced-by xs ys e (left-shared (length xs) (length ys) a b c d e)
 
--- what two pages have become, and the pages then free
-pub record Less (A : Type 0) : Type 0 where
-  pub trees : List (ℕ × List A)
-  pub free : List ℕ
-
--- the lists in the pages p and q; where there is one list, q is freed
-unfoldable pub glue : {A : Type 0} → ℕ → ℕ → List ℕ → List (List A) → Less A
-glue p q fs [] = record { trees = []; free = p ∷ q ∷ fs }
-glue p q fs (us ∷ []) = record { trees = (p, us) ∷ []; free = q ∷ fs }
-glue p q fs (us ∷ vs ∷ ws) = record { trees = (p, us) ∷ (q, vs) ∷ []; free = fs }
-
-abbrev pub evened : (l : ℕ) → List ℕ → ℕ → List (Item (suc l)) → Less (Item l)
-evened l fs j ts = let a = getD ts j (noTree l) in let b = getD ts (suc j) (noTree l) in glue (a .0) (b .0) fs (rebalancedItems (a .1) (b .1))
-
--- what an evened pair holds is what the pair held
-glue-concatMap : {A B : Type 0} (f : A → List B) (p q : ℕ) (fs : List ℕ) (xs ys : List A) {zs : List (List A)} → Even xs ys zs
-    → concatMap (λ t. concatMap f (t .1)) (glue p q fs zs .trees) ≡ concatMap f xs ++ concatMap f ys
-unfolding glue concatMap
-glue-concatMap {A} {B} f p q fs xs ys (two {us = us} {vs = vs} e a b c d) =
+-- what a rebalanced pair holds is what the pair held
+place-concatMap : {A B : Type 0} (f : A → List B) (p q : ℕ) (fs : List ℕ) (xs ys : List A) {zs : List (List A)} → Balanced xs ys zs
+    → concatMap (λ t. concatMap f (t .1)) (placePair p q fs zs .trees) ≡ concatMap f xs ++ concatMap f ys
+unfolding placePair concatMap
+place-concatMap {A} {B} f p q fs xs ys (two {us = us} {vs = vs} e a b c d) =
     ap (λ (z : List B). concatMap f us ++ z) (append-nil (concatMap f vs)) ∙ sym (concatMap-append f us vs) ∙ ap (concatMap f) e ∙ concatMap-append f xs ys
-glue-concatMap f p q fs xs ys (one {us = us} e a b) = append-nil (concatMap f us) ∙ ap (concatMap f) e ∙ concatMap-append f xs ys
+place-concatMap f p q fs xs ys (one {us = us} e a b) = append-nil (concatMap f us) ∙ ap (concatMap f) e ∙ concatMap-append f xs ys
 
-glue-ok : (l p q : ℕ) (fs : List ℕ) (xs ys : List (Item l)) {zs : List (List (Item l))} → Even xs ys zs → All (Ok l) (xs ++ ys) → All (Ok (suc l)) (glue p q fs zs .trees)
-unfolding glue Ok
-glue-ok l p q fs xs ys (two {us = us} {vs = vs} e a b c d) o =
+place-ok : (l p q : ℕ) (fs : List ℕ) (xs ys : List (Item l)) {zs : List (List (Item l))} → Balanced xs ys zs → All (Ok l) (xs ++ ys) → All (Ok (suc l)) (placePair p q fs zs .trees)
+unfolding placePair Ok
+place-ok l p q fs xs ys (two {us = us} {vs = vs} e a b c d) o =
     let o' : All (Ok l) (us ++ vs) = rw e o in also (a, b, all-left us vs o') (also (c, d, all-right us vs o') none)
-glue-ok l p q fs xs ys (one {us = us} e a b) o = let o' : All (Ok l) us = rw e o in also (a, b, o') none
+place-ok l p q fs xs ys (one {us = us} e a b) o = let o' : All (Ok l) us = rw e o in also (a, b, o') none
 
-glue-pages : (l z p q : ℕ) (fs : List ℕ) (xs ys : List (Item l)) {zs : List (List (Item l))} → Even xs ys zs
-    → mult z (concatMap (pages (suc l)) (glue p q fs zs .trees)) + mult z (glue p q fs zs .free) ≡ mult z (p ∷ concatMap (pages l) xs) + mult z (q ∷ concatMap (pages l) ys) + mult z fs
-unfolding glue pages mult concatMap
-glue-pages l z p q fs xs ys (two {us = us} {vs = vs} e a b c d) =
+place-pages : (l z p q : ℕ) (fs : List ℕ) (xs ys : List (Item l)) {zs : List (List (Item l))} → Balanced xs ys zs
+    → mult z (concatMap (pages (suc l)) (placePair p q fs zs .trees)) + mult z (placePair p q fs zs .free) ≡ mult z (p ∷ concatMap (pages l) xs) + mult z (q ∷ concatMap (pages l) ys) + mult z fs
+unfolding placePair pages mult concatMap
+place-pages l z p q fs xs ys (two {us = us} {vs = vs} e a b c d) =
     let U = concatMap (pages l) us in
     let W = concatMap (pages l) vs in
     let e1 : mult z (U ++ q ∷ (W ++ [])) ≡ mult z U + mult z (q ∷ (W ++ [])) = mult-append z U (q ∷ (W ++ [])) in
@@ -88,17 +89,17 @@ glue-pages l z p q fs xs ys (two {us = us} {vs = vs} e a b c d) =
     let e3 : mult z U + mult z W ≡ mult z (concatMap (pages l) xs) + mult z (concatMap (pages l) ys) =
     sym (mult-append z U W) ∙ ap (mult z) (sym (concatMap-append (pages l) us vs) ∙ ap (concatMap (pages l)) e ∙ concatMap-append (pages l) xs ys) ∙ mult-append z (concatMap (pages l) xs) (concatMap (pages l) ys) in
     omega arith
-glue-pages l z p q fs xs ys (one {us = us} e a b) =
+place-pages l z p q fs xs ys (one {us = us} e a b) =
     let U = concatMap (pages l) us in
     let e2 : mult z (U ++ []) ≡ mult z U = ap (mult z) (append-nil U) in
     let e3 : mult z U ≡ mult z (concatMap (pages l) xs) + mult z (concatMap (pages l) ys) =
     ap (mult z) (ap (concatMap (pages l)) e ∙ concatMap-append (pages l) xs ys) ∙ mult-append z (concatMap (pages l) xs) (concatMap (pages l) ys) in
     omega arith
 
-glue-few : {A : Type 0} (p q : ℕ) (fs : List ℕ) {xs ys : List A} {zs : List (List A)} → Even xs ys zs → (1 ≤ length (glue p q fs zs .trees)) × (length (glue p q fs zs .trees) ≤ 2)
-unfolding glue
-glue-few p q fs (two e a b c d) = omega arith
-glue-few p q fs (one e a b) = omega arith
+place-few : {A : Type 0} (p q : ℕ) (fs : List ℕ) {xs ys : List A} {zs : List (List A)} → Balanced xs ys zs → (1 ≤ length (placePair p q fs zs .trees)) × (length (placePair p q fs zs .trees) ≤ 2)
+unfolding placePair
+place-few p q fs (two e a b c d) = omega arith
+place-few p q fs (one e a b) = omega arith
 
 -- THE PAIR
 
@@ -147,14 +148,14 @@ module _ (l : ℕ) (ts : List (Item (suc l))) (i : ℕ) (x : Item (suc l)) (h : 
   pub pair-lt : suc (leftOf i (length ts)) < length (set ts i x)
   pair-lt = rw (length-set ts i x) (left-fits i (length ts) h g)
 
-  pub pair-even : let a = getD (set ts i x) (leftOf i (length ts)) (noTree l) in let b = getD (set ts i x) (suc (leftOf i (length ts))) (noTree l) in Even (a .1) (b .1) (rebalancedItems (a .1) (b .1))
-  pair-even =
+  pub pair-balanced : let a = getD (set ts i x) (leftOf i (length ts)) (noTree l) in let b = getD (set ts i x) (suc (leftOf i (length ts))) (noTree l) in Balanced (a .1) (b .1) (rebalancedItems (a .1) (b .1))
+  pair-balanced =
       let na = all-at pair-near (leftOf i (length ts)) (noTree l) (omega (arith, pair-lt)) in
       let nb = all-at pair-near (suc (leftOf i (length ts))) (noTree l) pair-lt in
-      even-is _ _ (na .low) (na .high) (nb .low) (nb .high) (pair-sum _ refl)
+      balanced-is _ _ (na .low) (na .high) (nb .low) (nb .high) (pair-sum _ refl)
 
   abbrev after : (fs : List ℕ) → List (Item (suc l))
-  after fs = take (leftOf i (length ts)) (set ts i x) ++ (evened l fs (leftOf i (length ts)) (set ts i x) .trees ++ drop (suc (suc (leftOf i (length ts)))) (set ts i x))
+  after fs = take (leftOf i (length ts)) (set ts i x) ++ (rebalancedPair l fs (leftOf i (length ts)) (set ts i x) .trees ++ drop (suc (suc (leftOf i (length ts)))) (set ts i x))
 
   -- rebalancing changes nothing of what the children hold
   pair-records : (fs : List ℕ) → concatMap (records (suc l)) (after fs) ≡ concatMap (records (suc l)) (set ts i x)
@@ -163,8 +164,8 @@ module _ (l : ℕ) (ts : List (Item (suc l))) (i : ℕ) (x : Item (suc l)) (h : 
       let j = leftOf i (length ts) in
       let a = getD (set ts i x) j (noTree l) in
       let b = getD (set ts i x) (suc j) (noTree l) in
-      concatMap-three (records (suc l)) (take j (set ts i x)) (evened l fs j (set ts i x) .trees) (drop (suc (suc j)) (set ts i x))
-      ∙ ap (λ (z : List Record). concatMap (records (suc l)) (take j (set ts i x)) ++ (z ++ concatMap (records (suc l)) (drop (suc (suc j)) (set ts i x)))) (glue-concatMap (records l) (a .0) (b .0) fs (a .1) (b .1) pair-even)
+      concatMap-three (records (suc l)) (take j (set ts i x)) (rebalancedPair l fs j (set ts i x) .trees) (drop (suc (suc j)) (set ts i x))
+      ∙ ap (λ (z : List Record). concatMap (records (suc l)) (take j (set ts i x)) ++ (z ++ concatMap (records (suc l)) (drop (suc (suc j)) (set ts i x)))) (place-concatMap (records l) (a .0) (b .0) fs (a .1) (b .1) pair-balanced)
       ∙ ap (λ (z : List Record). concatMap (records (suc l)) (take j (set ts i x)) ++ z) (append-assoc (records (suc l) a) (records (suc l) b) _)
       ∙ sym (concatMap-pair (records (suc l)) (set ts i x) j (noTree l) pair-lt)
 
@@ -175,10 +176,10 @@ module _ (l : ℕ) (ts : List (Item (suc l))) (i : ℕ) (x : Item (suc l)) (h : 
       let nb = all-at pair-near (suc j) (noTree l) pair-lt in
       let p : All (Ok (suc l)) (take j (set ts i x)) = rw (take-set-le j ts i x (left-le i (length ts) h g .0)) (all-take j ok) in
       let q : All (Ok (suc l)) (drop (suc (suc j)) (set ts i x)) = rw (drop-set-lt (suc (suc j)) ts i x (left-le i (length ts) h g .1)) (all-drop (suc (suc j)) ok) in
-      all-append p (all-append (glue-ok l _ _ fs _ _ pair-even (all-append (na .subs) (nb .subs))) q)
+      all-append p (all-append (place-ok l _ _ fs _ _ pair-balanced (all-append (na .subs) (nb .subs))) q)
 
   pub pair-pages : (fs : List ℕ) (z : ℕ)
-      → mult z (concatMap (pages (suc l)) (after fs)) + mult z (evened l fs (leftOf i (length ts)) (set ts i x) .free) ≡ mult z (concatMap (pages (suc l)) (set ts i x)) + mult z fs
+      → mult z (concatMap (pages (suc l)) (after fs)) + mult z (rebalancedPair l fs (leftOf i (length ts)) (set ts i x) .free) ≡ mult z (concatMap (pages (suc l)) (set ts i x)) + mult z fs
   unfolding pages
   pair-pages fs z =
       let j = leftOf i (length ts) in
@@ -186,10 +187,10 @@ module _ (l : ℕ) (ts : List (Item (suc l))) (i : ℕ) (x : Item (suc l)) (h : 
       let b = getD (set ts i x) (suc j) (noTree l) in
       let L = concatMap (pages (suc l)) (take j (set ts i x)) in
       let R = concatMap (pages (suc l)) (drop (suc (suc j)) (set ts i x)) in
-      let E = concatMap (pages (suc l)) (evened l fs j (set ts i x) .trees) in
-      let g = glue-pages l z (a .0) (b .0) fs (a .1) (b .1) pair-even in
+      let E = concatMap (pages (suc l)) (rebalancedPair l fs j (set ts i x) .trees) in
+      let g = place-pages l z (a .0) (b .0) fs (a .1) (b .1) pair-balanced in
       let n : mult z (concatMap (pages (suc l)) (after fs)) ≡ mult z L + (mult z E + mult z R) =
-      simp (concatMap-three (pages (suc l)) (take j (set ts i x)) (evened l fs j (set ts i x) .trees) (drop (suc (suc j)) (set ts i x)), mult-append z L, mult-append z E) in
+      simp (concatMap-three (pages (suc l)) (take j (set ts i x)) (rebalancedPair l fs j (set ts i x) .trees) (drop (suc (suc j)) (set ts i x)), mult-append z L, mult-append z E) in
       let o : mult z (concatMap (pages (suc l)) (set ts i x)) ≡ mult z L + (mult z (pages (suc l) a) + (mult z (pages (suc l) b) + mult z R)) =
       ap (mult z) (concatMap-pair (pages (suc l)) (set ts i x) j (noTree l) pair-lt) ∙ mult-append z L (pages (suc l) a ++ (pages (suc l) b ++ R))
       ∙ ap (λ (m : ℕ). mult z L + m) (mult-append z (pages (suc l) a) (pages (suc l) b ++ R) ∙ ap (λ (m : ℕ). mult z (pages (suc l) a) + m) (mult-append z (pages (suc l) b) R)) in
@@ -199,26 +200,11 @@ module _ (l : ℕ) (ts : List (Item (suc l))) (i : ℕ) (x : Item (suc l)) (h : 
   pair-length fs =
       let j = leftOf i (length ts) in
       let us = set ts i x in
-      let es = evened l fs j us .trees in
-      let c = glue-few (getD us j (noTree l) .0) (getD us (suc j) (noTree l) .0) fs pair-even in
+      let es = rebalancedPair l fs j us .trees in
+      let c = place-few (getD us j (noTree l) .0) (getD us (suc j) (noTree l) .0) fs pair-balanced in
       omega (arith, length-append (take j us) (es ++ drop (suc (suc j)) us), length-append es (drop (suc (suc j)) us), length-take j us, length-drop (suc (suc j)) us, pair-lt, length-set ts i x)
 
 -- DELETION
-
--- what is left of a page, and the pages then free
-pub record Rest (A : Type 0) : Type 0 where
-  pub tree : ℕ × List A
-  pub free : List ℕ
-
-unfoldable pub deleteTree : ℕ → (l : ℕ) → Record → List ℕ → Item (suc l) → Rest (Item l)
-deleteTree d zero r fs t = record { tree = (t .0, deleteRecord (r .id) (t .1)); free = fs }
-deleteTree d (suc l) r fs t =
-    let i = chosen d l (rankOf d r) (t .1) in
-    let u = deleteTree d l r fs (getD (t .1) i (noTree l)) in
-    let ts = set (t .1) i (u .tree) in
-    let j = leftOf i (length (t .1)) in
-    let c = evened l (u .free) j ts in
-    record { tree = (t .0, take j ts ++ (c .trees ++ drop (suc (suc j)) ts)); free = c .free }
 
 pub same-page : (d l : ℕ) (r : Record) (fs : List ℕ) (t : Item (suc l)) → deleteTree d l r fs t .tree .0 ≡ t .0
 unfolding deleteTree
@@ -321,28 +307,28 @@ gives p q [] = p ∷ q ∷ []
 gives p q (us ∷ []) = q ∷ []
 gives p q (us ∷ vs ∷ ws) = []
 
+-- of the children ts, the one at j and the next
+abbrev givenPair : (l : ℕ) → ℕ → List (Item (suc l)) → List ℕ
+givenPair l j ts = let x = getD ts j (noTree l) in let y = getD ts (suc j) (noTree l) in gives (x .0) (y .0) (rebalancedItems (x .1) (y .1))
+
 unfoldable pub given : ℕ → (l : ℕ) → Record → Item (suc l) → List ℕ
 given d zero r t = []
 given d (suc l) r t =
     let i = chosen d l (rankOf d r) (t .1) in
     let c = getD (t .1) i (noTree l) in
-    let ts = set (t .1) i (deleteTree d l r [] c .tree) in
-    let j = leftOf i (length (t .1)) in
-    let x = getD ts j (noTree l) in
-    let y = getD ts (suc j) (noTree l) in
-    gives (x .0) (y .0) (rebalancedItems (x .1) (y .1)) ++ given d l r c
+    givenPair l (leftOf i (length (t .1))) (set (t .1) i (deleteTree d l r [] c .tree)) ++ given d l r c
 
-glue-given : {A : Type 0} (p q : ℕ) (fs : List ℕ) (zs : List (List A)) → glue p q fs zs .free ≡ gives p q zs ++ fs
-unfolding glue gives
-glue-given p q fs [] = refl
-glue-given p q fs (us ∷ []) = refl
-glue-given p q fs (us ∷ vs ∷ ws) = refl
+place-given : {A : Type 0} (p q : ℕ) (fs : List ℕ) (zs : List (List A)) → placePair p q fs zs .free ≡ gives p q zs ++ fs
+unfolding placePair gives
+place-given p q fs [] = refl
+place-given p q fs (us ∷ []) = refl
+place-given p q fs (us ∷ vs ∷ ws) = refl
 
-glue-trees : {A : Type 0} (p q : ℕ) (fs gs : List ℕ) (zs : List (List A)) → glue p q fs zs .trees ≡ glue p q gs zs .trees
-unfolding glue
-glue-trees p q fs gs [] = refl
-glue-trees p q fs gs (us ∷ []) = refl
-glue-trees p q fs gs (us ∷ vs ∷ ws) = refl
+place-trees : {A : Type 0} (p q : ℕ) (fs gs : List ℕ) (zs : List (List A)) → placePair p q fs zs .trees ≡ placePair p q gs zs .trees
+unfolding placePair
+place-trees p q fs gs [] = refl
+place-trees p q fs gs (us ∷ []) = refl
+place-trees p q fs gs (us ∷ vs ∷ ws) = refl
 
 -- which pages are free makes no difference to the tree
 pub delete-tree : (d l : ℕ) (r : Record) (fs gs : List ℕ) (t : Item (suc l)) → deleteTree d l r fs t .tree ≡ deleteTree d l r gs t .tree
@@ -352,10 +338,10 @@ delete-tree d (suc l) r fs gs t =
     let i = chosen d l (rankOf d r) (t .1) in
     let c = getD (t .1) i (noTree l) in
     let j = leftOf i (length (t .1)) in
-    let g : List ℕ → Item (suc l) → Item (suc (suc l)) = λ hs x. (t .0, take j (set (t .1) i x) ++ (evened l hs j (set (t .1) i x) .trees ++ drop (suc (suc j)) (set (t .1) i x))) in
+    let g : List ℕ → Item (suc l) → Item (suc (suc l)) = λ hs x. (t .0, take j (set (t .1) i x) ++ (rebalancedPair l hs j (set (t .1) i x) .trees ++ drop (suc (suc j)) (set (t .1) i x))) in
     let ts = set (t .1) i (deleteTree d l r gs c .tree) in
     ap (g (deleteTree d l r fs c .free)) (delete-tree d l r fs gs c)
-    ∙ ap (λ (z : List (Item (suc l))). (t .0, take j ts ++ (z ++ drop (suc (suc j)) ts))) (glue-trees _ _ (deleteTree d l r fs c .free) (deleteTree d l r gs c .free) _)
+    ∙ ap (λ (z : List (Item (suc l))). (t .0, take j ts ++ (z ++ drop (suc (suc j)) ts))) (place-trees _ _ (deleteTree d l r fs c .free) (deleteTree d l r gs c .free) _)
 
 pub delete-free : (d l : ℕ) (r : Record) (fs : List ℕ) (t : Item (suc l)) → deleteTree d l r fs t .free ≡ given d l r t ++ fs
 unfolding deleteTree given
@@ -367,7 +353,7 @@ delete-free d (suc l) r fs t =
     let ts = set (t .1) i (deleteTree d l r [] c .tree) in
     let x = getD ts j (noTree l) in
     let y = getD ts (suc j) (noTree l) in
-    ap (λ (z : Item (suc l)). evened l (deleteTree d l r fs c .free) j (set (t .1) i z) .free) (delete-tree d l r fs [] c)
-    ∙ glue-given (x .0) (y .0) (deleteTree d l r fs c .free) (rebalancedItems (x .1) (y .1))
+    ap (λ (z : Item (suc l)). rebalancedPair l (deleteTree d l r fs c .free) j (set (t .1) i z) .free) (delete-tree d l r fs [] c)
+    ∙ place-given (x .0) (y .0) (deleteTree d l r fs c .free) (rebalancedItems (x .1) (y .1))
     ∙ ap (λ (z : List ℕ). gives (x .0) (y .0) (rebalancedItems (x .1) (y .1)) ++ z) (delete-free d l r fs c)
     ∙ sym (append-assoc (gives (x .0) (y .0) (rebalancedItems (x .1) (y .1))) (given d l r c) fs)

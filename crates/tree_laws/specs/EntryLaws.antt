@@ -8,8 +8,9 @@ use Rattle.lists.specs.Ascending.{headOr, lastOr, head-append, last-append, las
 use Rattle.pagestore.specs.declared.Record.{Record}
 use Rattle.pagestore.specs.declared.Entry.{Entry}
 use Rattle.tree_model.specs.Trees.{Item, records, noRecord, keyOf, firstKey, lastKey, entryOf}
-use Rattle.tree.specs.Entries.{noEntry, leafEntry, innerEntry}
-use Rattle.tree_laws.specs.Shapes.{Ok, records-some, concatMap-records}
+use Rattle.tree_model.specs.TreeLaws.{concatMap-records}
+use Rattle.tree_core.specs.Entries.{noEntry, leafEntry, innerEntry}
+use Rattle.tree_laws.specs.Shapes.{Ok, records-some}
 use Rattle.tree_laws.specs.KeysFit.{no-key}
 
 pub leaf-entry : (d q : ℕ) (rs : List Record) → leafEntry d q rs ≡ entryOf d 0 (q, rs)

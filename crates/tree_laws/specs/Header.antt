@@ -14,7 +14,7 @@ use Rattle.pagestore.specs.Store.PageLaws.{length-set-field, field-same, field-
 use Rattle.pagestore.specs.Store.FreeLaws.{rest-field, free-field}
 use Rattle.tree_model.specs.Trees.{Item, records, pages, identOf, live}
 use Rattle.tree_model.specs.Sound.{Permitted, RecordOk, SoundIndex}
-use Rattle.tree_laws.specs.Shapes.{Shape}
+use Rattle.tree_model.specs.Inserting.{Shape}
 use Rattle.tree_laws.specs.Frames.{held-frame, Well, Kept}
 use Rattle.tree_laws.specs.Wholes.{Whole, Right, shapeAt, whole-shape, whole-live, whole-sound}
 

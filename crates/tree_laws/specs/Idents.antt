@@ -16,8 +16,8 @@ use Rattle.lists.specs.Sorting.{insertBy}
 use Rattle.pagestore.specs.declared.Record.{Record}
 use Rattle.pagestore.specs.Fits.{RecordFits}
 use Rattle.tree_model.specs.Trees.{identOf, rankOf}
-use Rattle.tree.specs.Insertion.{insertRecord, keyBefore}
-use Rattle.tree.specs.Deletion.{deleteRecord}
+use Rattle.tree_model.specs.Inserting.{insertRecord, keyBefore}
+use Rattle.tree_model.specs.Deleting.{deleteRecord}
 use Rattle.tree_laws.specs.KeysFit.{rank-ident}
 
 -- an identifier that is not there is no record's

@@ -21,8 +21,9 @@ use Rattle.pagestore.specs.Store.PageLaws.{page-other}
 use Rattle.pagestore.specs.Store.FreeLaws.{page-take}
 use Rattle.tree_model.specs.Trees.{Item, records, pages, rankOf, entryOf, node}
 use Rattle.tree_model.specs.TreeLaws.{level-node}
-use Rattle.tree.specs.Insertion.{insertRecord, insertAt, growRoot}
-use Rattle.tree_laws.specs.InsertTree.{insertTree, runOf, Res, one, two, insert-records, insert-res, insert-took}
+use Rattle.tree_model.specs.Inserting.{insertRecord, insertTree, runOf}
+use Rattle.tree_core.specs.Insertion.{insertAt, growRoot}
+use Rattle.tree_laws.specs.InsertTree.{Res, one, two, insert-records, insert-res, insert-took}
 use Rattle.tree_laws.specs.Frames.{Held}
 use Rattle.tree_laws.specs.InsertSim.{first-rest}
 use Rattle.tree_laws.specs.InsertRoot.{new-whole, grow-two, sim, free-o, own-o}

@@ -15,9 +15,8 @@ use Rattle.pagestore.specs.Store.{features, root, level, total, fieldAt, setFie
 use Rattle.pagestore.specs.Store.PageLaws.{page-level, page-field}
 use Rattle.tree_model.specs.Trees.{rankOf, identOf, treeOf, live}
 use Rattle.tree_model.specs.Sound.{RecordOk, SoundIndex}
-use Rattle.tree.specs.Insertion.{insertRecord, insertAt, growRoot, addToTotal, insertInto, pagesWanted}
-use Rattle.tree_laws.specs.Shapes.{Shape}
-use Rattle.tree_laws.specs.InsertTree.{insertedTree, runOf}
+use Rattle.tree_model.specs.Inserting.{insertRecord, Shape, insertedTree, runOf}
+use Rattle.tree_core.specs.Insertion.{insertAt, growRoot, addToTotal, insertInto, pagesWanted}
 use Rattle.tree_laws.specs.InsertSim.{full-run}
 use Rattle.tree_laws.specs.InsertRoot.{insert-root}
 use Rattle.tree_laws.specs.InsertOrder.{order-of}

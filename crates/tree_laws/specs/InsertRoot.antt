@@ -16,9 +16,10 @@ use Rattle.pagestore.specs.Fits.{RecordFits}
 use Rattle.pagestore.specs.Store.{setPage, features, root, level, fieldAt, inRange, freeAt, takePage}
 use Rattle.pagestore.specs.Store.FreeLaws.{taken-first, free-take, page-take}
 use Rattle.tree_model.specs.Trees.{Item, records, pages, rankOf, entryOf, node}
-use Rattle.tree.specs.Insertion.{Inserted, insertRecord, insertAt, growRoot}
+use Rattle.tree_model.specs.Inserting.{insertRecord, insertTree, rooted, insertedTree, runOf}
+use Rattle.tree_core.specs.Insertion.{Rewritten, insertAt, growRoot}
 use Rattle.tree_laws.specs.Shapes.{Ok, Some}
-use Rattle.tree_laws.specs.InsertTree.{insertTree, rooted, insertedTree, runOf, Res, one, two, insert-records, insert-res, insert-page, insert-took, insert-kept}
+use Rattle.tree_laws.specs.InsertTree.{Res, one, two, insert-records, insert-res, insert-page, insert-took, insert-kept}
 use Rattle.tree_laws.specs.Frames.{Held, held-frame, held-list, Well, Kept, kept-range, kept-trans, kept-take}
 use Rattle.tree_laws.specs.InsertSim.{Sim, oneOf, one-sim, insert-sim, first-rest}
 use Rattle.tree_laws.specs.Wholes.{Whole}
@@ -98,7 +99,7 @@ module _ (d : ℕ) (b : List ℕ) (r : Record) (l : ℕ) (t : Item (suc l)) (v :
   abbrev run : ℕ
   run = runOf d l (rankOf d r) t
 
-  abbrev o : Inserted
+  abbrev o : Rewritten
   o = insertAt d l b (t .0) r
 
   pub sim : Sim d l b (pages (suc l) t) (insertAt d l b (t .0) r) (insertTree d l r (freeAt b) t)

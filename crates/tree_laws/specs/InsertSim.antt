@@ -23,16 +23,17 @@ use Rattle.pagestore.specs.Store.RangeLaws.{range-fits}
 use Rattle.pagestore.specs.Store.PageLaws.{page-same, page-other, leaf-view, inner-view, page-fill}
 use Rattle.pagestore.specs.Store.FreeLaws.{free-page, taken-first, page-take, free-take}
 use Rattle.tree_model.specs.Trees.{Item, records, pages, rankOf, entryOf, node}
-use Rattle.tree_model.specs.TreeLaws.{fill-node}
-use Rattle.tree.specs.Entries.{choose, childAt, replaced, leafEntry, innerEntry}
-use Rattle.tree.specs.Insertion.{Inserted, insertRecord, put, writeInner, insertAt, fullRun}
-use Rattle.tree_laws.specs.Shapes.{Ok, Some, Root, ok-root, noTree, no-pages, child-at, chosen, chosen-lt}
-use Rattle.tree_laws.specs.InsertTree.{Cut, cut, insertTree, runOf, insert-few, insert-ok, insert-kept, run-child, room-leaf, room-inner}
+use Rattle.tree_model.specs.TreeLaws.{fill-node, no-pages}
+use Rattle.tree_model.specs.Inserting.{choose, replaced, insertRecord, noTree, chosen, Cut, cut, insertTree, runOf}
+use Rattle.tree_core.specs.Entries.{childAt, leafEntry, innerEntry}
+use Rattle.tree_core.specs.Insertion.{Rewritten, put, writeInner, insertAt, fullRun}
+use Rattle.tree_laws.specs.Shapes.{Ok, Some, Root, ok-root, child-at, chosen-lt}
+use Rattle.tree_laws.specs.InsertTree.{insert-few, insert-ok, insert-kept, run-child, room-leaf, room-inner}
 use Rattle.tree_laws.specs.EntryLaws.{leaf-entry, inner-entry}
 use Rattle.tree_laws.specs.Frames.{Held, held-list, held-zero, Well, Kept, kept-range, kept-trans, kept-page, kept-take, freed-le, node-fits}
 
 -- o is what the cut c says, and no page outside ps and the free pages of b has changed
-pub record Sim (d l : ℕ) (b ps : List ℕ) (o : Inserted) (c : Cut (Item l)) : Type 0 where
+pub record Sim (d l : ℕ) (b ps : List ℕ) (o : Rewritten) (c : Cut (Item l)) : Type 0 where
   pub held : All (Held d (suc l) (o .bytes)) (c .trees)
   pub entries : o .entries ≡ map (entryOf d l) (c .trees)
   pub free : freeAt (o .bytes) ≡ c .free
@@ -45,10 +46,10 @@ writeNode d l b p xs = setPage b p (node d l xs)
 abbrev pub entryAs : (d l : ℕ) → ℕ → List (Item l) → Entry
 entryAs d l p xs = entryOf d l (p, xs)
 
-abbrev pub oneOf : (d l : ℕ) (b : List ℕ) (p : ℕ) (xs : List (Item l)) → Inserted
+abbrev pub oneOf : (d l : ℕ) (b : List ℕ) (p : ℕ) (xs : List (Item l)) → Rewritten
 oneOf d l b p xs = record { bytes = writeNode d l b p xs; entries = entryAs d l p xs ∷ [] }
 
-abbrev twoOf : (d l : ℕ) (b : List ℕ) (p n : ℕ) (xs : List (Item l)) → Inserted
+abbrev twoOf : (d l : ℕ) (b : List ℕ) (p n : ℕ) (xs : List (Item l)) → Rewritten
 twoOf d l b p n xs =
     record { bytes = writeNode d l (writeNode d l (takePage b) p (take 9 xs)) n (drop 9 xs); entries = entryAs d l p (take 9 xs) ∷ entryAs d l n (drop 9 xs) ∷ [] }
 
@@ -146,7 +147,7 @@ put-sim : (d l : ℕ) (b : List ℕ) (p : ℕ) (xs : List (Item l)) → l < 256 
 unfolding put cut
 put-sim d l b p xs v well own held ok h5 room =
     rw (taken-first b)
-    (bool-cases (λ c. Sim d l b (p ∷ []) (if {A = Inserted} c (oneOf d l b p xs) (twoOf d l b p (getD (freeAt b) 0 0) xs))
+    (bool-cases (λ c. Sim d l b (p ∷ []) (if {A = Rewritten} c (oneOf d l b p xs) (twoOf d l b p (getD (freeAt b) 0 0) xs))
     (if {A = Cut (Item l)} c (record { trees = (p, xs) ∷ []; free = freeAt b }) (record { trees = (p, take 9 xs) ∷ (getD (freeAt b) 0 0, drop 9 xs) ∷ []; free = drop 1 (freeAt b) })))
     (leb (length xs) 16)
     (λ e. one-sim d l b p xs v well own held ok (leb-true _ _ e))
@@ -177,7 +178,7 @@ unfolding Held
 held-count d l b t h = sym (page-fill b (t .0)) ∙ ap fillOf (h .0) ∙ fill-node d l (t .1)
 
 -- the step at an inner page with the entries es
-stepE : (d l : ℕ) → List ℕ → ℕ → Record → List Entry → Inserted
+stepE : (d l : ℕ) → List ℕ → ℕ → Record → List Entry → Rewritten
 stepE d l b p r es =
     let i = choose (rankOf d r) es in
     let o = insertAt d l b (childAt es i) r in
@@ -213,7 +214,7 @@ sum-at l q p ts i lt =
     simp (concatMap-split (pages (suc l)) ts i (noTree l) lt, mult-append q (p ∷ []) (concatMap (pages (suc l)) (take i ts) ++ (pages (suc l) (getD ts i (noTree l)) ++ concatMap (pages (suc l)) (drop (suc i) ts))), mult-append q (concatMap (pages (suc l)) (take i ts)), mult-append q (pages (suc l) (getD ts i (noTree l))))
 
 -- an inner page p with the children ts, of which the one at i was replaced by the trees of u, in the bytes of o
-module _ (d l : ℕ) (b : List ℕ) (p : ℕ) (ts : List (Item (suc l))) (i : ℕ) (lt : i < length ts) (o : Inserted) (u : Cut (Item l))
+module _ (d l : ℕ) (b : List ℕ) (p : ℕ) (ts : List (Item (suc l))) (i : ℕ) (lt : i < length ts) (o : Rewritten) (u : Cut (Item l))
     (own : (q : ℕ) → mult q (p ∷ concatMap (pages (suc l)) ts) + mult q (freeAt b) ≤ indicator (inRange b q))
     (ih : Sim d l b (pages (suc l) (getD ts i (noTree l))) o u)
     (same : (q : ℕ) → mult q (concatMap (pages (suc l)) (u .trees)) + mult q (u .free) ≡ mult q (pages (suc l) (getD ts i (noTree l))) + mult q (freeAt b)) where
@@ -255,7 +256,7 @@ module _ (d l : ℕ) (b : List ℕ) (p : ℕ) (ts : List (Item (suc l))) (i : �
         kept = kept-trans (ih .kept) (s' .kept);
       }
 
-sim-cast : {d l : ℕ} {b ps ps' : List ℕ} {o o' : Inserted} {c c' : Cut (Item l)} → o ≡ o' → c ≡ c' → ((q : ℕ) → mult q ps' ≡ 0 → mult q ps ≡ 0) → Sim d l b ps o c → Sim d l b ps' o' c'
+sim-cast : {d l : ℕ} {b ps ps' : List ℕ} {o o' : Rewritten} {c c' : Cut (Item l)} → o ≡ o' → c ≡ c' → ((q : ℕ) → mult q ps' ≡ 0 → mult q ps ≡ 0) → Sim d l b ps o c → Sim d l b ps' o' c'
 sim-cast {d} {l} {b} {ps} {ps'} e f g s =
     let s' : Sim d l b ps' _ _ = record { held = s .held; entries = s .entries; free = s .free; frame = λ q h. s .frame q (g q h); kept = s .kept } in
     subst₂ (λ o c. Sim d l b ps' o c) e f s'

@@ -17,44 +17,9 @@ use Rattle.lists.specs.AscendingBy.{AscendingBy, rising-left, rising-right, ins
 use Rattle.pagestore.specs.declared.Record.{Record}
 use Rattle.pagestore.specs.Fits.{RecordFits}
 use Rattle.tree_model.specs.Trees.{Item, records, pages, rankOf}
-use Rattle.tree.specs.Entries.{replaced}
-use Rattle.tree.specs.Insertion.{insertRecord}
-use Rattle.tree_laws.specs.Shapes.{Ok, Some, Root, ok-root, Shape, noTree, concatMap-records, no-pages, chosen, chosen-lt, before-chosen, behind-chosen}
-
--- what a page has become, and the pages then free
-pub record Cut (A : Type 0) : Type 0 where
-  pub trees : List (ℕ × List A)
-  pub free : List ℕ
-
-unfoldable pub cut : {A : Type 0} → ℕ → List ℕ → List A → Cut A
-cut p fs xs =
-    if (leb (length xs) 16)
-    (record { trees = (p, xs) ∷ []; free = fs })
-    (record { trees = (p, take 9 xs) ∷ (getD fs 0 0, drop 9 xs) ∷ []; free = drop 1 fs })
-
-unfoldable pub insertTree : ℕ → (l : ℕ) → Record → List ℕ → Item (suc l) → Cut (Item l)
-insertTree d zero r fs t = cut (t .0) fs (insertRecord d r (t .1))
-insertTree d (suc l) r fs t =
-    let i = chosen d l (rankOf d r) (t .1) in
-    let c = insertTree d l r fs (getD (t .1) i (noTree l)) in
-    cut (t .0) (c .free) (replaced i (c .trees) (t .1))
-
--- the tree of the pages ts of level l: the one page, or a new root n over two
-unfoldable pub rooted : (l : ℕ) → ℕ → List (Item (suc l)) → Shape
-rooted l n [] = (l, noTree l)
-rooted l n (a ∷ []) = (l, a)
-rooted l n (a ∷ c ∷ ts) = (suc l, (n, a ∷ c ∷ []))
-
--- the tree after an insertion; a new root takes the page that is then the first free
-unfoldable pub insertedTree : ℕ → Record → List ℕ → Shape → Shape
-insertedTree d r fs s = let u = insertTree d (s .0) r fs (s .1) in rooted (s .0) (getD (u .free) 0 0) (u .trees)
-
--- the full pages in an unbroken run upward from the leaf
-unfoldable pub runOf : ℕ → (l : ℕ) → ℕ → Item (suc l) → ℕ
-runOf d zero k t = indicator (leb 16 (length (t .1)))
-runOf d (suc l) k t =
-    let n = runOf d l k (getD (t .1) (chosen d l k (t .1)) (noTree l)) in
-    n + indicator (if (eqb n (suc l)) (leb 16 (length (t .1))) false)
+use Rattle.tree_model.specs.Inserting.{noTree, chosen, insertRecord, replaced, Cut, cut, insertTree, runOf}
+use Rattle.tree_model.specs.TreeLaws.{concatMap-records, no-pages}
+use Rattle.tree_laws.specs.Shapes.{Ok, Some, Root, ok-root, chosen-lt, before-chosen, behind-chosen}
 
 -- CUT
 

@@ -24,11 +24,13 @@ use Rattle.pagestore.specs.Fits.{RecordFits}
 use Rattle.pagestore.specs.Store.{features, root, level, leafAt, innerAt, recordsIn, entriesIn, fieldAt, viewOf}
 use Rattle.tree_model.specs.Trees.{Item, records, rankOf, keyOf, identOf, treeOf, live}
 use Rattle.tree_model.specs.Sound.{SoundIndex}
-use Rattle.tree.specs.Entries.{choose, childAt}
-use Rattle.tree.specs.Deletion.{Deleted, fixUnderflow, deleteAt, deleteFrom}
-use Rattle.tree.specs.Lookup.{blank, withIdent, findIn}
-use Rattle.tree.specs.Keyed.{leafFor, samePoint, heldAmong, holdsAt}
-use Rattle.tree_laws.specs.Shapes.{Some, Root, ok-root, noTree, concatMap-records, child-at, chosen, chosen-lt, before-chosen, behind-chosen}
+use Rattle.tree_model.specs.Inserting.{choose, noTree, chosen}
+use Rattle.tree_model.specs.TreeLaws.{concatMap-records}
+use Rattle.tree_core.specs.Entries.{childAt}
+use Rattle.tree_core.specs.Deletion.{Deleted, fixUnderflow, deleteAt, deleteFrom}
+use Rattle.tree_core.specs.Lookup.{blank, withIdent, findIn}
+use Rattle.tree_core.specs.Keyed.{leafFor, samePoint, heldAmong, holdsAt}
+use Rattle.tree_laws.specs.Shapes.{Some, Root, ok-root, child-at, chosen-lt, before-chosen, behind-chosen}
 use Rattle.tree_laws.specs.DeleteTree.{Known, not-below, not-above}
 use Rattle.tree_laws.specs.Frames.{Held}
 use Rattle.tree_laws.specs.InsertSim.{leaf-items, inner-items}

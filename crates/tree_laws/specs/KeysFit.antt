@@ -17,7 +17,7 @@ use Rattle.geometry.specs.Stored.{coordOf, pointOf}
 use Rattle.pagestore.specs.declared.Record.{Record}
 use Rattle.pagestore.specs.Fits.{RecordFits, KeyFits}
 use Rattle.tree_model.specs.Trees.{noRecord, keyOf, rankOf}
-use Rattle.tree.specs.Entries.{noKey}
+use Rattle.tree_core.specs.Entries.{noKey}
 
 coord-low : (x : ℕ) → x < 1000 → coordOf x ≡ negsuc (999 - x)
 coord-low x l = rw (lt-ltb x 1000 l) (ap negsuc (let e : 1000 - suc x ≡ 999 - x = omega arith in e))

@@ -22,12 +22,11 @@ use Rattle.pagestore.specs.Store.{pageAt, levelAt, levelOf}
 use Rattle.pagestore.specs.Store.PageLaws.{page-level}
 use Rattle.tree_model.specs.Trees.{Item, pages, rankOf}
 use Rattle.tree_model.specs.TreeLaws.{level-node}
-use Rattle.tree.specs.Entries.{replaced}
-use Rattle.tree.specs.Insertion.{insertRecord}
-use Rattle.tree.specs.Deletion.{leftOf}
-use Rattle.tree_laws.specs.Shapes.{Some, Root, ok-root, noTree, chosen, chosen-lt}
-use Rattle.tree_laws.specs.InsertTree.{Cut, cut, insertTree, runOf, run-le, over, under, insert-took}
-use Rattle.tree_laws.specs.DeleteTree.{Even, two, one, pair-lt, pair-even, deleteTree, same-page, delete-near, gives, given}
+use Rattle.tree_model.specs.Inserting.{replaced, insertRecord, noTree, chosen, Cut, cut, insertTree, runOf}
+use Rattle.tree_model.specs.Deleting.{leftOf, deleteTree}
+use Rattle.tree_laws.specs.Shapes.{Some, Root, ok-root, chosen-lt}
+use Rattle.tree_laws.specs.InsertTree.{run-le, over, under, insert-took}
+use Rattle.tree_laws.specs.DeleteTree.{Balanced, two, one, pair-lt, pair-balanced, same-page, delete-near, gives, given}
 use Rattle.tree_laws.specs.DeleteRoot.{givenRoot}
 use Rattle.tree_laws.specs.Frames.{Held}
 
@@ -234,7 +233,7 @@ below-cons b n p ps e h =
 below-more : (b : List ℕ) (n : ℕ) (ps : List ℕ) → Below b n ps → Below b (suc n) ps
 below-more b n ps h = record { levels = all-map (λ q (l : levelAt b q < n). omega arith) (h .levels); falling = h .falling }
 
-gives-below : {A : Type 0} (b : List ℕ) (n p q : ℕ) {xs ys : List A} {zs : List (List A)} (ps : List ℕ) → Even xs ys zs → levelAt b q ≡ n → Below b n ps → Below b (suc n) (gives p q zs ++ ps)
+gives-below : {A : Type 0} (b : List ℕ) (n p q : ℕ) {xs ys : List A} {zs : List (List A)} (ps : List ℕ) → Balanced xs ys zs → levelAt b q ≡ n → Below b n ps → Below b (suc n) (gives p q zs ++ ps)
 unfolding gives
 gives-below b n p q ps (two e a c f g) l h = below-more b n ps h
 gives-below b n p q ps (one e a c) l h = below-cons b n q ps l h
@@ -259,7 +258,7 @@ given-below d (suc l) b r t o h =
     let y = getD (t .1) (suc j) (noTree l) in
     let e : getD (set (t .1) i x) (suc j) (noTree l) .0 ≡ y .0 = set-page (t .1) i (suc j) x (noTree l) (same-page d l r [] c) in
     let g : levelAt b (getD (set (t .1) i x) (suc j) (noTree l) .0) ≡ l = ap (levelAt b) e ∙ root-level d l b y (all-at (h .1) (suc j) (noTree l) lj) in
-    gives-below b l _ _ (given d l r c) (pair-even l (t .1) i x lt (o .some) (o .subs) nx) g (given-below d l b r c (ok-root l c okc) (all-at (h .1) i (noTree l) lt))
+    gives-below b l _ _ (given d l r c) (pair-balanced l (t .1) i x lt (o .some) (o .subs) nx) g (given-below d l b r c (ok-root l c okc) (all-at (h .1) i (noTree l) lt))
 
 -- and from an index
 pub given-root-below : (d l : ℕ) (b : List ℕ) (r : Record) (t : Item (suc l)) → Root l t → Held d (suc l) b t → Below b (suc l) (givenRoot d l r t)

@@ -18,8 +18,8 @@ use Rattle.pagestore.specs.declared.Entry.{Entry}
 use Rattle.pagestore.specs.Store.{root, level, fieldAt, viewOf}
 use Rattle.tree_model.specs.Trees.{Item, records, leaves, identOf, entryOf, treeOf, live, leavesOf}
 use Rattle.tree_model.specs.Sound.{SoundIndex}
-use Rattle.tree.specs.Lookup.{recordsUnder, withIdent, blank, findUnder, findIn, leafEntries, leafCount}
-use Rattle.tree_laws.specs.Shapes.{concatMap-records}
+use Rattle.tree_model.specs.TreeLaws.{concatMap-records}
+use Rattle.tree_core.specs.Lookup.{recordsUnder, withIdent, blank, findUnder, findIn, leafEntries, leafCount}
 use Rattle.tree_laws.specs.Idents.{none-of}
 use Rattle.tree_laws.specs.Frames.{Held}
 use Rattle.tree_laws.specs.InsertSim.{leaf-items, inner-items}

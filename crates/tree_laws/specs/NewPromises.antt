@@ -15,7 +15,8 @@ use Rattle.pagestore.specs.Store.RangeLaws.{range-is, range-high, range-zero, r
 use Rattle.pagestore.specs.Store.NewLaws.{New, length-new, new-index}
 use Rattle.tree_model.specs.Trees.{records, pages, identOf, node, live}
 use Rattle.tree_model.specs.Sound.{Permitted, SoundIndex}
-use Rattle.tree_laws.specs.Shapes.{Some, Shape}
+use Rattle.tree_model.specs.Inserting.{Shape}
+use Rattle.tree_laws.specs.Shapes.{Some}
 use Rattle.tree_laws.specs.Frames.{Held}
 use Rattle.tree_laws.specs.Wholes.{Whole, Right, shapeAt, whole-shape, whole-live, whole-sound, view-d}
 

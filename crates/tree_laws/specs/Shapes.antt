@@ -16,7 +16,8 @@ use Rattle.pagestore.specs.declared.Record.{Record}
 use Rattle.pagestore.specs.declared.Entry.{Entry}
 use Rattle.pagestore.specs.Fits.{RecordFits}
 use Rattle.tree_model.specs.Trees.{Item, records, pages, noRecord, firstKey, rankOf, entryOf}
-use Rattle.tree.specs.Entries.{notAbove, choose, childAt}
+use Rattle.tree_model.specs.Inserting.{noTree, notAbove, choose, chosen}
+use Rattle.tree_core.specs.Entries.{childAt}
 
 -- a page other than the root, with all below it: 8 to 16 items each, and records that fit
 unfoldable pub Ok : (l : ℕ) → Item l → Type 0
@@ -47,24 +48,6 @@ records-some (suc l) t o = go (t .1) (omega arith) (o .2) (records-some l)
     go [] h a f = absurd (omega arith)
     go (u ∷ us) h (also p a) f = let g : 0 < length (records l u) = f u p in rw (length-append (records l u) (concatMap (records l) us)) (omega arith)
 
--- a tree with its level
-abbrev pub Shape : Type 0
-Shape = (l : ℕ) × Item (suc l)
-
--- in the place of a tree where there is none
-abbrev pub noTree : (l : ℕ) → Item (suc l)
-noTree l = (0, [])
-
-pub concatMap-records : (rs : List Record) → concatMap (records 0) rs ≡ rs
-unfolding concatMap records
-concatMap-records [] = refl
-concatMap-records (r ∷ rs) = ap (λ (z : List Record). r ∷ z) (concatMap-records rs)
-
-pub no-pages : (rs : List Record) → concatMap (pages 0) rs ≡ []
-unfolding concatMap pages
-no-pages [] = refl
-no-pages (r ∷ rs) = no-pages rs
-
 -- THE CHILD CHOSEN
 
 pub child-at : (d l i : ℕ) (ts : List (Item (suc l))) → childAt (map (entryOf d l) ts) i ≡ getD ts i (noTree l) .0
@@ -72,9 +55,6 @@ unfolding childAt entryOf
 child-at d l i [] = refl
 child-at d l zero (t ∷ ts) = refl
 child-at d l (suc i) (t ∷ ts) = child-at d l i ts
-
-unfoldable pub chosen : ℕ → (l : ℕ) → ℕ → List (Item (suc l)) → ℕ
-chosen d l k ts = choose k (map (entryOf d l) ts)
 
 above-le : (k : ℕ) (es : List Entry) → notAbove k es ≤ length es
 unfolding notAbove

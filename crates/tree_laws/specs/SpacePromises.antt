@@ -13,7 +13,7 @@ use Rattle.pagestore.specs.Store.{inRange, pagesIn, freeAt, viewOf}
 use Rattle.pagestore.specs.Store.RangeLaws.{range-same}
 use Rattle.tree_model.specs.Trees.{pages, identOf, treeOf, live}
 use Rattle.tree_model.specs.Sound.{SoundIndex}
-use Rattle.tree.specs.Insertion.{insertInto, pagesWanted}
+use Rattle.tree_core.specs.Insertion.{insertInto, pagesWanted}
 use Rattle.tree_laws.specs.Wholes.{sound-whole}
 use Rattle.tree_laws.specs.InsertPromises.{MayInsert, insert-sound, insert-pages, insert-length}
 use Rattle.tree_laws.specs.DeletePromises.{deleteIdent, pagesGiven, delete-sound, delete-pages, delete-length}

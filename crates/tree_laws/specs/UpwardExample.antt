@@ -21,17 +21,15 @@ use Rattle.pagestore.specs.Fits.{RecordFits}
 use Rattle.pagestore.specs.Store.{pagesIn, freeAt, newIndex, viewOf}
 use Rattle.tree_model.specs.Trees.{Item, records, firstKey, entryOf, keyOf, rankOf, identOf, leaves, live, leavesOf}
 use Rattle.tree_model.specs.Sound.{Permitted, RecordOk, SoundIndex}
-use Rattle.tree.specs.Insertion.{insertRecord, insertInto, pagesWanted}
-use Rattle.tree_laws.specs.Shapes.{Shape, chosen}
+use Rattle.tree_model.specs.Inserting.{insertRecord, Shape, chosen, cut, insertTree, rooted, insertedTree, runOf, notAbove, choose}
+use Rattle.tree_model.specs.Deleting.{deleteRecord, leftCount, rebalancedItems, leftOf, placePair, deleteTree, collapsed, deletedTree}
+use Rattle.tree_core.specs.Insertion.{insertInto, pagesWanted}
+use Rattle.tree_core.specs.Lookup.{findIn}
 use Rattle.tree_laws.specs.KeysFit.{coord-high}
-use Rattle.tree_laws.specs.InsertTree.{cut, insertTree, rooted, insertedTree, runOf}
 use Rattle.tree_laws.specs.Wholes.{shapeAt}
 use Rattle.tree_laws.specs.InsertPromises.{MayInsert, pages-wanted, insert-sound, insert-live, insert-pages, insert-shape, insert-features}
-use Rattle.tree.specs.Entries.{notAbove, choose}
-use Rattle.tree.specs.Deletion.{deleteRecord, rebalancedItems, leftOf}
-use Rattle.tree.specs.Lookup.{findIn}
-use Rattle.tree_laws.specs.DeleteTree.{glue, deleteTree, gives, given}
-use Rattle.tree_laws.specs.DeleteRoot.{lowered, deletedTree, givenRoot}
+use Rattle.tree_laws.specs.DeleteTree.{gives, given}
+use Rattle.tree_laws.specs.DeleteRoot.{givenRoot}
 use Rattle.tree_laws.specs.LookupPromises.{find-only}
 use Rattle.tree_laws.specs.DeletePromises.{deleteIdent, pagesGiven, delete-sound, delete-live, delete-pages, delete-shape, delete-features}
 use Rattle.tree_laws.specs.NewPromises.{new-sound, new-live, new-free, new-features, new-shape}
@@ -163,16 +161,16 @@ split-shape fs = ap (λ (rs : List Record). rooted 0 (getD (cut 1 (2 ∷ 3 ∷ f
 unfoldable pub rebalancedShape : Shape
 rebalancedShape = (1, (3, (1, map numbered (rangeFrom 1 8)) ∷ (2, map numbered (rangeFrom 9 8)) ∷ []))
 
-even-shape : deletedTree 1 (numbered 17) splitShape ≡ rebalancedShape
-unfolding deletedTree lowered deleteTree chosen choose notAbove entryOf firstKey headOr records concatMap rankOf keyOf keyNumber pyramidOf axisOf axisAt heightOf pointOf slotsOf rangeFrom deleteRecord rebalancedItems leftOf glue splitShape rebalancedShape
-even-shape = refl
+rebalanced-shape : deletedTree 1 (numbered 17) splitShape ≡ rebalancedShape
+unfolding deletedTree collapsed deleteTree chosen choose notAbove entryOf firstKey headOr records concatMap rankOf keyOf keyNumber pyramidOf axisOf axisAt heightOf pointOf slotsOf rangeFrom deleteRecord leftCount rebalancedItems leftOf placePair splitShape rebalancedShape
+rebalanced-shape = refl
 
 drop-seventeen : deleteRecord 17 (upTo 17) ≡ upTo 16
 unfolding deleteRecord tabulate
 drop-seventeen = refl
 
 one-shape : deletedTree 1 (numbered 16) rebalancedShape ≡ (0, (1, map numbered (rangeFrom 1 15)))
-unfolding deletedTree lowered deleteTree chosen choose notAbove entryOf firstKey headOr records concatMap rankOf keyOf keyNumber pyramidOf axisOf axisAt heightOf pointOf slotsOf rangeFrom deleteRecord rebalancedItems leftOf glue rebalancedShape
+unfolding deletedTree collapsed deleteTree chosen choose notAbove entryOf firstKey headOr records concatMap rankOf keyOf keyNumber pyramidOf axisOf axisAt heightOf pointOf slotsOf rangeFrom deleteRecord leftCount rebalancedItems leftOf placePair rebalancedShape
 one-shape = refl
 
 -- the pages given up, by the tree
@@ -180,7 +178,7 @@ abbrev givenBy : ℕ → Record → Shape → List ℕ
 givenBy d r s = givenRoot d (s .0) r (s .1)
 
 two-given : givenBy 1 (numbered 16) rebalancedShape ≡ 3 ∷ 2 ∷ []
-unfolding givenRoot given gives deleteTree chosen choose notAbove entryOf firstKey headOr records concatMap rankOf keyOf keyNumber pyramidOf axisOf axisAt heightOf pointOf slotsOf rangeFrom deleteRecord rebalancedItems leftOf glue rebalancedShape
+unfolding givenRoot given gives deleteTree chosen choose notAbove entryOf firstKey headOr records concatMap rankOf keyOf keyNumber pyramidOf axisOf axisAt heightOf pointOf slotsOf rangeFrom deleteRecord leftCount rebalancedItems leftOf placePair rebalancedShape
 two-given = refl
 
 leavesBy : Shape → List (Item 1)
@@ -275,7 +273,7 @@ module _ (b : List ℕ) (lent : Permitted (length b)) where
         delete-shape (upward b 17) 17 seventeen-sound live-seventeen
         ∙ ap (λ (d : ℕ). deletedTree d (findIn (upward b 17) 17) (shapeAt (upward b 17))) seventeen-features
         ∙ ap (λ (r : Record). deletedTree 1 r (shapeAt (upward b 17))) found-seventeen
-        ∙ ap (deletedTree 1 (numbered 17)) seventeen-shape ∙ even-shape
+        ∙ ap (deletedTree 1 (numbered 17)) seventeen-shape ∙ rebalanced-shape
 
     sixteen-live : live (viewOf sixteen) ≡ upTo 16
     sixteen-live = delete-live (upward b 17) 17 seventeen-sound live-seventeen ∙ ap (deleteRecord 17) seventeen-live ∙ drop-seventeen

@@ -15,9 +15,10 @@ use Rattle.pagestore.specs.Store.{size, features, root, level, total, freed, fr
 use Rattle.pagestore.specs.Store.RangeLaws.{range-past}
 use Rattle.pagestore.specs.Store.PageLaws.{records-fit as stored-fit}
 use Rattle.tree_model.specs.Trees.{Item, records, pages, rankOf, identOf, Rep, treeAt, treeOf, live}
-use Rattle.tree_model.specs.TreeLaws.{rep-is}
+use Rattle.tree_model.specs.TreeLaws.{tree-page, rep-is}
 use Rattle.tree_model.specs.Sound.{Permitted, isPage, freshPages, RootFilled, Filled, RecordOk, SoundIndex}
-use Rattle.tree_laws.specs.Shapes.{Ok, Some, Root, Shape}
+use Rattle.tree_model.specs.Inserting.{Shape}
+use Rattle.tree_laws.specs.Shapes.{Ok, Some, Root}
 use Rattle.tree_laws.specs.Frames.{Held, Well, records-fit}
 use Rattle.tree_laws.specs.InsertSim.{leaf-items}
 
@@ -84,11 +85,6 @@ pub held-rep : (b : List ℕ) (l : ℕ) (x : Item l) → Held (viewOf b .d) l b 
 unfolding Rep Held viewOf
 held-rep b zero x r = tt
 held-rep b (suc l) t r = (r .0, all-map (held-rep b l) (r .1))
-
-tree-page : (l : ℕ) (v : View) (p : ℕ) → treeAt l v p .0 ≡ p
-unfolding treeAt
-tree-page zero v p = refl
-tree-page (suc l) v p = refl
 
 -- the never used pages of the view are the store's
 fresh-are : (b : List ℕ) → Well b → freshPages (viewOf b) ≡ freshAt b

@@ -1,3 +1,5 @@
 pub mod Trees
 pub mod Sound
+pub mod Inserting
+pub mod Deleting
 pub mod TreeLaws

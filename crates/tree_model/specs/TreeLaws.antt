@@ -1,11 +1,30 @@
--- The tree that a view holds at a page is the only one; levels and fills of the page that holds items.
+-- Laws of the model: records and pages of a leaf's items, the page of a tree, levels and fills of the page that holds items, and that the tree which a view
+-- holds at a page is the only one.
 use mathlib.Core.Path.{_≡_, refl, sym, ap, _∙_}
-use mathlib.Core.List.{List, _∷_, map}
+use mathlib.Core.List.{List, [], _∷_, map}
 use Prim.Native.Nat.{ℕ, zero, suc}
 use lib.ListN.{length}
-use Rattle.lists.specs.Basics.{All, none, also}
+use Rattle.lists.specs.Basics.{All, none, also, concatMap}
+use Rattle.pagestore.specs.declared.Record.{Record}
 use Rattle.pagestore.specs.Store.{Page, levelOf, fillOf, recordsOf, entriesOf, View}
-use Rattle.tree_model.specs.Trees.{Item, entryOf, node, Rep, treeAt}
+use Rattle.tree_model.specs.Trees.{Item, records, pages, entryOf, node, Rep, treeAt}
+
+-- a record holds itself, and no page
+pub concatMap-records : (rs : List Record) → concatMap (records 0) rs ≡ rs
+unfolding concatMap records
+concatMap-records [] = refl
+concatMap-records (r ∷ rs) = ap (λ (z : List Record). r ∷ z) (concatMap-records rs)
+
+pub no-pages : (rs : List Record) → concatMap (pages 0) rs ≡ []
+unfolding concatMap pages
+no-pages [] = refl
+no-pages (r ∷ rs) = no-pages rs
+
+-- the tree at page p has page p
+pub tree-page : (l : ℕ) (v : View) (p : ℕ) → treeAt l v p .0 ≡ p
+unfolding treeAt
+tree-page zero v p = refl
+tree-page (suc l) v p = refl
 
 pub level-node : (d l : ℕ) (ts : List (Item l)) → levelOf (node d l ts) ≡ l
 unfolding node

@@ -5,7 +5,7 @@ use denote.Ref.{now}
 use Rattle.pagestore.specs.declared.Record.{Record}
 use Rattle.pagestore.specs.Store.{leafAt}
 use Rattle.pagestore.specs.Store.PageLaws.{leaf-counts, records-slots}
-use Rattle.tree.specs.Keyed.{samePoint}
+use Rattle.tree_core.specs.Keyed.{samePoint}
 use Rattle.tree.proofs.KeyedLaws.{among-here, among-none}
 use borrow.Author.Needs.{needs}
 use Rattle.tree.proofs.keyed.held_among.Statement.{statement}

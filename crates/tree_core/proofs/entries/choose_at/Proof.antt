@@ -7,7 +7,8 @@ use borrow.Author.Tests.{le-leb, lt-leb}
 use Rattle.lists.specs.Leading.{leading, leading-step, leading-stop, leading-end}
 use Rattle.pagestore.specs.Store.{innerAt, entriesIn}
 use Rattle.pagestore.specs.Store.PageLaws.{inner-counts, entries-slots}
-use Rattle.tree_core.specs.Entries.{choose, noEntry}
+use Rattle.tree_model.specs.Inserting.{choose}
+use Rattle.tree_core.specs.Entries.{noEntry}
 use Rattle.tree_core.proofs.EntryLaws.{lowFirst, choose-start, length-filled}
 use borrow.Author.Needs.{needs}
 use Rattle.tree_core.proofs.entries.choose_at.Statement.{statement}

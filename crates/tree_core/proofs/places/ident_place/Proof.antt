@@ -7,7 +7,7 @@ use denote.Ref.{now}
 use Rattle.lists.specs.Leading.{leading, leading-step, leading-stop, leading-end}
 use Rattle.pagestore.specs.Store.{leafAt, recordsIn}
 use Rattle.pagestore.specs.Store.PageLaws.{leaf-counts, records-slots}
-use Rattle.tree_core.specs.CodeTerms.{otherIdent}
+use Rattle.tree_model.specs.Deleting.{otherIdent}
 use Rattle.tree_core.proofs.EntryLaws.{length-filled}
 use Rattle.tree_core.proofs.DeletionLaws.{other-no, other-yes}
 use borrow.Author.Needs.{needs}

@@ -7,7 +7,7 @@ use lib.Seq.{slice, take-all}
 use denote.Ref.{now}
 use Rattle.tree_core.specs.Held.{Held}
 use Rattle.tree_core.proofs.HeldLaws.{held-then, held-is, held-whole}
-use Rattle.tree_core.proofs.DeletionLaws.{mend-whole, mend-evened}
+use Rattle.tree_core.proofs.DeletionLaws.{fix-none, fix-rebalanced}
 use borrow.Author.Needs.{needs}
 use Rattle.lists.specs.Lengths.{unmapped}
 use Rattle.tree_delete.proofs.deletion.fix_underflow.Statement.{statement}
@@ -30,7 +30,7 @@ same-length c = search needs
 returns : tie.Need-returns
 returns c = let a = c .before .before .before .before .before .before .before .before .before .args in
     let W = c .before .before .before .before .before .before .with-entry .ensures in
-    mend-whole (a .d) (a .level) (now (a .index)) (a .page) (take (a .inner .count) (a .inner .entries)) (a .i) (a .left) (c .before .before .before .before .before .before .before .before .before .pre .1) (W .0) (W .1) (c .before .before .before .before .if1 .taken) (c .before .before .leave-page .ensures)
+    fix-none (a .d) (a .level) (now (a .index)) (a .page) (take (a .inner .count) (a .inner .entries)) (a .i) (a .left) (c .before .before .before .before .before .before .before .before .before .pre .1) (W .0) (W .1) (c .before .before .before .before .if1 .taken) (c .before .before .leave-page .ensures)
 
 sub-rebalance : tie.Need-sub-rebalance
 sub-rebalance c = search needs
@@ -44,7 +44,7 @@ same-length-2 c = search needs
 returns-2 : tie.Need-returns-2
 returns-2 c = let a = c .before .before .before .before .before .before .before .before .before .args in
     let W = c .before .before .before .before .before .before .with-entry .ensures in
-    mend-evened (a .d) (a .level) (now (a .index)) (a .page) (take (a .inner .count) (a .inner .entries)) (a .i) (a .left) (c .before .before .before .before .before .before .before .before .before .pre .1) (W .0) (W .1) (c .before .before .before .before .if1 .left) (c .before .before .rebalance .ensures)
+    fix-rebalanced (a .d) (a .level) (now (a .index)) (a .page) (take (a .inner .count) (a .inner .entries)) (a .i) (a .left) (c .before .before .before .before .before .before .before .before .before .pre .1) (W .0) (W .1) (c .before .before .before .before .if1 .left) (c .before .before .rebalance .ensures)
 
 pub fix-underflow-spec : {M : Type 1} → statement M
 fix-underflow-spec =

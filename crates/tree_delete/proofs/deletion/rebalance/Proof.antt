@@ -8,7 +8,7 @@ use denote.Ref.{now}
 use Rattle.tree_core.specs.Held.{Held}
 use Rattle.tree_core.proofs.HeldLaws.{held-then, held-is, held-whole}
 use Rattle.tree_core.proofs.EntryLaws.{length-filled}
-use Rattle.tree_core.proofs.DeletionLaws.{evened-is}
+use Rattle.tree_core.proofs.DeletionLaws.{rebalanced-below}
 use borrow.Author.Needs.{needs}
 use Rattle.lists.specs.Lengths.{unmapped}
 use Rattle.tree_delete.proofs.deletion.rebalance.Statement.{statement}
@@ -55,7 +55,7 @@ returns c = let a = c .before .before .before .before .before .before .before .b
     let slots : length (a .inner .entries) ≡ 16 = search (unmapped, needs) in
     let F = c .before .before .before .before .before .before .before .before .before .before .before .before .filled in
     let R = c .before .before .before .before .replace-pair .ensures in
-    evened-is (a .d) (a .below) (a .inner .level) (now (a .index)) (a .page) (take (a .inner .count) (a .inner .entries)) (a .i) (F .result)
+    rebalanced-below (a .d) (a .below) (a .inner .level) (now (a .index)) (a .page) (take (a .inner .count) (a .inner .entries)) (a .i) (F .result)
     (sym (length-filled (a .inner .entries) (F .result) (a .inner .count) slots (F .ensures))) (c .before .before .before .before .before .before .before .before .before .before .before .left-of .ensures .0)
     (c .before .before .before .before .before .before .before .before .before .before .child-at .ensures) (c .before .before .before .before .before .before .before .before .before .child-at2 .ensures) (c .before .before .before .before .before .before .before .rebalance-pages .ensures) (R .0) (R .1 .items) (c .before .before .leave-page .ensures)
 

@@ -1,6 +1,6 @@
 use mathlib.Core.Path.{refl}
 use denote.Ref.{now}
-use Rattle.tree_core.proofs.DeletionLaws.{root-gives}
+use Rattle.tree_core.proofs.DeletionLaws.{root-collapses}
 use borrow.Author.Needs.{needs}
 use Rattle.tree_delete.proofs.deletion.replace_root.Statement.{statement}
 use Rattle.tree_delete.proofs.deletion.replace_root.Tie as tie
@@ -31,7 +31,7 @@ same-length c = search needs
 
 returns : tie.Need-returns
 returns c = let a = c .before .before .before .before .before .before .before .before .before .before .before .before .before .before .before .args in
-    root-gives (a .level) (now (a .index)) (a .page) (c .before .before .before .before .before .before .before .before .before .before .before .before .before .before .before .pre) refl (c .before .before .before .before .before .before .before .before .before .before .before .before .child-of .ensures)
+    root-collapses (a .level) (now (a .index)) (a .page) (c .before .before .before .before .before .before .before .before .before .before .before .before .before .before .before .pre) refl (c .before .before .before .before .before .before .before .before .before .before .before .before .child-of .ensures)
     (c .before .before .before .before .before .before .before .before .before .before .set-root-page .ensures) (c .before .before .before .before .before .before .set-root-level .ensures) (c .before .before .free-page .ensures)
 
 pub replace-root-spec : {M : Type 1} → statement M

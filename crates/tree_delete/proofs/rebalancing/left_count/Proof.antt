@@ -8,7 +8,7 @@ use denote.Ref.{now}
 use Rattle.tree_core.specs.Held.{Held}
 use Rattle.tree_core.proofs.HeldLaws.{held-then, held-is, held-whole}
 use borrow.Author.Tests.{lt-ltb, le-ltb}
-use Rattle.tree_core.specs.CodeTerms.{leftCount}
+use Rattle.tree_model.specs.Deleting.{leftCount}
 use borrow.Author.Needs.{needs}
 use Rattle.lists.specs.Lengths.{unmapped}
 use Rattle.tree_delete.proofs.rebalancing.left_count.Statement.{statement}

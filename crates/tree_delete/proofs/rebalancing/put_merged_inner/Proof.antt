@@ -10,7 +10,7 @@ use Rattle.tree_core.proofs.HeldLaws.{held-then, held-is, held-whole}
 use Rattle.pagestore.specs.Store.{setLeaf}
 use Rattle.tree_core.specs.Entries.{leafEntry, innerEntry}
 use Rattle.tree_core.specs.Insertion.{writeInner}
-use Rattle.tree_core.proofs.DeletionLaws.{put-joined}
+use Rattle.tree_core.proofs.DeletionLaws.{put-merged}
 use borrow.Author.Needs.{needs}
 use Rattle.lists.specs.Lengths.{unmapped}
 use Rattle.tree_delete.proofs.rebalancing.put_merged_inner.Statement.{statement}
@@ -35,7 +35,7 @@ same-length c = search needs
 
 returns : tie.Need-returns
 returns c = let a = c .before .before .before .before .before .before .before .before .before .before .args in
-    put-joined (writeInner (a .items .level)) innerEntry (now (a .index)) (a .p) (a .q) (c .before .before .before .before .before .before .before .set-inner .ensures) (c .before .before .before .free-page .ensures) (c .inner-entry .ensures)
+    put-merged (writeInner (a .items .level)) innerEntry (now (a .index)) (a .p) (a .q) (c .before .before .before .before .before .before .before .set-inner .ensures) (c .before .before .before .free-page .ensures) (c .inner-entry .ensures)
 
 pub put-merged-inner-spec : {M : Type 1} → statement M
 put-merged-inner-spec =

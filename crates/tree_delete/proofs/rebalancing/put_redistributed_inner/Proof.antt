@@ -11,7 +11,7 @@ use Rattle.pagestore.specs.Store.{setLeaf}
 use Rattle.tree_core.specs.Entries.{leafEntry, innerEntry}
 use Rattle.tree_core.specs.Insertion.{writeInner}
 use Rattle.tree_core.proofs.InsertionLaws.{level-is}
-use Rattle.tree_core.proofs.DeletionLaws.{put-shared}
+use Rattle.tree_core.proofs.DeletionLaws.{put-redistributed}
 use borrow.Author.Needs.{needs}
 use Rattle.lists.specs.Lengths.{unmapped}
 use Rattle.tree_delete.proofs.rebalancing.put_redistributed_inner.Statement.{statement}
@@ -38,7 +38,7 @@ same-length c = search needs
 
 returns : tie.Need-returns
 returns c = let a = c .before .before .before .before .before .before .before .before .before .before .before .args in
-    put-shared (writeInner (a .low .level)) innerEntry (now (a .index)) (a .p) (a .q) (c .before .before .before .before .before .before .before .before .set-inner .ensures) (level-is _ _ _ (a .low .level) _ (c .before .before .before .before .before .before .before .before .before .before .before .pre) (c .before .before .before .before .set-inner2 .ensures)) (c .before .inner-entry .ensures) (c .inner-entry2 .ensures)
+    put-redistributed (writeInner (a .low .level)) innerEntry (now (a .index)) (a .p) (a .q) (c .before .before .before .before .before .before .before .before .set-inner .ensures) (level-is _ _ _ (a .low .level) _ (c .before .before .before .before .before .before .before .before .before .before .before .pre) (c .before .before .before .before .set-inner2 .ensures)) (c .before .inner-entry .ensures) (c .inner-entry2 .ensures)
 
 pub put-redistributed-inner-spec : {M : Type 1} → statement M
 put-redistributed-inner-spec =

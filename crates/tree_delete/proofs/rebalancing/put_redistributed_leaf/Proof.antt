@@ -11,7 +11,7 @@ use Rattle.pagestore.specs.Store.{setLeaf}
 use Rattle.tree_core.specs.Entries.{leafEntry, innerEntry}
 use Rattle.tree_core.specs.Insertion.{writeInner}
 use Rattle.tree_core.proofs.InsertionLaws.{level-is}
-use Rattle.tree_core.proofs.DeletionLaws.{put-shared}
+use Rattle.tree_core.proofs.DeletionLaws.{put-redistributed}
 use borrow.Author.Needs.{needs}
 use Rattle.lists.specs.Lengths.{unmapped}
 use Rattle.tree_delete.proofs.rebalancing.put_redistributed_leaf.Statement.{statement}
@@ -38,7 +38,7 @@ same-length c = search needs
 
 returns : tie.Need-returns
 returns c = let a = c .before .before .before .before .before .before .before .before .before .before .before .args in
-    put-shared setLeaf (leafEntry (a .d)) (now (a .index)) (a .p) (a .q) (c .before .before .before .before .before .before .before .before .set-leaf .ensures) (c .before .before .before .before .set-leaf2 .ensures) (c .before .leaf-entry .ensures) (c .leaf-entry2 .ensures)
+    put-redistributed setLeaf (leafEntry (a .d)) (now (a .index)) (a .p) (a .q) (c .before .before .before .before .before .before .before .before .set-leaf .ensures) (c .before .before .before .before .set-leaf2 .ensures) (c .before .leaf-entry .ensures) (c .leaf-entry2 .ensures)
 
 pub put-redistributed-leaf-spec : {M : Type 1} → statement M
 put-redistributed-leaf-spec =

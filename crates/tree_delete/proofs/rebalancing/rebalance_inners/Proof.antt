@@ -8,7 +8,7 @@ use denote.Ref.{now}
 use Rattle.tree_core.specs.Held.{Held}
 use Rattle.tree_core.proofs.HeldLaws.{held-then, held-is, held-whole}
 use Rattle.tree_core.proofs.EntryLaws.{length-filled}
-use Rattle.tree_core.proofs.DeletionLaws.{even-join, even-share, rebalance-inners}
+use Rattle.tree_core.proofs.DeletionLaws.{merged-items, redistributed-items, rebalance-inners}
 use borrow.Author.Needs.{needs}
 use Rattle.lists.specs.Lengths.{unmapped}
 use Rattle.tree_delete.proofs.rebalancing.rebalance_inners.Statement.{statement}
@@ -64,7 +64,7 @@ returns c = let a = c .before .before .before .before .before .before .before .b
     let n= = sym (length-filled (A .result .entries) (F .result) (A .result .count) s1 (F .ensures)) in
     let m= = sym (length-filled (X .result .entries) (H .result) (X .result .count) s2 (H .ensures)) in
     rebalance-inners (a .d) (a .level) (c .before .before .before .before .before .first-entries .result .level) (now (a .index)) (a .p) (a .q) (c .before .before .before .before .before .before .before .before .before .before .before .before .before .before .pre) (c .before .before .before .before .before .first-entries .ensures .0) (A .ensures) (X .ensures)
-    (even-join (take (A .result .count) (A .result .entries)) (take (X .result .count) (X .result .entries)) (F .result) (H .result) (K .result) n= m= (K .ensures .0) (c .before .before .before .before .if1 .taken) (c .before .before .before .before .before .first-entries .ensures .1 .items))
+    (merged-items (take (A .result .count) (A .result .entries)) (take (X .result .count) (X .result .entries)) (F .result) (H .result) (K .result) n= m= (K .ensures .0) (c .before .before .before .before .if1 .taken) (c .before .before .before .before .before .first-entries .ensures .1 .items))
     (c .before .before .put-merged-inner .ensures)
 
 last-entries-requires : tie.Need-last-entries-requires
@@ -102,7 +102,7 @@ returns-2 c = let a = c .before .before .before .before .before .before .before 
     let n= = sym (length-filled (A .result .entries) (F .result) (A .result .count) s1 (F .ensures)) in
     let m= = sym (length-filled (X .result .entries) (H .result) (X .result .count) s2 (H .ensures)) in
     rebalance-inners (a .d) (a .level) (c .before .before .before .before .before .before .first-entries .result .level) (now (a .index)) (a .p) (a .q) (c .before .before .before .before .before .before .before .before .before .before .before .before .before .before .before .pre) (c .before .before .before .before .before .before .first-entries .ensures .0) (A .ensures) (X .ensures)
-    (even-share (take (A .result .count) (A .result .entries)) (take (X .result .count) (X .result .entries)) (F .result) (H .result) (K .result) n= m= (K .ensures .0) (c .before .before .before .before .before .if1 .left) (c .before .before .before .before .before .before .first-entries .ensures .1 .items) (c .before .before .before .before .last-entries .ensures .1 .items))
+    (redistributed-items (take (A .result .count) (A .result .entries)) (take (X .result .count) (X .result .entries)) (F .result) (H .result) (K .result) n= m= (K .ensures .0) (c .before .before .before .before .before .if1 .left) (c .before .before .before .before .before .before .first-entries .ensures .1 .items) (c .before .before .before .before .last-entries .ensures .1 .items))
     (c .before .before .put-redistributed-inner .ensures)
 
 pub rebalance-inners-spec : {M : Type 1} → statement M

@@ -8,7 +8,7 @@ use denote.Ref.{now}
 use Rattle.tree_core.specs.Held.{Held}
 use Rattle.tree_core.proofs.HeldLaws.{held-then, held-is, held-whole}
 use Rattle.tree_core.proofs.EntryLaws.{length-filled}
-use Rattle.tree_core.proofs.DeletionLaws.{even-join, even-share, rebalance-leaves}
+use Rattle.tree_core.proofs.DeletionLaws.{merged-items, redistributed-items, rebalance-leaves}
 use borrow.Author.Needs.{needs}
 use Rattle.lists.specs.Lengths.{unmapped}
 use Rattle.tree_delete.proofs.rebalancing.rebalance_leaves.Statement.{statement}
@@ -64,7 +64,7 @@ returns c = let a = c .before .before .before .before .before .before .before .b
     let n= = sym (length-filled (A .result .records) (F .result) (A .result .count) s1 (F .ensures)) in
     let m= = sym (length-filled (X .result .records) (H .result) (X .result .count) s2 (H .ensures)) in
     rebalance-leaves (a .d) (now (a .index)) (a .p) (a .q) (A .ensures) (X .ensures)
-    (even-join (take (A .result .count) (A .result .records)) (take (X .result .count) (X .result .records)) (F .result) (H .result) (K .result) n= m= (K .ensures .0) (c .before .before .before .before .if1 .taken) (c .before .before .before .before .before .first-records .ensures .items))
+    (merged-items (take (A .result .count) (A .result .records)) (take (X .result .count) (X .result .records)) (F .result) (H .result) (K .result) n= m= (K .ensures .0) (c .before .before .before .before .if1 .taken) (c .before .before .before .before .before .first-records .ensures .items))
     (c .before .before .put-merged-leaf .ensures)
 
 last-records-requires : tie.Need-last-records-requires
@@ -102,7 +102,7 @@ returns-2 c = let a = c .before .before .before .before .before .before .before 
     let n= = sym (length-filled (A .result .records) (F .result) (A .result .count) s1 (F .ensures)) in
     let m= = sym (length-filled (X .result .records) (H .result) (X .result .count) s2 (H .ensures)) in
     rebalance-leaves (a .d) (now (a .index)) (a .p) (a .q) (A .ensures) (X .ensures)
-    (even-share (take (A .result .count) (A .result .records)) (take (X .result .count) (X .result .records)) (F .result) (H .result) (K .result) n= m= (K .ensures .0) (c .before .before .before .before .before .if1 .left) (c .before .before .before .before .before .before .first-records .ensures .items) (c .before .before .before .before .last-records .ensures .items))
+    (redistributed-items (take (A .result .count) (A .result .records)) (take (X .result .count) (X .result .records)) (F .result) (H .result) (K .result) n= m= (K .ensures .0) (c .before .before .before .before .before .if1 .left) (c .before .before .before .before .before .before .first-records .ensures .items) (c .before .before .before .before .last-records .ensures .items))
     (c .before .before .put-redistributed-leaf .ensures)
 
 pub rebalance-leaves-spec : {M : Type 1} → statement M

@@ -7,7 +7,7 @@ use lib.Seq.{slice, take-all}
 use denote.Ref.{now}
 use Rattle.tree_core.specs.Held.{Held}
 use Rattle.tree_core.proofs.HeldLaws.{held-then, held-is, held-whole}
-use Rattle.tree_core.proofs.DeletionLaws.{even-level}
+use Rattle.tree_core.proofs.DeletionLaws.{rebalance-level}
 use borrow.Author.Needs.{needs}
 use Rattle.lists.specs.Lengths.{unmapped}
 use Rattle.tree_delete.proofs.rebalancing.rebalance_pages.Statement.{statement}
@@ -24,7 +24,7 @@ same-length : tie.Need-same-length
 same-length c = search needs
 
 returns : tie.Need-returns
-returns c = let a = c .before .before .before .before .before .before .args in even-level (a .d) (a .level) (now (a .index)) (a .p) (a .q) (c .before .before .before .before .if1 .taken) (c .before .before .rebalance-leaves .ensures)
+returns c = let a = c .before .before .before .before .before .before .args in rebalance-level (a .d) (a .level) (now (a .index)) (a .p) (a .q) (c .before .before .before .before .if1 .taken) (c .before .before .rebalance-leaves .ensures)
 
 rebalance-inners-requires : tie.Need-rebalance-inners-requires
 rebalance-inners-requires c κs = search needs

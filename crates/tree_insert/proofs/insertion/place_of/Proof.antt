@@ -7,7 +7,7 @@ use borrow.Author.Tests.{lt-ltb, le-ltb}
 use Rattle.lists.specs.Leading.{leading, leading-step, leading-stop, leading-end}
 use Rattle.lists.specs.Lengths.{unmapped}
 use Rattle.tree_model.specs.Trees.{noRecord}
-use Rattle.tree_core.specs.CodeTerms.{rankBelow}
+use Rattle.tree_model.specs.Inserting.{rankBelow}
 use Rattle.tree_core.proofs.EntryLaws.{length-filled}
 use borrow.Author.Needs.{needs}
 use Rattle.tree_insert.proofs.insertion.place_of.Statement.{statement}

@@ -9,7 +9,8 @@ use Rattle.lists.specs.Equal.{same}
 use Rattle.pagestore.specs.declared.Record.{Record}
 use Rattle.pagestore.specs.Store.{features, root, level, leafAt, innerAt, recordsIn, entriesIn, fieldAt}
 use Rattle.tree_model.specs.Trees.{rankOf}
-use Rattle.tree.specs.Entries.{choose, childAt}
+use Rattle.tree_model.specs.Inserting.{choose}
+use Rattle.tree_core.specs.Entries.{childAt}
 
 -- the leaf to which rank k leads from page p of level l: at each inner page the child that an insertion would choose
 unfoldable pub leafFor : ℕ → List ℕ → ℕ → ℕ → ℕ

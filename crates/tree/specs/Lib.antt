@@ -1,5 +1,0 @@
-pub mod Entries
-pub mod Insertion
-pub mod Deletion
-pub mod Lookup
-pub mod Keyed
