@@ -7,7 +7,7 @@ use Rattle.lists.specs.Basics.{if}
 use Rattle.pagestore.specs.declared.Record.{Record}
 use Rattle.pagestore.specs.declared.Entry.{Entry}
 use Rattle.pagestore.specs.Store.{features, root, level, total, leafAt, innerAt, recordsIn, entriesIn, setLeaf, setInner, fieldAt, setField, freePage}
-use Rattle.tree_model.specs.Trees.{rankOf}
+use Rattle.tree_model.specs.Trees.{minItems, rankOf}
 use Rattle.tree_model.specs.Inserting.{choose}
 use Rattle.tree_model.specs.Deleting.{deleteRecord, rebalancedItems, leftOf}
 use Rattle.tree_core.specs.Entries.{childAt, leafEntry, innerEntry}
@@ -49,7 +49,7 @@ rebalancedBelow d l h b p es i =
 unfoldable pub fixUnderflow : ℕ → ℕ → ℕ → List Entry → ℕ → Deleted → Deleted
 fixUnderflow d l p es i o =
     let fs = set es i (o .entry) in
-    if (leb 8 (o .count)) (leave (suc l) (o .bytes) p fs) (rebalancedBelow d l (suc l) (o .bytes) p fs i)
+    if (leb minItems (o .count)) (leave (suc l) (o .bytes) p fs) (rebalancedBelow d l (suc l) (o .bytes) p fs i)
 
 -- the record r deleted below page p of level l
 unfoldable pub deleteAt : ℕ → ℕ → List ℕ → ℕ → Record → Deleted

@@ -7,7 +7,7 @@ use Rattle.lists.specs.Basics.{if, indicator}
 use Rattle.pagestore.specs.declared.Record.{Record}
 use Rattle.pagestore.specs.declared.Entry.{Entry}
 use Rattle.pagestore.specs.Store.{features, root, level, total, leafAt, innerAt, countAt, recordsIn, entriesIn, setLeaf, setInner, fieldAt, setField, pageTaken, takePage}
-use Rattle.tree_model.specs.Trees.{rankOf}
+use Rattle.tree_model.specs.Trees.{maxItems, rankOf}
 use Rattle.tree_model.specs.Inserting.{choose, replaced, insertRecord}
 use Rattle.tree_core.specs.Entries.{childAt, leafEntry, innerEntry}
 
@@ -19,7 +19,7 @@ pub record Rewritten : Type 0 where
 -- The items xs at page p. A page that would hold 17 keeps the first 9; the last 8 go to a new page on the right.
 unfoldable pub put : {A : Type 0} → (List ℕ → ℕ → List A → List ℕ) → (ℕ → List A → Entry) → List ℕ → ℕ → List A → Rewritten
 put write entry b p xs =
-    if (leb (length xs) 16)
+    if (leb (length xs) maxItems)
     (record { bytes = write b p xs; entries = entry p xs ∷ [] })
     (record {
       bytes = write (write (takePage b) p (take 9 xs)) (pageTaken b) (drop 9 xs);
@@ -62,11 +62,11 @@ insertInto b r =
 
 -- the full pages in an unbroken run upward from the leaf that an insertion of rank k comes to, up to page p of level l
 unfoldable pub fullRun : ℕ → List ℕ → ℕ → ℕ → ℕ
-fullRun zero b p k = indicator (leb 16 (countAt b p))
+fullRun zero b p k = indicator (leb maxItems (countAt b p))
 fullRun (suc l) b p k =
     let es = entriesIn (innerAt b p) in
     let n = fullRun l b (childAt es (choose k es)) k in
-    if (eqb n (suc l)) (n + indicator (leb 16 (countAt b p))) n
+    if (eqb n (suc l)) (n + indicator (leb maxItems (countAt b p))) n
 
 -- pages wanted by an insertion: those, plus one if the run takes in the root
 unfoldable pub pagesWanted : List ℕ → Record → ℕ

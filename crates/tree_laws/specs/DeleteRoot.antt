@@ -15,7 +15,7 @@ use Rattle.lists.specs.Tabulated.{all-at}
 use Rattle.pagestore.specs.declared.Record.{Record}
 use Rattle.pagestore.specs.declared.Entry.{Entry}
 use Rattle.pagestore.specs.Store.{pageAt, features, root, level, freed, fieldAt, inRange, innerAt, entriesIn, freeAt, freePage}
-use Rattle.pagestore.specs.Store.FreeLaws.{page-free, free-free}
+use Rattle.pagestore.specs.Store.FreeLaws.{page-free, free-free, freed-part}
 use Rattle.tree_model.specs.Trees.{Item, records, pages, rankOf}
 use Rattle.tree_model.specs.Deleting.{deleteRecord, deleteTree, collapsed, deletedTree}
 use Rattle.tree_model.specs.Inserting.{Shape, noTree}
@@ -23,7 +23,7 @@ use Rattle.tree_core.specs.Entries.{childAt}
 use Rattle.tree_core.specs.Deletion.{Deleted, deleteAt, collapseRoot}
 use Rattle.tree_laws.specs.Shapes.{Ok, Some, Root, ok-root, child-at}
 use Rattle.tree_laws.specs.Idents.{del-all, del-length, del-rising}
-use Rattle.tree_laws.specs.Frames.{Held, held-frame, Well, Kept, kept-range, kept-free, freed-le}
+use Rattle.tree_laws.specs.Frames.{Held, held-frame, Well, Kept, kept-range, kept-free}
 use Rattle.tree_laws.specs.InsertSim.{inner-items}
 use Rattle.tree_laws.specs.DeleteTree.{same-page, Known, delete-after, delete-kept, delete-records, delete-free, delete-tree, given}
 use Rattle.tree_laws.specs.DeleteSim.{DeleteSim, delete-sim}
@@ -74,7 +74,7 @@ module _ (d l : ℕ) (b : List ℕ) (p : ℕ) (c : Item (suc l)) (v : suc l < 25
   k = kept-free b2 p (root-well b (c .0) l well) p-in2 p-free2
 
   pub low-free : freeAt b3 ≡ p ∷ freeAt b
-  low-free = free-free b2 p (root-well b (c .0) l well .rest) p-in2 (omega (arith, freed-le b2 p, p-free2)) ∙ ap (λ (z : List ℕ). p ∷ z) free2
+  low-free = free-free b2 p (root-well b (c .0) l well .rest) p-in2 (omega (arith, freed-part b2 p, p-free2)) ∙ ap (λ (z : List ℕ). p ∷ z) free2
 
   low-page : (q : ℕ) → 0 < mult q (pages (suc l) c) → pageAt b3 q ≡ pageAt b q
   low-page q h = page-free b2 p q (absent q p [] (omega (arith, own q, sum q, indicator-le (inRange b q)))) .page ∙ root-page b (c .0) l q

@@ -1,164 +1,34 @@
 -- What the pages hold after a deletion below a page: the tree that deletion from trees gives. Only the store's published laws are used.
-use mathlib.Core.Path.{_≡_, refl, sym, ap, _∙_, fun-ext, subst}
-use mathlib.Core.Bool.{Bool, true, false}
-use mathlib.Core.Logic.{_≢_}
+use mathlib.Core.Path.{_≡_, refl, sym, ap, _∙_, subst}
 use mathlib.Core.List.{List, [], _∷_, _++_, map}
-use Prim.Native.Nat.{ℕ, zero, suc, _+_, _-_, _^_, _≤_, _<_}
+use Prim.Native.Nat.{ℕ, zero, suc, _+_, _-_, _≤_, _<_}
 use native.Mathlib.Omega.{arith}
-use lib.Dec.{leb, eqb}
+use lib.Dec.{leb}
 use lib.ListN.{length, take, drop, getD, set, length-map, length-set}
 use lib.Seq.{split-at, drop-cons, set-split, take-append-seam, drop-append-seam}
 use borrow.Author.Tests.{leb-true, le-ltb, ne-eqb}
-use Rattle.lists.specs.Basics.{if, indicator, All, none, also, concatMap, concatMap-append, all-head, all-append, all-left, all-right}
-use Rattle.lists.specs.Choices.{bool-cases, if-cases, indicator-le, indicator-true}
-use Rattle.lists.specs.Counts.{mult, mult-append, mult-more, mult-self, absent}
+use Rattle.lists.specs.Basics.{if, indicator, All, also, concatMap, all-head, all-append}
+use Rattle.lists.specs.Choices.{if-cases, indicator-le}
+use Rattle.lists.specs.Counts.{mult, mult-append, absent}
 use Rattle.lists.specs.ConcatMapLaws.{map-append}
 use Rattle.lists.specs.Parts.{all-drop, all-set, concatMap-set, concatMap-pair, map-take, map-drop, map-set}
 use Rattle.lists.specs.Tabulated.{all-take, all-at}
 use Rattle.pagestore.specs.declared.Record.{Record}
 use Rattle.pagestore.specs.declared.Entry.{Entry}
-use Rattle.pagestore.specs.Store.{pageAt, setPage, setLeaf, inRange, freeAt, freePage}
-use Rattle.pagestore.specs.Store.RangeLaws.{range-fits}
-use Rattle.pagestore.specs.Store.PageLaws.{page-same, page-other}
-use Rattle.pagestore.specs.Store.FreeLaws.{free-page, page-free, free-free}
+use Rattle.pagestore.specs.Store.{pageAt, setPage, inRange, freeAt}
 use Rattle.tree_model.specs.Trees.{Item, pages, rankOf, entryOf, node}
-use Rattle.tree_model.specs.Inserting.{choose, noTree, chosen, Cut}
+use Rattle.tree_model.specs.Inserting.{choose, noTree, chosen}
 use Rattle.tree_model.specs.Deleting.{deleteRecord, leftCount, rebalancedItems, leftOf, placePair, rebalancedPair, deleteTree}
 use Rattle.tree_model.specs.TreeLaws.{no-pages}
-use Rattle.tree_core.specs.Entries.{childAt, innerEntry}
-use Rattle.tree_core.specs.Insertion.{writeInner, Rewritten}
+use Rattle.tree_core.specs.Entries.{childAt}
 use Rattle.tree_core.specs.Deletion.{Deleted, putRebalanced, rebalancedPages, leave, rebalancedBelow, fixUnderflow, deleteAt}
 use Rattle.tree_laws.specs.Shapes.{Ok, Some, Root, ok-root, child-at, chosen-lt}
 use Rattle.tree_laws.specs.Idents.{del-all, del-length}
 use Rattle.tree_laws.specs.EntryLaws.{leaf-entry, inner-entry}
-use Rattle.tree_laws.specs.Frames.{Held, held-list, held-zero, Well, Kept, kept-range, kept-trans, kept-page, kept-free, freed-le, node-fits}
+use Rattle.tree_laws.specs.Frames.{Held, held-list, held-zero, Well, Kept, kept-range, kept-trans}
 use Rattle.tree_laws.specs.InsertSim.{writeNode, entryAs, one-sim, leaf-items, inner-items, sum-at}
-use Rattle.tree_laws.specs.DeleteTree.{Balanced, two, one, Near, pair-near, pair-lt, pair-balanced, pair-ok, pair-pages, pair-length, delete-near, delete-kept}
-
--- TWO PAGES REBALANCED
-
--- r is what the trees of c say, and of b no page but p and q has changed
-record PairSim (d l : ℕ) (b : List ℕ) (p q : ℕ) (r : Rewritten) (c : Cut (Item l)) : Type 0 where
-  held : All (Held d (suc l) (r .bytes)) (c .trees)
-  entries : r .entries ≡ map (entryOf d l) (c .trees)
-  free : freeAt (r .bytes) ≡ c .free
-  frame : (z : ℕ) → z ≢ p → z ≢ q → pageAt (r .bytes) z ≡ pageAt b z
-  kept : Kept b (r .bytes)
-
-module _ (d l : ℕ) (b : List ℕ) (p q : ℕ) (xs ys : List (Item l)) (v : l < 256) (well : Well b)
-    (own : (z : ℕ) → mult z (p ∷ concatMap (pages l) xs) + mult z (q ∷ concatMap (pages l) ys) + mult z (freeAt b) ≤ indicator (inRange b z))
-    (held : All (Held d l b) (xs ++ ys)) (ok : All (Ok l) (xs ++ ys)) where
-  bound : (z : ℕ) → mult z (p ∷ concatMap (pages l) xs) + mult z (q ∷ concatMap (pages l) ys) + mult z (freeAt b) ≤ 1
-  bound z = omega (arith, own z, indicator-le (inRange b z))
-
-  sum : (z : ℕ) → mult z (concatMap (pages l) (xs ++ ys)) ≡ mult z (concatMap (pages l) xs) + mult z (concatMap (pages l) ys)
-  sum z = ap (mult z) (concatMap-append (pages l) xs ys) ∙ mult-append z (concatMap (pages l) xs) (concatMap (pages l) ys)
-
-  p-in : inRange b p ≡ true
-  p-in = indicator-true (inRange b p) (omega (arith, own p, mult-self p (concatMap (pages l) xs)))
-
-  q-in : inRange b q ≡ true
-  q-in = indicator-true (inRange b q) (omega (arith, own q, mult-self q (concatMap (pages l) ys)))
-
-  p-not-q : p ≢ q
-  p-not-q = absent p q (concatMap (pages l) ys) (omega (arith, bound p, mult-self p (concatMap (pages l) xs)))
-
-  -- a page below one of the two
-  item : (z : ℕ) → 0 < mult z (concatMap (pages l) (xs ++ ys)) → (z ≢ p) × (z ≢ q) × (z < 2 ^ 32)
-  item z h =
-      let s = range-fits b z (indicator-true (inRange b z) (omega (arith, own z, sum z, mult-more z p (concatMap (pages l) xs), mult-more z q (concatMap (pages l) ys)))) in (
-        absent z p [] (omega (arith, bound z, sum z, mult-append z (p ∷ []) (concatMap (pages l) xs), mult-append z (q ∷ []) (concatMap (pages l) ys))),
-        absent z q [] (omega (arith, bound z, sum z, mult-append z (p ∷ []) (concatMap (pages l) xs), mult-append z (q ∷ []) (concatMap (pages l) ys))),
-        omega arith,
-      )
-
-  free-p : mult p (freeAt b) ≡ 0
-  free-p = omega (arith, bound p, mult-self p (concatMap (pages l) xs))
-
-  free-q : mult q (freeAt b) ≡ 0
-  free-q = omega (arith, bound q, mult-self q (concatMap (pages l) ys))
-
-  place-sim : {zs : List (List (Item l))} → Balanced xs ys zs → PairSim d l b p q (putRebalanced (writeNode d l) (entryAs d l) b p q zs) (placePair p q (freeAt b) zs)
-  unfolding putRebalanced placePair Held
-  place-sim (two {us = us} {vs = vs} e a1 a2 a3 a4) =
-      let x1 = node d l us in
-      let x2 = node d l vs in
-      let b1 = setPage b p x1 in
-      let fl : (z : ℕ) → mult z (concatMap (pages l) us) + mult z (concatMap (pages l) vs) ≡ mult z (concatMap (pages l) (xs ++ ys)) =
-      λ z. sym (mult-append z (concatMap (pages l) us) (concatMap (pages l) vs)) ∙ ap (mult z) (sym (concatMap-append (pages l) us vs) ∙ ap (concatMap (pages l)) e) in
-      let ok' : All (Ok l) (us ++ vs) = rw e ok in
-      let held' : All (Held d l b) (us ++ vs) = rw e held in
-      let fr : (z : ℕ) → z ≢ p → z ≢ q → pageAt (setPage b1 q x2) z ≡ pageAt b z = λ z f g. page-other b1 q x2 z g .page ∙ page-other b p x1 z f .page in
-      let it : (z : ℕ) → 0 < mult z (concatMap (pages l) (xs ++ ys)) → pageAt (setPage b1 q x2) z ≡ pageAt b z = λ z h. let i = item z h in fr z (i .0) (i .1) in
-      let k1 = kept-page b p x1 well free-p in
-      let q1 : inRange b1 q ≡ true = kept-range k1 q ∙ q-in in
-      let f1 : freeAt b1 ≡ freeAt b = free-page b p x1 (omega (arith, freed-le b p, free-p)) in
-      let f2 : mult q (freeAt b1) ≡ 0 = ap (mult q) f1 ∙ free-q in
-      record {
-        held =
-            also (page-other b1 q x2 p p-not-q .page ∙ page-same b p x1 p-in (node-fits d l us v a2 (λ z h. item z (omega (arith, fl z)) .2) (all-left us vs ok')), held-list d l b _ (λ z h. it z (omega (arith, fl z))) (all-left us vs held'))
-            (also (page-same b1 q x2 q1 (node-fits d l vs v a4 (λ z h. item z (omega (arith, fl z)) .2) (all-right us vs ok')), held-list d l b _ (λ z h. it z (omega (arith, fl z))) (all-right us vs held')) none);
-        entries = refl;
-        free = free-page b1 q x2 (omega (arith, freed-le b1 q)) ∙ f1;
-        frame = fr;
-        kept = kept-trans k1 (kept-page b1 q x2 (k1 .well) f2);
-      }
-  place-sim (one {us = us} e a1 a2) =
-      let x1 = node d l us in
-      let b1 = setPage b p x1 in
-      let ok' : All (Ok l) us = rw e ok in
-      let held' : All (Held d l b) us = rw e held in
-      let fl : (z : ℕ) → mult z (concatMap (pages l) us) ≡ mult z (concatMap (pages l) (xs ++ ys)) = λ z. ap (λ (w : List (Item l)). mult z (concatMap (pages l) w)) e in
-      let fr : (z : ℕ) → z ≢ p → z ≢ q → pageAt (freePage b1 q) z ≡ pageAt b z = λ z f g. page-free b1 q z g .page ∙ page-other b p x1 z f .page in
-      let k1 = kept-page b p x1 well free-p in
-      let f1 : freeAt b1 ≡ freeAt b = free-page b p x1 (omega (arith, freed-le b p, free-p)) in
-      let f2 : mult q (freeAt b1) ≡ 0 = ap (mult q) f1 ∙ free-q in
-      let q1 : inRange b1 q ≡ true = kept-range k1 q ∙ q-in in
-      record {
-        held =
-            also (
-              page-free b1 q p p-not-q .page ∙ page-same b p x1 p-in (node-fits d l us v a2 (λ z h. item z (omega (arith, fl z)) .2) ok'),
-              held-list d l b _ (λ z h. let i = item z (omega (arith, fl z)) in fr z (i .0) (i .1)) held',
-            ) none;
-        entries = refl;
-        free = free-free b1 q (k1 .well .rest) q1 (omega (arith, freed-le b1 q)) ∙ ap (λ (z : List ℕ). q ∷ z) f1;
-        frame = fr;
-        kept = kept-trans k1 (kept-free b1 q (k1 .well) q1 f2);
-      }
-
--- WHAT THE CODE WRITES IS THE TREE'S
-
-rebalanced-map : {A B : Type 0} (f : A → B) (xs ys : List A) → rebalancedItems (map f xs) (map f ys) ≡ map (map f) (rebalancedItems xs ys)
-unfolding rebalancedItems
-rebalanced-map {A} {B} f xs ys =
-    let k = leftCount (length xs) (length ys) in
-    rw (length-map xs f, length-map ys f, ← map-append f xs ys)
-    (bool-cases
-    (λ c. if c (map f (xs ++ ys) ∷ []) (take k (map f (xs ++ ys)) ∷ drop k (map f (xs ++ ys)) ∷ []) ≡ map (map f) (if c ((xs ++ ys) ∷ []) (take k (xs ++ ys) ∷ drop k (xs ++ ys) ∷ [])))
-    (eqb k (length xs + length ys)) (λ _. refl) (λ _. rw (map-take f k (xs ++ ys), map-drop f k (xs ++ ys))))
-
-place-map : (d l : ℕ) (b : List ℕ) (p q : ℕ) {zs : List (List (Item (suc l)))} → All (All (Ok (suc l))) zs
-    → putRebalanced (writeInner (suc l)) innerEntry b p q (map (map (entryOf d l)) zs) ≡ putRebalanced (writeNode d (suc l)) (entryAs d (suc l)) b p q zs
-unfolding putRebalanced setPage node
-place-map d l b p q none = refl
-place-map d l b p q (also {x = us} h none) = rw (inner-entry d l p us h)
-place-map d l b p q (also {x = us} h (also {x = vs} g t)) = rw (inner-entry d l p us h, inner-entry d l q vs g)
-
-balanced-oks : {A : Type 0} {P : A → Type 0} {xs ys : List A} {zs : List (List A)} → Balanced xs ys zs → All P (xs ++ ys) → All (All P) zs
-balanced-oks {A} {P} (two {us = us} {vs = vs} e a b c d) o = let o' : All P (us ++ vs) = rw e o in also (all-left us vs o') (also (all-right us vs o') none)
-balanced-oks {A} {P} (one {us = us} e a b) o = let o' : All P us = rw e o in also o' none
-
-rebalance-pages : (d l : ℕ) (b : List ℕ) (x y : Item (suc l)) → Held d (suc l) b x → Held d (suc l) b y → All (All (Ok l)) (rebalancedItems (x .1) (y .1))
-    → rebalancedPages d l b (x .0) (y .0) ≡ putRebalanced (writeNode d l) (entryAs d l) b (x .0) (y .0) (rebalancedItems (x .1) (y .1))
-unfolding rebalancedPages node setPage
-rebalance-pages d zero b x y h g o =
-    rw (leaf-items d b x h, leaf-items d b y g)
-    (ap (λ (en : ℕ → List Record → Entry). putRebalanced setLeaf en b (x .0) (y .0) (rebalancedItems (x .1) (y .1))) (fun-ext (λ z. fun-ext (λ us. leaf-entry d z us))))
-rebalance-pages d (suc l) b x y h g o =
-    rw (inner-items d l b x h, inner-items d l b y g)
-    (ap (putRebalanced (writeInner (suc l)) innerEntry b (x .0) (y .0)) (rebalanced-map (entryOf d l) (x .1) (y .1)) ∙ place-map d l b (x .0) (y .0) o)
-
--- DELETION BELOW A PAGE
+use Rattle.tree_laws.specs.DeleteTree.{Balanced, Near, pair-near, pair-lt, pair-balanced, pair-ok, pair-pages, pair-length, delete-near, delete-kept}
+use Rattle.tree_laws.specs.PairSim.{PairSim, place-sim, balanced-oks, rebalance-pages}
 
 -- o is what the tree t says, the pages fs are free, and no page outside ps and the free pages of b has changed
 pub record DeleteSim (d l : ℕ) (b ps : List ℕ) (o : Deleted) (t : Item (suc l)) (fs : List ℕ) : Type 0 where

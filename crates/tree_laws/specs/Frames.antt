@@ -14,7 +14,7 @@ use Rattle.pagestore.specs.Fits.{RecordFits, EntryFits}
 use Rattle.pagestore.specs.Store.{Page, pageAt, setPage, Field, freed, fresh, Apart, fieldAt, linkAt, inRange, pagesIn, restAt, freedAt, freshAt, freeAt, takePage, freePage}
 use Rattle.pagestore.specs.Store.RangeLaws.{range-high, range-fits, range-whole, range-same, pages-same}
 use Rattle.pagestore.specs.Store.PageLaws.{PageFits, leafFits, innerFits, length-set-page, field-page, field-other, field-same}
-use Rattle.pagestore.specs.Store.FreeLaws.{rest-page, length-take-page, field-take, rest-take, length-free-page, field-free, rest-free}
+use Rattle.pagestore.specs.Store.FreeLaws.{rest-page, length-take-page, field-take, rest-take, length-free-page, field-free, rest-free, freed-part}
 use Rattle.tree_model.specs.Trees.{Item, records, pages, noRecord, firstKey, lastKey, entryOf, node}
 use Rattle.tree_laws.specs.Shapes.{Ok, records-some}
 use Rattle.tree_laws.specs.KeysFit.{key-fits}
@@ -70,10 +70,6 @@ kept-range {b} {c} k q = range-same b c q (k .size)
 pub kept-trans : {a b c : List ℕ} → Kept a b → Kept b c → Kept a c
 kept-trans f g = record { size = g .size ∙ f .size; field = λ x u v. g .field x u v ∙ f .field x u v; well = g .well }
 
-pub freed-le : (b : List ℕ) (q : ℕ) → mult q (freedAt b) ≤ mult q (freeAt b)
-unfolding freeAt
-freed-le b q = omega (arith, mult-append q (freedAt b) (freshAt b))
-
 pub kept-page : (b : List ℕ) (p : ℕ) (x : Page) → Well b → mult p (freeAt b) ≡ 0 → Kept b (setPage b p x)
 kept-page b p x w m =
     let e = field-page fresh b p x in
@@ -81,7 +77,7 @@ kept-page b p x w m =
     record {
       size = length-set-page b p x;
       field = λ f u v. field-page f b p x;
-      well = record { rest = rest-page b p x (omega (arith, freed-le b p)) ∙ w .rest; low = omega (arith, w .low); high = omega (arith, w .high) };
+      well = record { rest = rest-page b p x (omega (arith, freed-part b p)) ∙ w .rest; low = omega (arith, w .low); high = omega (arith, w .high) };
     }
 
 fresh-take : (b : List ℕ) → Well b → (1 ≤ fieldAt fresh (takePage b)) × (fieldAt fresh (takePage b) ≤ pagesIn b)
@@ -111,7 +107,7 @@ kept-free b p w h m =
     record {
       size = length-free-page b p;
       field = λ f u v. field-free f b p u;
-      well = record { rest = rest-free b p (w .rest) h (omega (arith, freed-le b p)); low = omega (arith, w .low); high = omega (arith, w .high) };
+      well = record { rest = rest-free b p (w .rest) h (omega (arith, freed-part b p)); low = omega (arith, w .low); high = omega (arith, w .high) };
     }
 
 -- WHAT CAN BE WRITTEN

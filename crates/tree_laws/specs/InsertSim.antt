@@ -21,7 +21,7 @@ use Rattle.pagestore.specs.Fits.{RecordFits}
 use Rattle.pagestore.specs.Store.{leaf, inner, pageAt, setPage, setLeaf, leafAt, innerAt, countAt, fillOf, recordsIn, entriesIn, inRange, freeAt, pageTaken, takePage}
 use Rattle.pagestore.specs.Store.RangeLaws.{range-fits}
 use Rattle.pagestore.specs.Store.PageLaws.{page-same, page-other, leaf-view, inner-view, page-fill}
-use Rattle.pagestore.specs.Store.FreeLaws.{free-page, taken-first, page-take, free-take}
+use Rattle.pagestore.specs.Store.FreeLaws.{free-page, taken-first, page-take, free-take, freed-part}
 use Rattle.tree_model.specs.Trees.{Item, records, pages, rankOf, entryOf, node}
 use Rattle.tree_model.specs.TreeLaws.{fill-node, no-pages}
 use Rattle.tree_model.specs.Inserting.{choose, replaced, insertRecord, noTree, chosen, Cut, cut, insertTree, runOf}
@@ -30,7 +30,7 @@ use Rattle.tree_core.specs.Insertion.{Rewritten, put, writeInner, insertAt, ful
 use Rattle.tree_laws.specs.Shapes.{Ok, Some, Root, ok-root, child-at, chosen-lt}
 use Rattle.tree_laws.specs.InsertTree.{insert-few, insert-ok, insert-kept, run-child, room-leaf, room-inner}
 use Rattle.tree_laws.specs.EntryLaws.{leaf-entry, inner-entry}
-use Rattle.tree_laws.specs.Frames.{Held, held-list, held-zero, Well, Kept, kept-range, kept-trans, kept-page, kept-take, freed-le, node-fits}
+use Rattle.tree_laws.specs.Frames.{Held, held-list, held-zero, Well, Kept, kept-range, kept-trans, kept-page, kept-take, node-fits}
 
 -- o is what the cut c says, and no page outside ps and the free pages of b has changed
 pub record Sim (d l : ℕ) (b ps : List ℕ) (o : Rewritten) (c : Cut (Item l)) : Type 0 where
@@ -79,7 +79,7 @@ module _ (d l : ℕ) (b : List ℕ) (p : ℕ) (xs : List (Item l)) (v : l < 256)
       record {
         held = also (page-same b p (node d l xs) p-range (node-fits d l xs v h sub-small ok), held-list d l b _ (λ q g. page-other b p (node d l xs) q (sub-apart q g) .page) held) none;
         entries = refl;
-        free = free-page b p (node d l xs) (omega (arith, freed-le b p, p-free));
+        free = free-page b p (node d l xs) (omega (arith, freed-part b p, p-free));
         frame = λ q g f. page-other b p (node d l xs) q (absent q p [] g) .page;
         kept = kept-page b p (node d l xs) well p-free;
       }
@@ -117,7 +117,7 @@ module _ (d l : ℕ) (b : List ℕ) (p : ℕ) (xs : List (Item l)) (v : l < 256)
         let f1 : freeAt b1 ≡ fs = free-take b (well .rest) ∙ ap (drop 1) fr in
         let pf : mult p (freeAt b1) ≡ 0 = ap (mult p) f1 ∙ omega (arith, p-free, free-n p) in
         let k2 = kept-page b1 p x1 (k1 .well) pf in
-        let f2 : freeAt b2 ≡ fs = free-page b1 p x1 (omega (arith, freed-le b1 p)) ∙ f1 in
+        let f2 : freeAt b2 ≡ fs = free-page b1 p x1 (omega (arith, freed-part b1 p)) ∙ f1 in
         let nf : mult n (freeAt b2) ≡ 0 = ap (mult n) f2 ∙ omega (arith, own n, indicator-le (inRange b n), free-n n, mult-self n []) in
         let r1 : inRange b1 p ≡ true = kept-range k1 p ∙ p-range in
         let r2 : inRange b2 n ≡ true = kept-range (kept-trans k1 k2) n ∙ n-range in
@@ -132,7 +132,7 @@ module _ (d l : ℕ) (b : List ℕ) (p : ℕ) (xs : List (Item l)) (v : l < 256)
                 held-list d l b _ (λ q g. sub-frame q (omega (arith, fl q))) (all-drop 9 held),
               ) none);
           entries = refl;
-          free = free-page b2 n x2 (omega (arith, freed-le b2 n)) ∙ f2;
+          free = free-page b2 n x2 (omega (arith, freed-part b2 n)) ∙ f2;
           frame = λ q g f. two-frame q (absent q p [] g) (absent q n [] (omega (arith, free-n q)));
           kept = kept-trans (kept-trans k1 k2) (kept-page b2 n x2 (k2 .well) nf);
         }

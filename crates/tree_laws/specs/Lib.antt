@@ -19,6 +19,7 @@ pub mod KeysFit
 pub mod EntryLaws
 pub mod Frames
 pub mod InsertSim
+pub mod PairSim
 pub mod DeleteSim
 -- on an index
 pub mod Wholes

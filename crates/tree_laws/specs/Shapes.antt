@@ -9,20 +9,21 @@ use borrow.Author.Tests.{leb-true, leb-false}
 use Rattle.lists.specs.Basics.{if, All, none, also, concatMap, all-append, all-left, all-map}
 use Rattle.lists.specs.Ascending.{headOr}
 use Rattle.lists.specs.Choices.{bool-cases}
+use Rattle.lists.specs.ConcatMapLaws.{concatMap-some}
 use Rattle.lists.specs.Parts.{head-of}
 use Rattle.lists.specs.AscendingBy.{AscendingBy, step, rising-right, rising-cross}
 use Rattle.geometry.specs.Keys.{keyNumber}
 use Rattle.pagestore.specs.declared.Record.{Record}
 use Rattle.pagestore.specs.declared.Entry.{Entry}
 use Rattle.pagestore.specs.Fits.{RecordFits}
-use Rattle.tree_model.specs.Trees.{Item, records, pages, noRecord, firstKey, rankOf, entryOf}
+use Rattle.tree_model.specs.Trees.{minItems, maxItems, Item, records, pages, noRecord, firstKey, rankOf, entryOf}
 use Rattle.tree_model.specs.Inserting.{noTree, notAbove, choose, chosen}
 use Rattle.tree_core.specs.Entries.{childAt}
 
 -- a page other than the root, with all below it: 8 to 16 items each, and records that fit
 unfoldable pub Ok : (l : ℕ) → Item l → Type 0
 Ok zero r = RecordFits r
-Ok (suc l) t = (8 ≤ length (t .1)) × (length (t .1) ≤ 16) × All (Ok l) (t .1)
+Ok (suc l) t = (minItems ≤ length (t .1)) × (length (t .1) ≤ maxItems) × All (Ok l) (t .1)
 
 -- an inner root has 2 children; a root leaf may have no record
 unfoldable pub Some : (l : ℕ) → Item (suc l) → Type 0
@@ -31,7 +32,7 @@ Some (suc l) t = 2 ≤ length (t .1)
 
 pub record Root (l : ℕ) (t : Item (suc l)) : Type 0 where
   pub some : Some l t
-  pub most : length (t .1) ≤ 16
+  pub most : length (t .1) ≤ maxItems
   pub subs : All (Ok l) (t .1)
 
 pub ok-root : (l : ℕ) (t : Item (suc l)) → Ok (suc l) t → Root l t
@@ -40,13 +41,9 @@ ok-root zero t o = record { some = tt; most = o .1; subs = o .2 }
 ok-root (suc l) t o = record { some = omega arith; most = o .1; subs = o .2 }
 
 pub records-some : (l : ℕ) (x : Item l) → Ok l x → 0 < length (records l x)
-unfolding records Ok concatMap
+unfolding records Ok
 records-some zero r o = omega arith
-records-some (suc l) t o = go (t .1) (omega arith) (o .2) (records-some l)
-  where
-    go : (ts : List (Item l)) → 2 ≤ length ts → All (Ok l) ts → ((x : Item l) → Ok l x → 0 < length (records l x)) → 0 < length (concatMap (records l) ts)
-    go [] h a f = absurd (omega arith)
-    go (u ∷ us) h (also p a) f = let g : 0 < length (records l u) = f u p in rw (length-append (records l u) (concatMap (records l) us)) (omega arith)
+records-some (suc l) t o = concatMap-some (records l) (t .1) (omega arith) (all-map (records-some l) (o .2))
 
 -- THE CHILD CHOSEN
 

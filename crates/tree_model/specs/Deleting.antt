@@ -6,7 +6,7 @@ use lib.Dec.{ltb, eqb}
 use lib.ListN.{length, take, drop, getD, set}
 use Rattle.lists.specs.Basics.{if}
 use Rattle.pagestore.specs.declared.Record.{Record}
-use Rattle.tree_model.specs.Trees.{Item, rankOf}
+use Rattle.tree_model.specs.Trees.{minItems, Item, rankOf}
 use Rattle.tree_model.specs.Inserting.{Shape, noTree, chosen, Cut}
 
 -- ITEMS
@@ -24,9 +24,9 @@ deleteRecord i (r ∷ rs) = if (eqb (r .id) i) rs (r ∷ deleteRecord i rs)
 -- nearest item; otherwise the two merge, and the left one holds all.
 unfoldable pub leftCount : ℕ → ℕ → ℕ
 leftCount n m =
-    if (ltb n 8)
-    (if (ltb 8 m) (n + 1) (n + m))
-    (if (ltb m 8) (if (ltb 8 n) (n - 1) (n + m)) n)
+    if (ltb n minItems)
+    (if (ltb minItems m) (n + 1) (n + m))
+    (if (ltb m minItems) (if (ltb minItems n) (n - 1) (n + m)) n)
 
 -- their items so: one list if they merge, else two
 unfoldable pub rebalancedItems : {A : Type 0} → List A → List A → List (List A)

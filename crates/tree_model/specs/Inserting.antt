@@ -9,7 +9,7 @@ use Rattle.lists.specs.Sorting.{insertBy}
 use Rattle.geometry.specs.Keys.{keyNumber}
 use Rattle.pagestore.specs.declared.Record.{Record}
 use Rattle.pagestore.specs.declared.Entry.{Entry}
-use Rattle.tree_model.specs.Trees.{Item, rankOf, entryOf}
+use Rattle.tree_model.specs.Trees.{maxItems, Item, rankOf, entryOf}
 
 -- a tree with its level
 abbrev pub Shape : Type 0
@@ -63,7 +63,7 @@ pub record Cut (A : Type 0) : Type 0 where
 -- the items xs at page p: a page that would hold 17 keeps the first 9; the last 8 go to a new page on the right, the first of the free pages fs
 unfoldable pub cut : {A : Type 0} → ℕ → List ℕ → List A → Cut A
 cut p fs xs =
-    if (leb (length xs) 16)
+    if (leb (length xs) maxItems)
     (record { trees = (p, xs) ∷ []; free = fs })
     (record { trees = (p, take 9 xs) ∷ (getD fs 0 0, drop 9 xs) ∷ []; free = drop 1 fs })
 
@@ -87,7 +87,7 @@ insertedTree d r fs s = let u = insertTree d (s .0) r fs (s .1) in rooted (s .0)
 
 -- the full pages in an unbroken run upward from the leaf that an insertion of rank k comes to
 unfoldable pub runOf : ℕ → (l : ℕ) → ℕ → Item (suc l) → ℕ
-runOf d zero k t = indicator (leb 16 (length (t .1)))
+runOf d zero k t = indicator (leb maxItems (length (t .1)))
 runOf d (suc l) k t =
     let n = runOf d l k (getD (t .1) (chosen d l k (t .1)) (noTree l)) in
-    n + indicator (if (eqb n (suc l)) (leb 16 (length (t .1))) false)
+    n + indicator (if (eqb n (suc l)) (leb maxItems (length (t .1))) false)

@@ -10,7 +10,7 @@ use Rattle.lists.specs.Counts.{mult}
 use Rattle.lists.specs.Ascending.{Ascending}
 use Rattle.pagestore.specs.declared.Record.{Record}
 use Rattle.pagestore.specs.Store.{View, viewOf}
-use Rattle.tree_model.specs.Trees.{Item, pages, rankOf, identOf, Rep, treeOf, live}
+use Rattle.tree_model.specs.Trees.{minItems, maxItems, Item, pages, rankOf, identOf, Rep, treeOf, live}
 
 -- a permitted number of bytes: 2 to 16,384 whole pages
 pub record Permitted (bytes : ℕ) : Type 0 where
@@ -28,13 +28,13 @@ freshPages v = rangeFrom (v .fresh) (v .count - v .fresh)
 
 -- the root holds 0 to 16 records or 2 to 16 children
 unfoldable pub RootFilled : (l : ℕ) → Item (suc l) → Type 0
-RootFilled zero t = length (t .1) ≤ 16
-RootFilled (suc l) t = (2 ≤ length (t .1)) × (length (t .1) ≤ 16)
+RootFilled zero t = length (t .1) ≤ maxItems
+RootFilled (suc l) t = (2 ≤ length (t .1)) × (length (t .1) ≤ maxItems)
 
 -- each other page holds 8 to 16 items
 unfoldable pub Filled : (l : ℕ) → Item l → Type 0
 Filled zero r = Unit {0}
-Filled (suc l) t = (8 ≤ length (t .1)) × (length (t .1) ≤ 16) × All (Filled l) (t .1)
+Filled (suc l) t = (minItems ≤ length (t .1)) × (length (t .1) ≤ maxItems) × All (Filled l) (t .1)
 
 -- identifier and coordinates in range (a slot holds 1,000 more than its coordinate)
 pub record RecordOk (d : ℕ) (r : Record) : Type 0 where
