@@ -1,12 +1,14 @@
 // The tree's examples of 01: d = 1, the identifiers 1 to 17 at 1 to 17, inserted upward.
 ghost use Prim.Native.Nat.{_≤_, _<_};
 use pagestore::Record;
+use tree::MAX_FEATURES;
+use tree_core::MAX_ITEMS;
 
 // The record of identifier n at n; a slot holds 1,000 more than its coordinate.
 fn record_of(n: u16) -> Record
     requires { ⌜ n ≤ 17 ⌝ }
 {
-    let mut coords = [0u16; 16];
+    let mut coords = [0u16; MAX_FEATURES];
     coords[0] = 1000 + n;
     Record {
         id: n as u32,
@@ -40,7 +42,7 @@ fn show_leaf(index: &[u8], page: u32) {
     if n == 0 {
         return;
     }
-    if 16 < n {
+    if MAX_ITEMS < n {
         return;
     }
     let first = leaf.records[0];

@@ -1,2 +1,1 @@
-pub mod KeyedLaws
 pub mod CountLaws

@@ -1,10 +1,12 @@
 // The tree over the page store: insert, delete, find, the number of leaves. Nothing is assumed of what the index holds.
-mod keyed;
 mod lookup;
 
-pub use keyed::holds;
 pub use lookup::find;
 pub use lookup::leaf_count;
 pub use tree_delete::delete;
 pub use tree_insert::insert;
-pub use tree_insert::pages_wanted;
+pub use tree_keyed::holds;
+pub use tree_wanted::pages_wanted;
+
+// The greatest number of features, and of coordinate slots of a record.
+pub const MAX_FEATURES: usize = 16;

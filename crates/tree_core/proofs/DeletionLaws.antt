@@ -1,29 +1,28 @@
 -- The steps of a deletion. Assumes nothing.
 use mathlib.Core.Path.{_≡_, refl, sym, ap, _∙_}
-use mathlib.Core.Logic.{_≢_, _⊎_, inl, inr, ⊎-elim}
-use mathlib.Core.Bool.{Bool, true, false, not}
-use mathlib.Core.List.{List, [], _∷_, _++_, append-assoc}
-use Prim.Native.Nat.{ℕ, zero, suc, _+_, _-_, _≤_, _<_, min}
+use mathlib.Core.Logic.{_≢_}
+use mathlib.Core.Bool.{true, false, not}
+use mathlib.Core.List.{List, [], _∷_, _++_}
+use Prim.Native.Nat.{ℕ, zero, suc, _+_, _-_, _≤_, _<_}
 use native.Mathlib.Omega.{arith}
 use native.Mathlib.Numerals.{add-one, sub-one}
-use lib.Dec.{leb, ltb, eqb}
-use lib.ListN.{length, take, drop, set, length-append, length-take, length-drop, length-set}
-use lib.Seq.{slice, take-nil, drop-nil, take-all, take-length, take-set-le, take-set-lt, set-out, take-append-add, drop-append-add, take-append-le, drop-append-le, take-append-seam, drop-append-seam}
-use borrow.Author.Tests.{ltb-true, ltb-false, leb-true, leb-false, lt-ltb, le-ltb, le-leb, lt-leb, eq-eqb, ne-eqb}
-use Rattle.lists.specs.Basics.{if}
+use lib.Dec.{leb, eqb}
+use lib.ListN.{length, take, drop, set, length-append, length-take, length-drop}
+use lib.Seq.{slice, take-nil, drop-nil, take-all, take-set-le, take-set-lt, set-out}
+use borrow.Author.Tests.{leb-true, leb-false, lt-ltb, le-ltb, le-leb, lt-leb, eq-eqb, ne-eqb}
 use Rattle.lists.specs.Leading.{leading}
 use Rattle.lists.specs.Tests.{by-cases}
 use Rattle.pagestore.specs.declared.Record.{Record}
 use Rattle.pagestore.specs.declared.Entry.{Entry}
 use Rattle.pagestore.specs.declared.Leaf.{Leaf}
 use Rattle.pagestore.specs.declared.Inner.{Inner}
-use Rattle.pagestore.specs.Store.{Field, features, root, level, total, leafAt, innerAt, recordsIn, entriesIn, setLeaf, setInner, fieldAt, setField, freePage}
+use Rattle.pagestore.specs.Store.{features, root, level, total, leafAt, innerAt, recordsIn, entriesIn, setLeaf, setInner, fieldAt, setField, freePage}
 use Rattle.tree_model.specs.Trees.{rankOf}
 use Rattle.tree_model.specs.Inserting.{choose}
 use Rattle.tree_model.specs.Deleting.{deleteRecord, rebalancedItems, leftOf, otherIdent, leftCount}
 use Rattle.tree_core.specs.Entries.{childAt, leafEntry, innerEntry}
-use Rattle.tree_core.specs.Insertion.{writeInner, Rewritten}
-use Rattle.tree_core.specs.Deletion.{Deleted, putRebalanced, rebalancedPages, leave, fixUnderflow, deleteAt, collapseRoot, takeFromTotal, deleteFrom, rebalancedBelow}
+use Rattle.tree_core.specs.Insertion.{writeInner}
+use Rattle.tree_core.specs.Deletion.{putRebalanced, rebalancedPages, leave, fixUnderflow, deleteAt, collapseRoot, takeFromTotal, deleteFrom, rebalancedBelow}
 use Rattle.tree_core.specs.CodeTerms.{grownList, LeftDone, deletedOf, RewriteDone}
 use Rattle.tree_core.specs.declared.Grown.{Grown}
 use Rattle.tree_core.specs.declared.Grown.the-variants.{One, Two}

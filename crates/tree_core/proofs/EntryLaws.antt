@@ -1,18 +1,17 @@
 -- Keys of records, and entries of pages, read from arrays of slots. Assumes nothing.
 use mathlib.Core.Path.{_≡_, refl, sym, ap, _∙_}
 use mathlib.Core.Logic.{_≢_}
-use mathlib.Core.Bool.{Bool, true, false}
+use mathlib.Core.Bool.{Bool}
 use mathlib.Core.List.{List, [], _∷_, map}
 use Prim.Native.Nat.{ℕ, zero, suc, _+_, _-_, _≤_, _<_, min}
 use native.Mathlib.Omega.{arith}
-use native.Mathlib.Numerals.{sub-one}
 use lib.Dec.{leb}
 use lib.ListN.{length, getD, take, drop, length-take, length-map, List·getD-map, List·getD-eq-default}
-use lib.Seq.{slice, take-nil, take-take, take-all, getD-take, length-take-le}
+use lib.Seq.{slice, take-nil, take-take, take-all, getD-take}
 use borrow.Author.Tests.{leb-true, leb-false}
 use Rattle.lists.specs.Basics.{if}
 use Rattle.lists.specs.Ascending.{headOr, lastOr}
-use Rattle.lists.specs.Leading.{leading, leading-le}
+use Rattle.lists.specs.Leading.{leading}
 use Rattle.lists.specs.Tests.{by-cases}
 use Rattle.geometry.specs.declared.Key.{Key}
 use Rattle.geometry.specs.declared.Pair.{Pair}

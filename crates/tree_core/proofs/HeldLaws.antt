@@ -1,12 +1,12 @@
 -- Items gathered in an array of slots. Assumes nothing.
 use mathlib.Core.Path.{_≡_, refl, sym, ap, _∙_}
-use mathlib.Core.List.{List, [], _∷_, _++_, map, append-assoc, append-nil}
-use Prim.Native.Nat.{ℕ, suc, _+_, _-_, _≤_, _<_, max}
+use mathlib.Core.List.{List, [], _∷_, _++_, append-assoc, append-nil}
+use Prim.Native.Nat.{ℕ, _+_, _≤_, _<_, max}
 use lib.Dec.{leb}
 use borrow.Author.Tests.{leb-true, leb-false}
 use native.Mathlib.Omega.{arith}
 use native.Mathlib.Numerals.{add-one}
-use lib.ListN.{length, getD, set, take, drop, length-append, length-take, length-map, drop-of-length-le}
+use lib.ListN.{length, getD, set, take, drop, length-append, length-take, drop-of-length-le}
 use lib.Seq.{slice, slice-empty, length-slice, take-suc, take-suc-set, drop-append-le, take-take, length-take-le}
 use Rattle.lists.specs.Tests.{by-cases}
 use Rattle.tree_core.specs.Held.{Held}

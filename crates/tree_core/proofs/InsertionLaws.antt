@@ -1,14 +1,13 @@
 -- The steps of an insertion. Assumes nothing.
 use mathlib.Core.Path.{_≡_, refl, sym, ap, _∙_}
 use mathlib.Core.Logic.{_≢_}
-use mathlib.Core.Bool.{Bool, true, false}
 use mathlib.Core.List.{List, [], _∷_, _++_, append-assoc}
 use Prim.Native.Nat.{ℕ, zero, suc, _+_, _-_, _≤_, _<_, min, max}
 use native.Mathlib.Omega.{arith}
 use native.Mathlib.Numerals.{add-one, sub-one}
 use lib.Dec.{leb}
 use lib.ListN.{length, set, take, drop, length-take, length-set, take-append-drop, drop-of-length-le}
-use lib.Seq.{slice, take-take, take-all, take-suc-set, take-set-lt, drop-set-lt, length-take-le, append-snoc}
+use lib.Seq.{slice, take-take, take-all, take-suc-set, take-set-lt, drop-set-lt, length-take-le}
 use borrow.Author.Tests.{le-leb, lt-leb, leb-true, leb-false}
 use Rattle.lists.specs.Shift as shift
 use Rattle.lists.specs.Leading.{leading, ins-leading}
@@ -24,7 +23,6 @@ use Rattle.tree_core.specs.Insertion.{put, writeInner, insertAt}
 use Rattle.tree_core.specs.CodeTerms.{grownList, RewriteDone}
 use Rattle.tree_core.specs.declared.Grown.{Grown}
 use Rattle.tree_core.specs.declared.Grown.the-variants.{One, Two}
-use Rattle.tree_core.proofs.HeldLaws.{held-is}
 use Rattle.tree_core.proofs.EntryLaws.{filled-is}
 
 -- ---- items in their places

@@ -1,7 +1,6 @@
 -- The steps of a lookup. Assumes nothing.
 use mathlib.Core.Path.{_≡_, refl, sym, ap, _∙_}
 use mathlib.Core.Logic.{_≢_}
-use mathlib.Core.Bool.{Bool, true, false, not}
 use mathlib.Core.List.{List, [], _∷_, _++_}
 use Prim.Native.Nat.{ℕ, zero, suc, _+_, _-_, _≤_, _<_, min}
 use native.Mathlib.Omega.{arith}
@@ -9,11 +8,11 @@ use native.Mathlib.Numerals.{add-one, sub-one}
 use lib.Dec.{eqb}
 use lib.ListN.{length, getD, take, drop, length-take, drop-of-length-le, List·getD-eq-default}
 use lib.Seq.{drop-cons, getD-take}
-use borrow.Author.Tests.{eqb-true, eqb-false, eq-eqb, ne-eqb}
-use Rattle.lists.specs.Basics.{if, concatMap}
-use Rattle.lists.specs.Ascending.{headOr, head-append, head-any}
+use borrow.Author.Tests.{eqb-true}
+use Rattle.lists.specs.Basics.{concatMap}
+use Rattle.lists.specs.Ascending.{headOr, head-append}
 use Rattle.lists.specs.Sorting.{filter}
-use Rattle.lists.specs.Leading.{leading, leading-le}
+use Rattle.lists.specs.Leading.{leading}
 use Rattle.lists.specs.Tests.{by-cases}
 use Rattle.lists.specs.SortingLaws.{filter-append}
 use Rattle.pagestore.specs.declared.Record.{Record}

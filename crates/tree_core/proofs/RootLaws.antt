@@ -1,23 +1,22 @@
 -- The steps of an insertion at the root, and of the count of the pages that it wants. Assumes nothing.
-use mathlib.Core.Path.{_≡_, refl, sym, ap, _∙_}
+use mathlib.Core.Path.{_≡_, refl, ap, _∙_}
 use mathlib.Core.Logic.{_≢_}
 use mathlib.Core.List.{List, [], _∷_}
 use Prim.Native.Nat.{ℕ, zero, suc, _+_, _-_, _%_, _^_, _≤_, _<_}
 use native.Mathlib.Omega.{arith}
-use native.Mathlib.Numerals.{sub-one, add-one}
+use native.Mathlib.Numerals.{sub-one}
 use lib.Dec.{leb, eqb}
 use borrow.Author.Tests.{le-leb, lt-leb, eq-eqb, ne-eqb}
 use Rattle.lists.specs.Basics.{if, indicator}
 use Rattle.pagestore.specs.declared.Record.{Record}
 use Rattle.pagestore.specs.declared.Entry.{Entry}
-use Rattle.pagestore.specs.Store.{Field, features, root, level, total, innerAt, countAt, entriesIn, setInner, fieldAt, setField, pageTaken, takePage}
+use Rattle.pagestore.specs.Store.{features, root, level, total, innerAt, countAt, entriesIn, setInner, fieldAt, setField, pageTaken, takePage}
 use Rattle.tree_model.specs.Trees.{rankOf}
 use Rattle.tree_model.specs.Inserting.{choose}
 use Rattle.tree_core.specs.Entries.{childAt}
 use Rattle.tree_core.specs.Insertion.{insertAt, growRoot, addToTotal, insertInto, fullRun, pagesWanted}
 use Rattle.tree_core.specs.CodeTerms.{grownList, RewriteDone}
 use Rattle.tree_core.specs.declared.Grown.{Grown}
-use Rattle.tree_core.specs.declared.Grown.the-variants.{One, Two}
 
 pub indicator-one : (a n : ℕ) → a ≤ n → 1 ≡ indicator (leb a n)
 indicator-one a n h = rw (le-leb a n h)

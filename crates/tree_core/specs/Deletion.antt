@@ -1,6 +1,6 @@
 -- Deletion (tree_model `Deleting`) on the bytes of an index. Nothing is assumed of them.
 use mathlib.Core.List.{List, [], _∷_, _++_}
-use Prim.Native.Nat.{ℕ, zero, suc, _+_, _-_}
+use Prim.Native.Nat.{ℕ, zero, suc, _-_}
 use lib.Dec.{leb, eqb}
 use lib.ListN.{length, take, drop, set}
 use Rattle.lists.specs.Basics.{if}

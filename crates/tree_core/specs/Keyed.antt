@@ -1,5 +1,5 @@
 -- Whether an index holds a record in the leaf to which its key leads; no other leaf is looked at. Nothing is assumed of the bytes.
-use mathlib.Core.Bool.{Bool, true, false}
+use mathlib.Core.Bool.{Bool, false}
 use mathlib.Core.List.{List, [], _∷_}
 use Prim.Native.Nat.{ℕ, zero, suc}
 use lib.Dec.{eqb}

@@ -19,7 +19,8 @@ use pagestore::entry_at;
 
 // In the inner page at a page number, the place of the last child whose first key is not above the rank, else of the first child.
 pub fn choose_at(index: &[u8], page: u32, rank: u64) -> usize
-    ensures { λ r. ⌜ (r ≡ choose rank (entriesIn (innerAt (now (index .entry)) page))) × (r ≤ 15) × (r ≤ innerAt (now (index .entry)) page .count) ⌝ }
+    ensures { λ r. ⌜ (r ≡ choose rank (entriesIn (innerAt (now (index .entry)) page)))
+        × (r ≤ 15) × (r ≤ innerAt (now (index .entry)) page .count) ⌝ }
 {
     let n = filled_at(index, page);
     let mut at = 0;

@@ -3,6 +3,7 @@ ghost use mathlib.Core.Path.{_≡_};
 ghost use Prim.Native.Nat.{min};
 ghost use Rattle.pagestore.specs.Store.{countAt};
 ghost use Rattle.tree_model.specs.Trees.{keyOf, rankOf};
+use crate::MAX_ITEMS;
 use geometry::Height;
 use geometry::Key;
 use geometry::Pyramid;
@@ -12,11 +13,11 @@ use geometry::points::pair_of;
 use pagestore::Record;
 use pagestore::count_at;
 
-// Of a stored count, the slots that it takes in: there are 16.
+// Of a stored count, the slots that it takes in.
 pub fn filled(count: usize) -> usize
     ensures { λ r. ⌜ r ≡ min 16 count ⌝ }
 {
-    if count < 16 { count } else { 16 }
+    if count < MAX_ITEMS { count } else { MAX_ITEMS }
 }
 
 // The slots that the count of a page takes in.
@@ -24,12 +25,6 @@ pub fn filled_at(index: &[u8], page: u32) -> usize
     ensures { λ r. ⌜ r ≡ min 16 (countAt (now (index .entry)) page) ⌝ }
 {
     filled(count_at(index, page) as usize)
-}
-
-pub fn lesser(a: usize, b: usize) -> usize
-    ensures { λ r. ⌜ r ≡ min a b ⌝ }
-{
-    if a < b { a } else { b }
 }
 
 // The key of a record whose first d slots are its point.

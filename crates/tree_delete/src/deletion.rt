@@ -10,7 +10,6 @@ ghost use Rattle.tree_core.specs.Held.{Held};
 ghost use Rattle.tree_model.specs.Deleting.{leftOf};
 ghost use Rattle.tree_core.specs.Deletion.{leave, fixUnderflow, deleteAt, collapseRoot, takeFromTotal, deleteFrom, rebalancedBelow};
 ghost use Rattle.tree_core.specs.CodeTerms.{grownList, LeftDone, deletedOf};
-use crate::rebalancing::rebalance_pages;
 use pagestore::Entry;
 use pagestore::Inner;
 use pagestore::Leaf;
@@ -29,21 +28,25 @@ use pagestore::total_records;
 use pagestore_free::free_page;
 use tree_core::Grown;
 use tree_core::Left;
-use tree_core::add_entries;
-use tree_core::add_records;
+use tree_core::MAX_ITEMS;
+use tree_core::MIN_ITEMS;
 use tree_core::child_at;
 use tree_core::child_of;
 use tree_core::choose_at;
 use tree_core::filled;
 use tree_core::ident_place;
 use tree_core::inner_entry;
-use tree_core::inner_of;
 use tree_core::leaf_entry;
-use tree_core::leaf_of;
-use tree_core::no_entries;
-use tree_core::no_records;
-use tree_core::push_grown;
 use tree_core::record_rank;
+use tree_items::add_entries;
+use tree_items::add_records;
+use tree_items::inner_of;
+use tree_items::leaf_of;
+use tree_items::no_entries;
+use tree_items::no_records;
+use tree_items::push_grown;
+use tree_partner::left_of;
+use tree_rebalance::rebalance_pages;
 
 // The leaf without the record at a place.
 fn without_record(leaf: Leaf, i: usize) -> Leaf
@@ -52,7 +55,7 @@ fn without_record(leaf: Leaf, i: usize) -> Leaf
 {
     let any = leaf.records[0];
     let before = add_records(no_records(any), leaf, 0, i);
-    let all = add_records(before, leaf, i + 1, 16);
+    let all = add_records(before, leaf, i + 1, MAX_ITEMS);
     leaf_of(all, 0, all.count)
 }
 
@@ -96,33 +99,24 @@ fn with_entry(inner: Inner, level: u8, i: usize, e: Entry) -> Inner
     }
 }
 
-// The left one of child i and its partner, of n children.
-fn left_of(i: usize, n: usize) -> usize
-    requires { ⌜ (i ≤ 15) × (n ≤ 16) ⌝ }
-    ensures { λ r. ⌜ (r ≡ leftOf i n) × (r ≤ 14) ⌝ }
-{
-    if i + 1 < n {
-        return i;
-    }
-    if i == 0 { 0 } else { i - 1 }
-}
-
-// The page with the two entries from place j on replaced by those of the pages that have been evened out.
+// The page with the two entries from place j on replaced by those of the pages that have been rebalanced.
 fn replace_pair(inner: Inner, j: usize, grown: Grown) -> Inner
     requires { ⌜ j ≤ 14 ⌝ }
-    ensures { λ r. ⌜ (r .level ≡ inner .level) × Held (r .count) (r .entries) (take j (entriesIn inner) ++ (grownList grown ++ drop (j + 2) (entriesIn inner))) ⌝ }
+    ensures { λ r. ⌜ (r .level ≡ inner .level)
+        × Held (r .count) (r .entries) (take j (entriesIn inner) ++ (grownList grown ++ drop (j + 2) (entriesIn inner))) ⌝ }
 {
     let level = inner.level;
     let any = inner.entries[0];
     let before = add_entries(no_entries(any), inner, 0, j);
-    let all = add_entries(push_grown(before, grown), inner, j + 2, 16);
+    let all = add_entries(push_grown(before, grown), inner, j + 2, MAX_ITEMS);
     inner_of(all, level, 0, all.count)
 }
 
-// The child at place i, left with fewer than 8 items, takes its partner.
+// The child at place i, left with too few items, takes its partner.
 fn rebalance(index: &mut [u8], page: u32, inner: Inner, i: usize, below: u8, d: u8) -> Left
     requires { ⌜ i ≤ 15 ⌝ }
-    ensures { λ r. ⌜ LeftDone (rebalancedBelow d below (inner .level) (now (index .entry)) page (entriesIn inner) i) (now (index .exit)) r ⌝ }
+    ensures { λ r. ⌜ LeftDone (rebalancedBelow d below (inner .level) (now (index .entry)) page (entriesIn inner) i)
+        (now (index .exit)) r ⌝ }
 {
     let n = filled(inner.count);
     let j = left_of(i, n);
@@ -144,11 +138,12 @@ fn fix_underflow(
     d: u8,
 ) -> Left
     requires { ⌜ (i ≤ 15) × (0 < level) ⌝ }
-    ensures { λ r. ⌜ LeftDone (fixUnderflow d (level - 1) page (entriesIn inner) i (deletedOf (now (index .entry)) left)) (now (index .exit)) r ⌝ }
+    ensures { λ r. ⌜ LeftDone (fixUnderflow d (level - 1) page (entriesIn inner) i (deletedOf (now (index .entry)) left))
+        (now (index .exit)) r ⌝ }
 {
     let entry = left.entry;
     let next = with_entry(inner, level, i, entry);
-    if 8 <= left.count {
+    if MIN_ITEMS <= left.count {
         return leave_page(index, page, next);
     }
     rebalance(index, page, next, i, level - 1, d)

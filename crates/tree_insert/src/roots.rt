@@ -1,18 +1,15 @@
-// Insertion into an index, and the pages that it wants.
+// Insertion into an index.
 ghost use mathlib.Core.Path.{_≡_};
 ghost use mathlib.Core.List.{[], _∷_};
-ghost use Prim.Native.Nat.{_+_, _%_, _^_, _≤_};
-ghost use lib.Dec.{leb, eqb};
-ghost use Rattle.lists.specs.Basics.{if, indicator};
-ghost use Rattle.pagestore.specs.Store.{countAt};
-ghost use Rattle.tree_core.specs.Insertion.{growRoot, addToTotal, insertInto, fullRun, pagesWanted};
+ghost use Prim.Native.Nat.{_+_, _%_, _^_};
+ghost use Rattle.lists.specs.Basics.{if};
+ghost use Rattle.tree_core.specs.Insertion.{growRoot, addToTotal, insertInto};
 ghost use Rattle.tree_core.specs.CodeTerms.{grownList};
 ghost use Rattle.tree_core.specs.Held.{Held};
 use crate::insertion::insert_at;
 use pagestore::Entry;
 use pagestore::Inner;
 use pagestore::Record;
-use pagestore::count_at;
 use pagestore::features_of;
 use pagestore::root_level;
 use pagestore::root_page;
@@ -23,12 +20,10 @@ use pagestore::set_total_records;
 use pagestore::total_records;
 use pagestore_free::take_page;
 use tree_core::Grown;
-use tree_core::child_of;
-use tree_core::choose_at;
-use tree_core::inner_of;
-use tree_core::no_entries;
-use tree_core::push_entry;
 use tree_core::record_rank;
+use tree_items::inner_of;
+use tree_items::no_entries;
+use tree_items::push_entry;
 
 // One level higher; above the highest that a page can have, 0.
 fn next_level(level: u8) -> u8
@@ -89,45 +84,4 @@ pub fn insert(index: &mut [u8], x: Record)
     let grown = insert_at(index, root, level, x, rank, d);
     grow_root(index, level, grown);
     add_to_total(index);
-}
-
-// 1 if a page is full, else 0.
-fn full_page(index: &[u8], page: u32) -> u32
-    ensures { λ r. ⌜ (r ≡ indicator (leb 16 (countAt (now (index .entry)) page))) × (r ≤ 1) ⌝ }
-{
-    if 16 <= count_at(index, page) { 1 } else { 0 }
-}
-
-// A run of n full pages that reaches up to the level below goes on with a page if that is full.
-fn run_on(n: u32, level: u8, full: u32) -> u32
-    requires { ⌜ (n ≤ level) × (full ≤ 1) ⌝ }
-    ensures { λ r. ⌜ (r ≡ if (eqb n level) (n + full) n) × (r ≤ level + 1) ⌝ }
-{
-    if n == level as u32 { n + full } else { n }
-}
-
-// The full pages in an unbroken run upward from the leaf that an insertion of the rank comes to.
-fn full_run(index: &[u8], page: u32, level: u8, rank: u64) -> u32
-    ensures { λ r. ⌜ (r ≡ fullRun level (now (index .entry)) page rank) × (r ≤ level + 1) ⌝ }
-{
-    let full = full_page(index, page);
-    if level == 0 {
-        return full;
-    }
-    let i = choose_at(index, page, rank);
-    let child = child_of(index, page, i);
-    let n = full_run(index, child, level - 1, rank);
-    run_on(n, level, full)
-}
-
-// Pages wanted by an insertion: that run, plus one if it takes in the root.
-pub fn pages_wanted(index: &[u8], x: Record) -> u32
-    ensures { λ r. ⌜ r ≡ pagesWanted (now (index .entry)) x ⌝ }
-{
-    let d = features_of(index);
-    let level = root_level(index);
-    let root = root_page(index);
-    let rank = record_rank(x, d);
-    let n = full_run(index, root, level, rank);
-    if n == level as u32 + 1 { n + 1 } else { n }
 }

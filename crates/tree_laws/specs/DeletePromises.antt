@@ -87,7 +87,7 @@ module _ (b : List ℕ) (i : ℕ) (s : SoundIndex b) (h : 0 < mult i (map identO
   unfolding pagesGiven
   delete-order = given-root-below d (viewOf b .level) b r (treeOf (viewOf b)) (w .ok) (w .held) .falling
 
-  -- level and tree: a child left with 7 is evened out with its partner, an inner root with one child gives way
+  -- level and tree: a child left with 7 is rebalanced with its partner, an inner root with one child gives way
   pub delete-shape : _≡_ {A = Shape} (shapeAt (deleteIdent b i)) (deletedTree (viewOf b .d) (findIn b i) (shapeAt b))
   unfolding deleteFrom takeFromTotal
   delete-shape = total-changed (fieldAt total collapsed - 1) changed .4

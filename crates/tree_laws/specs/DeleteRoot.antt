@@ -14,7 +14,7 @@ use Rattle.lists.specs.AscendingBy.{AscendingBy}
 use Rattle.lists.specs.Tabulated.{all-at}
 use Rattle.pagestore.specs.declared.Record.{Record}
 use Rattle.pagestore.specs.declared.Entry.{Entry}
-use Rattle.pagestore.specs.Store.{pageAt, features, root, level, freed, fieldAt, inRange, innerAt, entriesIn, freeAt, freePage}
+use Rattle.pagestore.specs.Store.{pageAt, features, root, level, fieldAt, inRange, innerAt, entriesIn, freeAt, freePage}
 use Rattle.pagestore.specs.Store.FreeLaws.{page-free, free-free, freed-part}
 use Rattle.tree_model.specs.Trees.{Item, records, pages, rankOf}
 use Rattle.tree_model.specs.Deleting.{deleteRecord, deleteTree, collapsed, deletedTree}

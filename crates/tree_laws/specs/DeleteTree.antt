@@ -17,7 +17,7 @@ use Rattle.lists.specs.AscendingBy.{AscendingBy, rising-left, rising-right}
 use Rattle.lists.specs.Tabulated.{all-take, all-at}
 use Rattle.pagestore.specs.declared.Record.{Record}
 use Rattle.tree_model.specs.Trees.{Item, records, pages, rankOf}
-use Rattle.tree_model.specs.Deleting.{deleteRecord, leftCount, rebalancedItems, leftOf, placePair, rebalancedPair, Rest, deleteTree}
+use Rattle.tree_model.specs.Deleting.{deleteRecord, leftCount, rebalancedItems, leftOf, placePair, rebalancedPair, deleteTree}
 use Rattle.tree_model.specs.Inserting.{noTree, chosen}
 use Rattle.tree_model.specs.TreeLaws.{concatMap-records, no-pages}
 use Rattle.tree_laws.specs.Shapes.{Ok, Some, Root, ok-root, chosen-lt, before-chosen, behind-chosen}

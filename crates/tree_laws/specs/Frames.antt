@@ -2,7 +2,7 @@
 use mathlib.Core.Path.{_≡_, refl, _∙_}
 use mathlib.Core.Bool.{true}
 use mathlib.Core.List.{List, [], _∷_, _++_, map}
-use Prim.Native.Nat.{ℕ, zero, suc, _+_, _-_, _^_, _≤_, _<_}
+use Prim.Native.Nat.{ℕ, zero, suc, _+_, _^_, _≤_, _<_}
 use native.Mathlib.Omega.{arith}
 use lib.ListN.{length, length-map}
 use Rattle.lists.specs.Basics.{All, none, also, concatMap, all-append}
@@ -11,7 +11,7 @@ use Rattle.lists.specs.Parts.{head-of, last-of}
 use Rattle.lists.specs.Tests.{by-cases}
 use Rattle.pagestore.specs.declared.Record.{Record}
 use Rattle.pagestore.specs.Fits.{RecordFits, EntryFits}
-use Rattle.pagestore.specs.Store.{Page, pageAt, setPage, Field, freed, fresh, Apart, fieldAt, linkAt, inRange, pagesIn, restAt, freedAt, freshAt, freeAt, takePage, freePage}
+use Rattle.pagestore.specs.Store.{Page, pageAt, setPage, Field, freed, fresh, Apart, fieldAt, linkAt, inRange, pagesIn, restAt, freeAt, takePage, freePage}
 use Rattle.pagestore.specs.Store.RangeLaws.{range-high, range-fits, range-whole, range-same, pages-same}
 use Rattle.pagestore.specs.Store.PageLaws.{PageFits, leafFits, innerFits, length-set-page, field-page, field-other, field-same}
 use Rattle.pagestore.specs.Store.FreeLaws.{rest-page, length-take-page, field-take, rest-take, length-free-page, field-free, rest-free, freed-part}

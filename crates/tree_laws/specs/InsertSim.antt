@@ -18,7 +18,7 @@ use Rattle.lists.specs.Tabulated.{all-take, all-at}
 use Rattle.pagestore.specs.declared.Record.{Record}
 use Rattle.pagestore.specs.declared.Entry.{Entry}
 use Rattle.pagestore.specs.Fits.{RecordFits}
-use Rattle.pagestore.specs.Store.{leaf, inner, pageAt, setPage, setLeaf, leafAt, innerAt, countAt, fillOf, recordsIn, entriesIn, inRange, freeAt, pageTaken, takePage}
+use Rattle.pagestore.specs.Store.{pageAt, setPage, setLeaf, leafAt, innerAt, countAt, fillOf, recordsIn, entriesIn, inRange, freeAt, pageTaken, takePage}
 use Rattle.pagestore.specs.Store.RangeLaws.{range-fits}
 use Rattle.pagestore.specs.Store.PageLaws.{page-same, page-other, leaf-view, inner-view, page-fill}
 use Rattle.pagestore.specs.Store.FreeLaws.{free-page, taken-first, page-take, free-take, freed-part}

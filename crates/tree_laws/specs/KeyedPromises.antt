@@ -1,13 +1,13 @@
 -- Where a record's key leads in a sound index: the record stands there just if it is live, and what a deletion does goes by identifier and point.
 use mathlib.Core.Path.{_≡_, refl, sym, ap, _∙_, subst}
-use mathlib.Core.Bool.{Bool, true, false}
+use mathlib.Core.Bool.{true}
 use mathlib.Core.Logic.{_≢_}
-use mathlib.Core.List.{List, [], _∷_, _++_, map}
-use Prim.Native.Nat.{ℕ, zero, suc, _+_, _≤_, _<_}
+use mathlib.Core.List.{List, _∷_, _++_, map}
+use Prim.Native.Nat.{ℕ, zero, suc, _+_, _<_}
 use native.Mathlib.Omega.{arith}
 use lib.Dec.{eqb}
 use lib.ListN.{length, take, drop, getD}
-use borrow.Author.Tests.{eqb-true, eqb-false, eq-eqb}
+use borrow.Author.Tests.{eqb-true, eqb-false}
 use Rattle.lists.specs.Basics.{if, All, none, also, concatMap, all-left, all-right, all-map}
 use Rattle.lists.specs.Ascending.{headOr}
 use Rattle.lists.specs.Choices.{bool-cases}
@@ -27,7 +27,7 @@ use Rattle.tree_model.specs.Sound.{SoundIndex}
 use Rattle.tree_model.specs.Inserting.{choose, noTree, chosen}
 use Rattle.tree_model.specs.TreeLaws.{concatMap-records}
 use Rattle.tree_core.specs.Entries.{childAt}
-use Rattle.tree_core.specs.Deletion.{Deleted, fixUnderflow, deleteAt, deleteFrom}
+use Rattle.tree_core.specs.Deletion.{fixUnderflow, deleteAt, deleteFrom}
 use Rattle.tree_core.specs.Lookup.{blank, withIdent, findIn}
 use Rattle.tree_core.specs.Keyed.{leafFor, samePoint, heldAmong, holdsAt}
 use Rattle.tree_laws.specs.Shapes.{Some, Root, ok-root, child-at, chosen-lt, before-chosen, behind-chosen}

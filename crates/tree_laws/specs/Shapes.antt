@@ -1,10 +1,10 @@
 -- Trees with right fills, and the child that a descent chooses among theirs. Nothing here speaks of bytes.
-use mathlib.Core.Path.{_≡_, refl, ap}
+use mathlib.Core.Path.{_≡_, refl}
 use mathlib.Core.List.{List, [], _∷_, _++_, map}
-use Prim.Native.Nat.{ℕ, zero, suc, _+_, _≤_, _<_}
+use Prim.Native.Nat.{ℕ, zero, suc, _≤_, _<_}
 use native.Mathlib.Omega.{arith}
 use lib.Dec.{leb}
-use lib.ListN.{length, take, drop, getD, length-append, length-map}
+use lib.ListN.{length, take, drop, getD, length-map}
 use borrow.Author.Tests.{leb-true, leb-false}
 use Rattle.lists.specs.Basics.{if, All, none, also, concatMap, all-append, all-left, all-map}
 use Rattle.lists.specs.Ascending.{headOr}
@@ -16,7 +16,7 @@ use Rattle.geometry.specs.Keys.{keyNumber}
 use Rattle.pagestore.specs.declared.Record.{Record}
 use Rattle.pagestore.specs.declared.Entry.{Entry}
 use Rattle.pagestore.specs.Fits.{RecordFits}
-use Rattle.tree_model.specs.Trees.{minItems, maxItems, Item, records, pages, noRecord, firstKey, rankOf, entryOf}
+use Rattle.tree_model.specs.Trees.{minItems, maxItems, Item, records, noRecord, firstKey, rankOf, entryOf}
 use Rattle.tree_model.specs.Inserting.{noTree, notAbove, choose, chosen}
 use Rattle.tree_core.specs.Entries.{childAt}
 

@@ -2,10 +2,10 @@
 use mathlib.Core.Path.{_≡_, refl, sym, ap, _∙_}
 use mathlib.Core.Bool.{_&&_}
 use mathlib.Core.List.{List, _++_, map}
-use Prim.Native.Nat.{ℕ, zero, suc, _+_, _-_, _≤_, _<_}
+use Prim.Native.Nat.{ℕ, zero, suc, _+_, _≤_, _<_}
 use native.Mathlib.Omega.{arith}
 use lib.Dec.{ltb}
-use lib.ListN.{length, take, drop, length-append, take-append-drop}
+use lib.ListN.{length, drop, length-append}
 use Rattle.lists.specs.Basics.{indicator}
 use Rattle.lists.specs.Counts.{mult, mult-append, length-once}
 use Rattle.pagestore.specs.declared.Record.{Record}
@@ -15,7 +15,7 @@ use Rattle.tree_model.specs.Trees.{pages, identOf, treeOf, live}
 use Rattle.tree_model.specs.Sound.{SoundIndex}
 use Rattle.tree_core.specs.Insertion.{insertInto, pagesWanted}
 use Rattle.tree_laws.specs.Wholes.{sound-whole}
-use Rattle.tree_laws.specs.InsertPromises.{MayInsert, insert-sound, insert-pages, insert-length}
+use Rattle.tree_laws.specs.InsertPromises.{MayInsert, insert-pages}
 use Rattle.tree_laws.specs.DeletePromises.{deleteIdent, pagesGiven, delete-sound, delete-pages, delete-length}
 
 by-count : (n : ℕ) (b xs : List ℕ) → 1 ≤ n → n ≡ pagesIn b → ((q : ℕ) → mult q xs ≡ indicator (inRange b q)) → length xs + 1 ≡ n
@@ -40,17 +40,6 @@ no-page-idle b s =
 pub space-reused : (b : List ℕ) (i : ℕ) (r : Record) → SoundIndex b → 0 < mult i (map identOf (live (viewOf b))) → MayInsert (deleteIdent b i) r
     → freeAt (insertInto (deleteIdent b i) r) ≡ drop (pagesWanted (deleteIdent b i) r) (pagesGiven b i ++ freeAt b)
 space-reused b i r s h m = insert-pages (deleteIdent b i) r (delete-sound b i s h) m ∙ ap (drop (pagesWanted (deleteIdent b i) r)) (delete-pages b i s h)
-
--- an insertion brings the pages that it takes into the tree, and no other
-pub pages-taken : (b : List ℕ) (r : Record) → SoundIndex b → MayInsert b r → (q : ℕ) → mult q (treePages (insertInto b r)) ≡ mult q (treePages b) + mult q (take (pagesWanted b r) (freeAt b))
-pages-taken b r s m q =
-    let n = pagesWanted b r in
-    let old = sound-whole b s .own q in
-    let new = sound-whole (insertInto b r) (insert-sound b r s m) .own q in
-    let same : indicator (inRange (insertInto b r) q) ≡ indicator (inRange b q) = ap indicator (range-same b (insertInto b r) q (insert-length b r s m)) in
-    let left : mult q (freeAt (insertInto b r)) ≡ mult q (drop n (freeAt b)) = ap (mult q) (insert-pages b r s m) in
-    let both : mult q (freeAt b) ≡ mult q (take n (freeAt b)) + mult q (drop n (freeAt b)) = ap (mult q) (sym (take-append-drop n (freeAt b))) ∙ mult-append q (take n (freeAt b)) (drop n (freeAt b)) in
-    omega arith
 
 -- a deletion gives up pages of the tree, and leaves the others in it
 pub pages-given : (b : List ℕ) (i : ℕ) → SoundIndex b → 0 < mult i (map identOf (live (viewOf b))) → (q : ℕ) → mult q (treePages b) ≡ mult q (pagesGiven b i) + mult q (treePages (deleteIdent b i))

@@ -232,11 +232,6 @@ module _ (b : List ℕ) (lent : Permitted (length b)) where
         insert-live (upward b 16) (numbered 17) (u .sound) may-seventeen ∙ ap (λ (d : ℕ). insertRecord d (numbered 17) (live (viewOf (upward b 16)))) (u .features)
         ∙ ap (insertRecord 1 (numbered 17)) (u .records-are) ∙ up-next 16
 
-    pub seventeen-free : freeAt (upward b 17) ≡ rangeFrom 4 (pagesIn b - 4)
-    unfolding upward
-    seventeen-free =
-        insert-pages (upward b 16) (numbered 17) (one-leaf 16 (omega arith) .sound) may-seventeen ∙ ap (λ (k : ℕ). drop k (freeAt (upward b 16))) wants-two ∙ ap (drop 2) free-starts
-
     pub seventeen-shape : _≡_ {A = Shape} (shapeAt (upward b 17)) splitShape
     unfolding upward
     seventeen-shape =

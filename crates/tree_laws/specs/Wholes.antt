@@ -1,7 +1,7 @@
 -- An index that holds a tree as a sound one does, whatever its total says; and that this, with the ranges, is soundness.
 use mathlib.Core.Path.{_≡_, refl, sym, ap, _∙_, subst}
 use mathlib.Core.List.{List, _++_, map}
-use Prim.Native.Nat.{ℕ, zero, suc, _+_, _-_, _*_, _≤_}
+use Prim.Native.Nat.{ℕ, zero, suc, _+_, _*_, _≤_}
 use native.Mathlib.Omega.{arith}
 use lib.ListN.{length}
 use Rattle.lists.specs.Basics.{indicator, All, all-map, rangeFrom}
@@ -11,7 +11,7 @@ use Rattle.lists.specs.AscendingBy.{AscendingBy, rising-of, ascending-of}
 use Rattle.lists.specs.Tests.{by-cases}
 use Rattle.pagestore.specs.declared.Record.{Record}
 use Rattle.pagestore.specs.Fits.{RecordFits}
-use Rattle.pagestore.specs.Store.{size, features, root, level, total, freed, fresh, fieldAt, inRange, leafAt, recordsIn, freedAt, freshAt, freeAt, View, viewOf}
+use Rattle.pagestore.specs.Store.{size, features, root, level, total, freed, fresh, fieldAt, inRange, leafAt, recordsIn, freedAt, freshAt, freeAt, viewOf}
 use Rattle.pagestore.specs.Store.RangeLaws.{range-past}
 use Rattle.pagestore.specs.Store.PageLaws.{records-fit as stored-fit}
 use Rattle.tree_model.specs.Trees.{Item, records, pages, rankOf, identOf, Rep, treeAt, treeOf, live}

@@ -1,5 +1,5 @@
 -- `leaf_count` meets its contract. The measure is the level; the sum and what is left to count are the whole count.
-use Prim.Native.Nat.{ℕ, _+_, _-_, _≤_, _<_, min}
+use Prim.Native.Nat.{ℕ, _+_, _-_, _≤_, min, _<_}
 use mathlib.Core.Path.{_≡_, refl, ap, _∙_}
 use native.Mathlib.Omega.{arith}
 use denote.Ref.{now}
@@ -9,7 +9,6 @@ use Rattle.pagestore.specs.Store.{innerAt, entriesIn}
 use Rattle.tree_core.specs.Lookup.{leafCount}
 use Rattle.tree.proofs.CountLaws.{countFrom, inner-number, swapped, count-most, count-leaf, count-low, count-start, count-next, count-end}
 use Rattle.tree.proofs.CountLaws as laws
-use Prim.Native.Nat.{ℕ, _<_}
 use borrow.Fn.Kinds.{In}
 use borrow.Fn.PlainCycle.{Measures, is, falls, and}
 use Rattle.tree.proofs.lookup.leaf_count.Reads as leaf-count

@@ -1,12 +1,6 @@
-use mathlib.Core.Path.{_≡_, refl, sym, ap, _∙_}
-use mathlib.Core.List.{List, [], _∷_, _++_, append-assoc}
-use Prim.Native.Nat.{ℕ, _+_, _-_, _≤_, _<_, min}
-use native.Mathlib.Omega.{arith}
-use lib.ListN.{length, take, drop, length-append, length-take, length-drop}
-use lib.Seq.{slice, take-all}
+use mathlib.Core.Path.{_≡_, sym}
+use lib.ListN.{length, take}
 use denote.Ref.{now}
-use Rattle.tree_core.specs.Held.{Held}
-use Rattle.tree_core.proofs.HeldLaws.{held-then, held-is, held-whole}
 use Rattle.tree_core.proofs.EntryLaws.{length-filled}
 use Rattle.tree_core.proofs.DeletionLaws.{rebalanced-below}
 use borrow.Author.Needs.{needs}
@@ -16,10 +10,10 @@ use Rattle.tree_delete.proofs.deletion.rebalance.Tie as tie
 use Rattle.tree_delete.proofs.deletion.rebalance.Reads as reads
 use Rattle.tree_delete.proofs.deletion.rebalance.Lts as lts
 use Rattle.tree_delete.proofs.deletion.leave_page.Reads as leave-page-reads
-use Rattle.tree_delete.proofs.deletion.left_of.Reads as left-of-reads
+use Rattle.tree_partner.proofs.left_of.Reads as left-of-reads
 use Rattle.tree_delete.proofs.deletion.replace_pair.Reads as replace-pair-reads
 use Rattle.tree_core.proofs.child_at.Reads as child-at-reads
-use Rattle.tree_delete.proofs.rebalancing.rebalance_pages.Reads as rebalance-pages-reads
+use Rattle.tree_rebalance.proofs.rebalance_pages.Reads as rebalance-pages-reads
 use Rattle.tree_core.proofs.filled.Reads as filled-reads
 
 filled-requires : tie.Need-filled-requires

@@ -1,11 +1,9 @@
-use mathlib.Core.Path.{_≡_, refl, sym, ap, _∙_}
-use mathlib.Core.List.{List, [], _∷_, _++_, append-assoc}
-use Prim.Native.Nat.{ℕ, _+_, _-_, _≤_, _<_, min}
+use mathlib.Core.Path.{_≡_, _∙_}
+use mathlib.Core.List.{_++_, append-assoc}
+use Prim.Native.Nat.{_+_}
 use native.Mathlib.Omega.{arith}
-use lib.ListN.{length, take, drop, length-append, length-take, length-drop}
+use lib.ListN.{length, take, length-append, length-take, length-drop}
 use lib.Seq.{slice, take-all}
-use denote.Ref.{now}
-use Rattle.tree_core.specs.Held.{Held}
 use Rattle.tree_core.proofs.HeldLaws.{held-then, held-is, held-whole}
 use Rattle.tree_core.specs.CodeTerms.{grownList}
 use Rattle.tree_core.proofs.InsertionLaws.{length-grown}
@@ -15,10 +13,10 @@ use Rattle.tree_delete.proofs.deletion.replace_pair.Statement.{statemen
 use Rattle.tree_delete.proofs.deletion.replace_pair.Tie as tie
 use Rattle.tree_delete.proofs.deletion.replace_pair.Reads as reads
 use Rattle.tree_delete.proofs.deletion.replace_pair.Lts as lts
-use Rattle.tree_core.proofs.push_grown.Reads as push-grown-reads
-use Rattle.tree_core.proofs.add_entries.Reads as add-entries-reads
-use Rattle.tree_core.proofs.inner_of.Reads as inner-of-reads
-use Rattle.tree_core.proofs.no_entries.Reads as no-entries-reads
+use Rattle.tree_items.proofs.push_grown.Reads as push-grown-reads
+use Rattle.tree_items.proofs.add_entries.Reads as add-entries-reads
+use Rattle.tree_items.proofs.inner_of.Reads as inner-of-reads
+use Rattle.tree_items.proofs.no_entries.Reads as no-entries-reads
 
 element-copy-out-any : tie.Need-element-copy-out-any
 element-copy-out-any c = search needs

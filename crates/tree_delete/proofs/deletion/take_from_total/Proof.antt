@@ -1,15 +1,6 @@
-use mathlib.Core.Path.{_≡_, refl, sym, ap, _∙_}
-use mathlib.Core.List.{List, [], _∷_, _++_, append-assoc}
-use Prim.Native.Nat.{ℕ, _+_, _-_, _≤_, _<_, min}
-use native.Mathlib.Omega.{arith}
-use lib.ListN.{length, take, drop, length-append, length-take, length-drop}
-use lib.Seq.{slice, take-all}
 use denote.Ref.{now}
-use Rattle.tree_core.specs.Held.{Held}
-use Rattle.tree_core.proofs.HeldLaws.{held-then, held-is, held-whole}
 use Rattle.tree_core.proofs.DeletionLaws.{total-less}
 use borrow.Author.Needs.{needs}
-use Rattle.lists.specs.Lengths.{unmapped}
 use Rattle.tree_delete.proofs.deletion.take_from_total.Statement.{statement}
 use Rattle.tree_delete.proofs.deletion.take_from_total.Tie as tie
 use Rattle.tree_delete.proofs.deletion.take_from_total.Reads as reads

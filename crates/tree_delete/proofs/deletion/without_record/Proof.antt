@@ -1,11 +1,8 @@
-use mathlib.Core.Path.{_≡_, refl, sym, ap, _∙_}
-use mathlib.Core.List.{List, [], _∷_, _++_, append-assoc}
-use Prim.Native.Nat.{ℕ, _+_, _-_, _≤_, _<_, min}
+use mathlib.Core.Path.{_≡_, _∙_}
+use Prim.Native.Nat.{_+_}
 use native.Mathlib.Omega.{arith}
-use lib.ListN.{length, take, drop, length-append, length-take, length-drop}
-use lib.Seq.{slice, take-all}
-use denote.Ref.{now}
-use Rattle.tree_core.specs.Held.{Held}
+use lib.ListN.{length, take, length-append, length-take, length-drop}
+use lib.Seq.{slice}
 use Rattle.tree_core.proofs.HeldLaws.{held-then, held-is, held-whole}
 use borrow.Author.Needs.{needs}
 use Rattle.lists.specs.Lengths.{unmapped}
@@ -13,9 +10,9 @@ use Rattle.tree_delete.proofs.deletion.without_record.Statement.{statem
 use Rattle.tree_delete.proofs.deletion.without_record.Tie as tie
 use Rattle.tree_delete.proofs.deletion.without_record.Reads as reads
 use Rattle.tree_delete.proofs.deletion.without_record.Lts as lts
-use Rattle.tree_core.proofs.add_records.Reads as add-records-reads
-use Rattle.tree_core.proofs.leaf_of.Reads as leaf-of-reads
-use Rattle.tree_core.proofs.no_records.Reads as no-records-reads
+use Rattle.tree_items.proofs.add_records.Reads as add-records-reads
+use Rattle.tree_items.proofs.leaf_of.Reads as leaf-of-reads
+use Rattle.tree_items.proofs.no_records.Reads as no-records-reads
 
 element-copy-out-any : tie.Need-element-copy-out-any
 element-copy-out-any c = search needs

@@ -1,4 +1,4 @@
-use mathlib.Core.Path.{_≡_, _∙_, ap}
+use mathlib.Core.Path.{_∙_, ap}
 use Prim.Native.Nat.{ℕ, _<_}
 use native.Mathlib.Nat.{pos-of-ne-zero}
 use native.Mathlib.Omega.{arith}
@@ -15,7 +15,7 @@ use Rattle.tree_insert.proofs.insertion.+insert_at.Lts-insert_at as ins
 use Rattle.pagestore.proofs.inner_at.Reads as inner-at-reads
 use Rattle.tree_core.proofs.child_of.Reads as child-of-reads
 use Rattle.tree_core.proofs.choose_at.Reads as choose-at-reads
-use Rattle.tree_insert.proofs.insertion.insert_leaf.Reads as insert-leaf-reads
+use Rattle.tree_insert_leaf.proofs.insert_leaf.Reads as insert-leaf-reads
 use Rattle.tree_insert.proofs.insertion.put_inner.Reads as put-inner-reads
 use Rattle.tree_insert.proofs.insertion.+insert_at.{statement}
 use Rattle.tree_insert.proofs.insertion.+insert_at.Tie.{close}

@@ -1,5 +1,4 @@
 use mathlib.Core.Path.{_≡_, refl}
-use native.Mathlib.Omega.{arith}
 use lib.ListN.{length}
 use Rattle.tree_core.proofs.InsertionLaws.{renewed-is}
 use borrow.Author.Needs.{needs}

@@ -1,10 +1,9 @@
-use mathlib.Core.Path.{_≡_, refl, sym, ap, _∙_}
+use mathlib.Core.Path.{_≡_, _∙_}
 use native.Mathlib.Omega.{arith}
-use lib.ListN.{length, take, length-append, length-take}
-use lib.Seq.{slice, length-take-le}
-use denote.Ref.{now}
+use lib.ListN.{length, length-append, length-take}
+use lib.Seq.{slice}
 use Rattle.tree_core.specs.Held.{Held}
-use mathlib.Core.List.{[], _∷_, _++_}
+use mathlib.Core.List.{[], _++_}
 use Rattle.tree_core.specs.CodeTerms.{grownList}
 use Rattle.tree_core.proofs.HeldLaws.{held-then, held-is}
 use Rattle.tree_core.proofs.InsertionLaws.{replaced-is, length-grown}
@@ -14,9 +13,9 @@ use Rattle.tree_insert.proofs.insertion.replace_grown.Statement.{statem
 use Rattle.tree_insert.proofs.insertion.replace_grown.Tie as tie
 use Rattle.tree_insert.proofs.insertion.replace_grown.Reads as reads
 use Rattle.tree_insert.proofs.insertion.replace_grown.Lts as lts
-use Rattle.tree_core.proofs.push_grown.Reads as push-grown-reads
-use Rattle.tree_core.proofs.append_entries.Reads as append-entries-reads
-use Rattle.tree_core.proofs.no_entries.Reads as no-entries-reads
+use Rattle.tree_items.proofs.push_grown.Reads as push-grown-reads
+use Rattle.tree_items.proofs.append_entries.Reads as append-entries-reads
+use Rattle.tree_items.proofs.no_entries.Reads as no-entries-reads
 use Rattle.tree_core.proofs.filled.Reads as filled-reads
 
 filled-requires : tie.Need-filled-requires

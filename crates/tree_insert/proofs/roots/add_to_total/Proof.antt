@@ -1,9 +1,3 @@
-use mathlib.Core.Path.{_≡_, refl, sym, ap, _∙_}
-use native.Mathlib.Omega.{arith}
-use lib.ListN.{length, take, length-append, length-take}
-use Prim.Native.Nat.{ℕ}
-use lib.Dec.{leb}
-use Rattle.lists.specs.Basics.{indicator}
 use denote.Ref.{now}
 use Rattle.tree_core.proofs.RootLaws.{total-step}
 use borrow.Author.Needs.{needs}

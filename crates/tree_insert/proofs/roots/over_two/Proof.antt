@@ -1,12 +1,6 @@
-use mathlib.Core.Path.{_≡_, refl, sym, ap, _∙_}
+use mathlib.Core.Path.{ap}
 use native.Mathlib.Omega.{arith}
-use lib.ListN.{length, take, length-append, length-take}
-use Prim.Native.Nat.{ℕ}
-use lib.Dec.{leb}
-use Rattle.lists.specs.Basics.{indicator}
-use Rattle.lists.specs.Lengths.{unmapped}
-use denote.Ref.{now}
-use mathlib.Core.List.{List, [], _∷_}
+use mathlib.Core.List.{List}
 use Rattle.tree_core.proofs.HeldLaws.{held-then, held-is}
 use lib.Seq.{slice}
 use Rattle.pagestore.specs.declared.Entry.{Entry}
@@ -15,9 +9,9 @@ use Rattle.tree_insert.proofs.roots.over_two.Statement.{statement}
 use Rattle.tree_insert.proofs.roots.over_two.Tie as tie
 use Rattle.tree_insert.proofs.roots.over_two.Reads as reads
 use Rattle.tree_insert.proofs.roots.over_two.Lts as lts
-use Rattle.tree_core.proofs.inner_of.Reads as inner-of-reads
-use Rattle.tree_core.proofs.no_entries.Reads as no-entries-reads
-use Rattle.tree_core.proofs.push_entry.Reads as push-entry-reads
+use Rattle.tree_items.proofs.inner_of.Reads as inner-of-reads
+use Rattle.tree_items.proofs.no_entries.Reads as no-entries-reads
+use Rattle.tree_items.proofs.push_entry.Reads as push-entry-reads
 
 no-entries-requires : tie.Need-no-entries-requires
 no-entries-requires c κs = search needs
