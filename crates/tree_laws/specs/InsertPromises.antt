@@ -120,10 +120,6 @@ module _ (b : List ℕ) (r : Record) (s : SoundIndex b) (m : MayInsert b r) wher
   unfolding insertInto addToTotal
   insert-shape = total-changed ((fieldAt total grown + 1) % 2 ^ 32) changed .4
 
-  pub insert-length : length (insertInto b r) ≡ length b
-  unfolding insertInto addToTotal
-  insert-length = total-changed ((fieldAt total grown + 1) % 2 ^ 32) changed .2
-
   pub insert-features : viewOf (insertInto b r) .d ≡ viewOf b .d
   unfolding insertInto addToTotal
   insert-features = view-d (insertInto b r) ∙ total-changed ((fieldAt total grown + 1) % 2 ^ 32) changed .3
