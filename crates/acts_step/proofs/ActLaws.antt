@@ -9,11 +9,11 @@ use lib.ListN.{length, length-take}
 use borrow.Author.Tests.{eq-eqb, ne-eqb}
 use Rattle.search_rows.specs.declared.Row.{Row}
 use Rattle.search_rows.specs.Held.{rowsOf, rowsIn}
-use Rattle.search.specs.Visit.{Answer as Found}
+use Rattle.search_model.specs.Visit.{Answer as Found}
 use Rattle.index_answer.specs.declared.Answer.{Answer}
-use Rattle.index.specs.Refusals.{First, insertRules, deleteRules}
-use Rattle.index.specs.Outcomes.{insertedWith, deletedWith, foundWith, nothingFound}
-use Rattle.index.specs.Asking.{Question}
+use Rattle.index_refusals.specs.Refusals.{First, insertRules, deleteRules}
+use Rattle.index_refusals.specs.Outcomes.{insertedWith, deletedWith, foundWith, nothingFound}
+use Rattle.index_query.specs.Asking.{Question}
 use Rattle.index.specs.Acts.{Act, insert, delete, question}
 use Rattle.index.specs.Questions.{QuestionOutcome}
 use Rattle.acts_text.specs.declared.ActLine.{ActLine}

@@ -8,9 +8,9 @@ use native.Mathlib.Omega.{arith}
 use lib.ListN.{length}
 use Rattle.pagestore.specs.Store.{newIndex}
 use Rattle.tree_model.specs.Sound.{Permitted}
-use Rattle.index.specs.Refusals.{First, makeRules}
-use Rattle.index.specs.RefusalLaws.{first-one, none-fails}
-use Rattle.index.specs.Outcomes.{madeWith}
+use Rattle.index_refusals.specs.Refusals.{First, makeRules}
+use Rattle.index_refusals.specs.RefusalLaws.{first-one, none-fails}
+use Rattle.index_refusals.specs.Outcomes.{madeWith}
 use Rattle.acts_text.specs.declared.ActLine.{ActLine}
 use Rattle.acts_fields.specs.Bytes.{Written}
 use Rattle.acts_text.specs.Lines.{actOf}

@@ -6,13 +6,13 @@ use Prim.Native.Nat.{ℕ, suc, _+_, _≤_}
 use native.Mathlib.Omega.{arith}
 use lib.ListN.{length}
 use Rattle.pagestore.specs.Store.{newIndex}
-use Rattle.search.specs.Visit.{Answer as Found}
+use Rattle.search_model.specs.Visit.{Answer as Found}
 use Rattle.tree_model.specs.Sound.{Permitted}
-use Rattle.index.specs.Asking.{Question}
+use Rattle.index_query.specs.Asking.{Question}
 use Rattle.index.specs.Acts.{Act, question, Done, Series, end, next, heldBy}
 use Rattle.index.specs.Acts as acts
 use Rattle.index_laws.specs.Series.{Stands, series}
-use Rattle.index.specs.Answers.{Answers}
+use Rattle.index_query.specs.Answers.{Answers}
 use Rattle.index_laws.specs.Answers.{question-answers}
 use Rattle.acts_text.specs.declared.ActLine.{ActLine}
 use Rattle.acts_text.specs.Input.{kept}

@@ -2,7 +2,7 @@
 use mathlib.Core.List.{List, [], _∷_}
 use Prim.Native.Nat.{ℕ}
 use Rattle.search_rows.specs.declared.Row.{Row}
-use Rattle.search.specs.Visit.{Answer as Found}
+use Rattle.search_model.specs.Visit.{Answer as Found}
 use Rattle.index.specs.Acts.{Act, insert, delete, question, check}
 use Rattle.acts_output.specs.Output.{resultLine, rowLines}
 

@@ -9,8 +9,8 @@ use lib.IntN.{ℤ}
 use lib.ListN.{take}
 use Rattle.lists.specs.Basics.{if}
 use Rattle.pagestore.specs.Store.{newIndex}
-use Rattle.search.specs.Visit.{Answer as Found}
-use Rattle.index.specs.Asking.{Question, nearestOf}
+use Rattle.search_model.specs.Visit.{Answer as Found}
+use Rattle.index_query.specs.Asking.{Question, nearestOf}
 use Rattle.index.specs.Acts.{Act, insert, delete, question, does}
 use Rattle.acts_text.specs.declared.ActLine.{ActLine}
 use Rattle.acts_text.specs.Lines.{actOf}

@@ -1,7 +1,7 @@
 // The acts, each with what it prints into `out` from `at` on; each function returns where the output goes on.
 ghost use Prim.Native.Nat.{_+_, _≤_};
 ghost use lib.ListN.{length};
-ghost use Rattle.index.specs.Asking.{questionOf};
+ghost use Rattle.index_query.specs.Asking.{questionOf};
 ghost use Rattle.index.specs.Acts.{insert, delete};
 ghost use Rattle.acts_output.specs.Puts.{mostPrinted, Puts};
 ghost use Rattle.acts_step.specs.Steps.{askedBy, Acted, Replies};
@@ -9,7 +9,7 @@ use acts_output::MAX_ROWS;
 use acts_output::put_result;
 use acts_output::put_rows;
 use acts_text::ActLine;
-use index::Criteria;
+use index_query::Criteria;
 
 // Inserts, and prints the line of it.
 fn insert_line(

@@ -3,10 +3,10 @@ use mathlib.Core.Path.{_≡_}
 use mathlib.Core.List.{List, [], _∷_}
 use Prim.Native.Nat.{ℕ, _^_, _<_}
 use lib.IntN.{ℤ}
-use Rattle.pagestore.specs.declared.Record.{Record}
-use Rattle.tree.specs.Insertion.{insertRecord}
-use Rattle.tree.specs.Deletion.{deleteRecord}
-use Rattle.search.specs.Visit.{Answer as Found}
+use Rattle.pagestore_page.specs.declared.Record.{Record}
+use Rattle.tree_model.specs.Inserting.{insertRecord}
+use Rattle.tree_model.specs.Deleting.{deleteRecord}
+use Rattle.search_model.specs.Visit.{Answer as Found}
 use Rattle.index_query.specs.Asking.{Question}
 use Rattle.index_refusals.specs.Refusals.{First, insertRules, deleteRules, questionRules, checkRules, recordOf}
 use Rattle.index_refusals.specs.Outcomes.{unlessRefused, insertedWith, deletedWith, foundWith}

@@ -9,8 +9,8 @@ use Rattle.geometry.specs.Stored.{inRange}
 use Rattle.pagestore.specs.Store.{viewOf}
 use Rattle.tree_model.specs.Trees.{leavesOf}
 use Rattle.tree_model.specs.Sound.{SoundIndex}
-use Rattle.search.specs.Questions.{Exchanged, readingOrder, toRead}
-use Rattle.search.specs.Visit.{leavesRead}
+use Rattle.search_model.specs.Questions.{Exchanged, readingOrder, toRead}
+use Rattle.search_model.specs.Visit.{leavesRead}
 use Rattle.index_query.specs.Asking.{Question, sought}
 use Rattle.index_query.specs.AskingLaws.{read-ordered, exchange-same}
 use Rattle.index_refusals.specs.Refusals.{First, badFeatures, badCoordinate, questionRules, askedRules}

@@ -16,9 +16,9 @@ use Rattle.geometry.proofs.ExampleLaws as geometry-laws
 use Rattle.geometry.specs.Stored.{inRange}
 use Rattle.pagestore.specs.Store.{viewOf, pagesIn}
 use Rattle.tree_model.specs.Sound.{Permitted}
-use Rattle.search.specs.Examples as search
-use Rattle.search.specs.Examples.{recordNo}
-use Rattle.search.proofs.ExampleLaws as search-laws
+use Rattle.search_model.specs.Examples as search
+use Rattle.search_model.specs.Examples.{recordNo}
+use Rattle.search_model.proofs.ExampleLaws as search-laws
 use Rattle.index_query.specs.Asking.{Question, nearestOf}
 use Rattle.index_refusals.specs.Refusals.{First, questionRules}
 use Rattle.index_refusals.specs.RefusalLaws.{none-fails, Carried, carried-asked}

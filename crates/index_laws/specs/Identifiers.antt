@@ -10,13 +10,13 @@ use borrow.Author.Tests.{eqb-true, eqb-false, ne-eqb}
 use Rattle.lists.specs.Basics.{if, indicator}
 use Rattle.lists.specs.Counts.{mult}
 use Rattle.lists.specs.Tests.{by-cases}
-use Rattle.pagestore.specs.declared.Record.{Record}
+use Rattle.pagestore_page.specs.declared.Record.{Record}
 use Rattle.pagestore.specs.Store.{newIndex}
 use Rattle.tree_model.specs.Trees.{identOf}
 use Rattle.tree_model.specs.Sound.{Permitted}
-use Rattle.tree.specs.Deletion.{deleteRecord}
+use Rattle.tree_model.specs.Deleting.{deleteRecord}
 use Rattle.tree_laws.specs.Idents.{ident-ins}
-use Rattle.search.specs.Visit.{Answer as Found}
+use Rattle.search_model.specs.Visit.{Answer as Found}
 use Rattle.index_refusals.specs.Refusals.{insertRules, deleteRules, recordOf, liveTimes}
 use Rattle.index_refusals.specs.RefusalLaws.{all-hold}
 use Rattle.index_refusals.specs.Outcomes.{unlessRefused}

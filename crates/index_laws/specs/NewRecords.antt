@@ -8,11 +8,10 @@ use lib.IntN.{ℤ}
 use lib.ListN.{length, take, replicate, length-append, length-replicate, length-map}
 use Rattle.lists.specs.Basics.{All, none, also, all-map, all-append}
 use Rattle.geometry.specs.Stored.{stored, slotsOf, inRange}
-use Rattle.geometry.proofs.StoredLaws.{in-range}
-use Rattle.pagestore.specs.Fits.{RecordFits}
+use Rattle.geometry.proofs.StoredLaws.{in-range, slots-own, all-stored}
+use Rattle.pagestore_page.specs.Fits.{RecordFits}
 use Rattle.tree_model.specs.Sound.{RecordOk}
 use Rattle.index_refusals.specs.Refusals.{recordOf}
-use Rattle.index_query.specs.PointLaws.{all-stored, slots-own}
 
 all-zeros : (n : ℕ) → All (λ c. c ≤ 2000) (replicate n 0)
 all-zeros zero = none

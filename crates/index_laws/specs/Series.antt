@@ -6,17 +6,19 @@ use Prim.Native.Nat.{ℕ, zero, suc, _^_, _≤_, _<_}
 use native.Mathlib.Omega.{arith}
 use lib.IntN.{ℤ}
 use lib.ListN.{length}
-use Rattle.pagestore.specs.declared.Record.{Record}
+use Rattle.pagestore_page.specs.declared.Record.{Record}
 use Rattle.pagestore.specs.Store.{viewOf, newIndex}
 use Rattle.tree_model.specs.Trees.{live}
 use Rattle.tree_model.specs.Sound.{Permitted, SoundIndex}
-use Rattle.tree.specs.Insertion.{insertInto, insertRecord}
-use Rattle.tree.specs.Deletion.{deleteFrom, deleteRecord}
-use Rattle.tree.specs.Lookup.{findIn}
+use Rattle.tree_core.specs.Insertion.{insertInto}
+use Rattle.tree_model.specs.Inserting.{insertRecord}
+use Rattle.tree_core.specs.Deletion.{deleteFrom}
+use Rattle.tree_model.specs.Deleting.{deleteRecord}
+use Rattle.tree_core.specs.Lookup.{findIn}
 use Rattle.tree_laws.specs.InsertPromises.{MayInsert, insert-sound, insert-live, insert-features}
 use Rattle.tree_laws.specs.DeletePromises.{delete-sound, delete-live, delete-features}
 use Rattle.tree_laws.specs.NewPromises.{new-sound, new-live, new-features}
-use Rattle.search.specs.Visit.{Answer as Found}
+use Rattle.search_model.specs.Visit.{Answer as Found}
 use Rattle.index_query.specs.Asking.{Question}
 use Rattle.index_refusals.specs.Refusals.{First, insertRules, deleteRules, recordOf}
 use Rattle.index_refusals.specs.RefusalLaws.{all-hold}

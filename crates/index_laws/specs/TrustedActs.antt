@@ -7,10 +7,10 @@ use native.Mathlib.Omega.{arith}
 use lib.ListN.{length}
 use Rattle.pagestore.specs.Store.{viewOf, Field, fieldAt, features, level, newIndex}
 use Rattle.tree_model.specs.Sound.{Permitted, SoundIndex}
-use Rattle.search.specs.Visit.{Answer as Found}
-use Rattle.search.specs.Questions.{AgreeBut, unreadPages}
-use Rattle.search.proofs.SoundLaws.{tree-level}
-use Rattle.search.proofs.Promises.{agree-field}
+use Rattle.search_model.specs.Visit.{Answer as Found}
+use Rattle.search_model.specs.Questions.{AgreeBut, unreadPages}
+use Rattle.search_model.proofs.SoundLaws.{tree-level}
+use Rattle.search_model.proofs.UnreadLaws.{agree-field}
 use Rattle.index_query.specs.Asking.{Question, sought}
 use Rattle.index_query.specs.AskingLaws.{header-read, unread-same}
 use Rattle.index_refusals.specs.Refusals.{First, insertRules, deleteRules, questionRules, checkRules}

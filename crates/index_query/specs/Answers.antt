@@ -10,14 +10,14 @@ use lib.IntN.{ℤ}
 use Rattle.geometry.specs.Points.{distance}
 use Rattle.geometry.specs.Features.{distTo}
 use Rattle.geometry.proofs.SliceLaws.{plain-distance}
-use Rattle.pagestore.specs.declared.Record.{Record}
+use Rattle.pagestore_page.specs.declared.Record.{Record}
 use Rattle.pagestore.specs.Store.{viewOf}
 use Rattle.tree_model.specs.Trees.{pointIn, live, leavesOf}
 use Rattle.tree_model.specs.Sound.{SoundIndex}
 use Rattle.search_theory.specs.Nearest.{nearest}
-use Rattle.search.specs.Asked.{distanceTo}
-use Rattle.search.specs.Visit.{Answer as Found, ranking, found}
-use Rattle.search.specs.Questions.{liveCandidates, Called, rowsOf, toRead}
+use Rattle.search_model.specs.Asked.{distanceTo}
+use Rattle.search_model.specs.Visit.{Answer as Found, ranking, found}
+use Rattle.search_model.specs.Questions.{liveCandidates, Called, rowsOf, toRead}
 use Rattle.index_query.specs.Asking.{Question, sought, bare, bareOf}
 use Rattle.index_query.specs.AskingLaws.{all-live, plain-gap, live-rows, called-for, sought-exact}
 

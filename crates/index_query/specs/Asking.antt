@@ -6,17 +6,15 @@ use Prim.Native.Nat.{ℕ, _+_, _≤_}
 use lib.IntN.{ℤ}
 use lib.ListN.{length, take}
 use Rattle.geometry.specs.Stored.{inRange}
-use Rattle.pagestore.specs.declared.Record.{Record}
+use Rattle.geometry.specs.Numbers.{maxFeatures}
+use Rattle.pagestore_page.specs.declared.Record.{Record}
 use Rattle.search_rows.specs.declared.Row.{Row}
 use Rattle.search.specs.declared.Query.{Query}
-use Rattle.search.specs.Asked.{Asked, plainly, distanceTo, asks}
-use Rattle.search.specs.Steps.{Seekable}
+use Rattle.search_model.specs.Asked.{Asked, plainly, distanceTo, Seekable}
+use Rattle.search.specs.Steps.{asks}
 use Rattle.index_query.specs.declared.Criteria.{Criteria}
 
 -- the most coordinates of a point, and the most rows that a question may ask for
-
-abbrev pub maxFeatures : ℕ
-maxFeatures = 16
 
 abbrev pub maxRows : ℕ
 maxRows = 64

@@ -12,19 +12,21 @@ use Rattle.lists.specs.ConcatMapLaws.{map-append}
 use Rattle.geometry.specs.Points.{distance}
 use Rattle.geometry.specs.Features.{plain}
 use Rattle.geometry.proofs.SliceLaws.{plain-distance, plain-length}
-use Rattle.pagestore.specs.declared.Record.{Record}
+use Rattle.pagestore_page.specs.declared.Record.{Record}
 use Rattle.pagestore.specs.Store.{View, viewOf}
 use Rattle.tree_model.specs.Trees.{Item, leaves, treeOf, live, leavesOf, pointIn}
 use Rattle.tree_model.specs.Sound.{SoundIndex}
 use Rattle.search_theory.specs.Nearest.{nearest}
-use Rattle.search.specs.Asked.{distanceTo, candidate, Askable}
-use Rattle.search.specs.Branches.{rowOf, rowsAmong}
-use Rattle.search.specs.Visit.{ranking, found, leavesRead}
-use Rattle.search.specs.Questions.{rowsFrom, rowsOf, liveCandidates, Exchanged, AgreeBut, Called, readingOrder, toRead, unreadPages}
-use Rattle.search.proofs.AskedLaws.{candidates-all, plain-suits}
-use Rattle.search.proofs.SoundLaws.{leafItems, records-leaves}
-use Rattle.search.proofs.Promises.{found-exact, leaves-read, exchange, unread-header, unread-bytes}
-use Rattle.search.proofs.SetLaws.{set-points}
+use Rattle.search_model.specs.Asked.{distanceTo, candidate, Askable}
+use Rattle.search_model.specs.Branches.{rowOf, rowsAmong}
+use Rattle.search_model.specs.Visit.{ranking, found, leavesRead}
+use Rattle.search_model.specs.Questions.{rowsFrom, rowsOf, liveCandidates, Exchanged, AgreeBut, Called, readingOrder, toRead, unreadPages}
+use Rattle.search_model.proofs.AskedLaws.{candidates-all, plain-suits}
+use Rattle.search_model.proofs.SoundLaws.{leafItems, records-leaves}
+use Rattle.search_model.proofs.ExactLaws.{found-exact, leaves-read}
+use Rattle.search_model.proofs.ExchangeLaws.{exchange}
+use Rattle.search_model.proofs.UnreadLaws.{unread-header, unread-bytes}
+use Rattle.search_model.proofs.SetLaws.{set-points}
 use Rattle.index_query.specs.Asking.{Question, sought, bare, bareOf}
 
 -- ---- THE ROWS OF THE LIVE RECORDS

@@ -1,34 +1,16 @@
 -- Laws of a point as it is stored, and of the query for it.
 use mathlib.Core.Path.{_≡_, refl, sym, ap, _∙_, subst}
-use mathlib.Core.Bool.{true}
-use mathlib.Core.List.{List, [], _∷_, map}
+use mathlib.Core.List.{List, _∷_, map}
 use Prim.Native.Nat.{ℕ, zero, suc, _+_, _-_, _≤_}
 use native.Mathlib.Omega.{arith}
-use lib.IntN.{ℤ}
 use lib.ListN.{length, take, replicate, length-map}
-use lib.Seq.{take-at}
-use Rattle.lists.specs.Basics.{All, none, also}
-use Rattle.geometry.specs.Points.{InRange}
 use Rattle.geometry.specs.Features.{plain}
-use Rattle.geometry.specs.Questions.{askedOf, Packed, LaidOut}
-use Rattle.geometry.specs.Stored.{stored, pointOf, slotsOf, inRange}
-use Rattle.geometry.proofs.StoredLaws.{in-range, stored-le, slots-back}
-use Rattle.geometry.proofs.QuestionLaws.{ones-plain}
-use Rattle.search.proofs.AskedLaws.{seekable-point}
+use Rattle.geometry_slices.specs.Questions.{askedOf, Packed, LaidOut}
+use Rattle.geometry.specs.Stored.{stored, pointOf, slotsOf}
+use Rattle.geometry.proofs.StoredLaws.{in-range, slots-own, point-back}
+use Rattle.geometry_slices.proofs.QuestionLaws.{ones-plain}
+use Rattle.search_model.proofs.AskedLaws.{seekable-point}
 use Rattle.index_query.specs.Asking.{Question, Searchable, QueryFor}
-
-pub all-stored : (p : List ℤ) → InRange p → All (λ c. c ≤ 2000) (map stored p)
-all-stored [] r = none
-all-stored (c ∷ cs) r = also (stored-le c (r .0)) (all-stored cs (r .1))
-
--- the first slots, as many as the point has coordinates
-pub slots-own : (p : List ℤ) → take (length p) (slotsOf p) ≡ map stored p
-unfolding slotsOf
-slots-own p = take-at (map stored p) (replicate (16 - length p) 0) (length p) (length-map p stored)
-
--- a point in range, as it is stored, stands for itself
-point-back : (p : List ℤ) → inRange p ≡ true → pointOf (map stored p) ≡ p
-point-back p r = ap pointOf (sym (slots-own p)) ∙ slots-back p (in-range p r)
 
 pub take-same : (n m x : ℕ) → n ≤ m → take n (replicate m x) ≡ replicate n x
 take-same zero m x h = refl

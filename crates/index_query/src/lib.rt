@@ -1,14 +1,12 @@
 // What a caller asks, as the search takes it; its definitions say when a question is answered.
 ghost use Prim.Native.Nat.{_≤_};
 ghost use lib.ListN.{length, replicate};
-ghost use Rattle.geometry.specs.Questions.{LaidOut};
+ghost use Rattle.geometry_slices.specs.Questions.{LaidOut};
 ghost use Rattle.index_query.specs.Asking.{questionOf, Searchable, QueryFor};
-use geometry::bounds::ask;
+use geometry::MAX_FEATURES;
 use geometry::points::slots_of;
+use geometry_slices::asked::ask;
 use search::Query;
-
-// The most coordinates of a point.
-pub const MAX_FEATURES: usize = 16;
 
 // The most rows that a question may ask for.
 pub const MAX_ROWS: usize = 64;

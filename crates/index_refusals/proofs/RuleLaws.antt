@@ -13,7 +13,7 @@ use Rattle.pagestore.specs.Store.{viewOf, fieldAt, features, total}
 use Rattle.index_query.specs.Asking.{Question}
 use Rattle.index_refusals.specs.Refusals.{Rule, First, zeroId, askedRules}
 use Rattle.index_refusals.specs.RefusalLaws.{Hold, numbered, all-hold, refused-before, refused-after, later}
-use Rattle.index_refusals.specs.Outcomes.{Decides}
+use Rattle.lists.specs.Judges.{Decides}
 use Rattle.index_refusals.specs.Trusted.{Suits, trustedPoint, trustedInsert, trustedQuestion, pairRules}
 
 -- ---- THE HEADER'S FIELDS

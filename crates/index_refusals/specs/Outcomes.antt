@@ -1,20 +1,14 @@
 -- What an act returns and what it leaves of the index: where a number refuses it, every byte stays as it was.
-use mathlib.Core.Bool.{Bool, true, false}
 use mathlib.Core.List.{List, []}
 use Prim.Native.Nat.{ℕ, zero, suc}
 use lib.IntN.{ℤ}
 use Rattle.pagestore.specs.Store.{newIndex}
-use Rattle.tree.specs.Insertion.{insertInto}
-use Rattle.tree.specs.Deletion.{deleteFrom}
-use Rattle.tree.specs.Lookup.{findIn}
-use Rattle.search.specs.Visit.{Answer as Found, found}
+use Rattle.tree_core.specs.Insertion.{insertInto}
+use Rattle.tree_core.specs.Deletion.{deleteFrom}
+use Rattle.tree_core.specs.Lookup.{findIn}
+use Rattle.search_model.specs.Visit.{Answer as Found, found}
 use Rattle.index_query.specs.Asking.{Question, sought}
 use Rattle.index_refusals.specs.Refusals.{recordOf}
-
--- a test of P
-pub data Decides (P : Type 0) : Bool → Type 0 where
-  holds : P → Decides P true
-  fails : ¬ P → Decides P false
 
 -- what success gives, or what there was if the number refuses
 abbrev pub unlessRefused : {A : Type 0} → ℕ → A → A → A

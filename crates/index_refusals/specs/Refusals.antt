@@ -11,14 +11,15 @@ use lib.ListN.{length}
 use Rattle.lists.specs.Counts.{mult}
 use Rattle.lists.specs.Sorting.{count}
 use Rattle.geometry.specs.Stored.{slotsOf, inRange}
-use Rattle.pagestore.specs.declared.Record.{Record}
+use Rattle.geometry.specs.Numbers.{maxFeatures}
+use Rattle.pagestore_page.specs.declared.Record.{Record}
 use Rattle.pagestore.specs.Store.{viewOf, freeAt}
 use Rattle.tree_model.specs.Trees.{identOf, live}
 use Rattle.tree_model.specs.Sound.{Permitted, SoundIndex}
-use Rattle.tree.specs.Insertion.{pagesWanted}
+use Rattle.tree_core.specs.Insertion.{pagesWanted}
 use Rattle.tree_laws.specs.DeletePromises.{deleteIdent}
 use Rattle.tree_laws.specs.SpacePromises.{treePages}
-use Rattle.index_query.specs.Asking.{Question, maxFeatures, maxRows}
+use Rattle.index_query.specs.Asking.{Question, maxRows}
 
 -- a number with its condition
 abbrev pub Rule : Type 1

@@ -12,11 +12,12 @@ use Prim.Native.Nat.{ℕ, _≤_, _<_}
 use lib.IntN.{ℤ}
 use lib.ListN.{length}
 use Rattle.geometry.specs.Stored.{inRange}
+use Rattle.geometry.specs.Numbers.{maxFeatures}
 use Rattle.pagestore.specs.Store.{viewOf, fieldAt, level, freeAt}
 use Rattle.tree_model.specs.Sound.{Permitted}
-use Rattle.tree.specs.Insertion.{pagesWanted}
-use Rattle.tree.specs.Lookup.{findIn}
-use Rattle.index_query.specs.Asking.{Question, maxFeatures}
+use Rattle.tree_core.specs.Insertion.{pagesWanted}
+use Rattle.tree_core.specs.Lookup.{findIn}
+use Rattle.index_query.specs.Asking.{Question}
 use Rattle.index_refusals.specs.Refusals.{Rule, maxPoints, recordOf, askedRules, badLength, unsound, badFeatures, badCoordinate, zeroId, alreadyLive, notLive, full, noPages}
 
 -- the highest level of a root: 65,535 records fill no more

@@ -9,9 +9,9 @@ use Rattle.search_rows.specs.Held.{rowsIn}
 use Rattle.index_answer.specs.FillingLaws.{rows-held}
 use Rattle.search.specs.declared.Query.{Query}
 use Rattle.search.specs.declared.Seen.{Seen}
-use Rattle.search.specs.Asked.{Asked, asks}
-use Rattle.search.specs.Visit.{Answer as Found, found}
-use Rattle.search.specs.Steps.{Searches, Searched}
+use Rattle.search_model.specs.Asked.{Asked}
+use Rattle.search.specs.Steps.{asks, Searches, Searched}
+use Rattle.search_model.specs.Visit.{Answer as Found, found}
 use Rattle.index_answer.specs.declared.Answer.{Answer}
 use Rattle.index_query.specs.Asking.{Question, Searchable, QueryFor, sought}
 use Rattle.index_query.specs.Answers.{AnswersIfSound, search-answers}

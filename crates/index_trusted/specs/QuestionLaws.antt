@@ -11,7 +11,7 @@ use Rattle.lists.specs.Basics.{if}
 use Rattle.pagestore.specs.Store.{viewOf}
 use Rattle.search_rows.specs.declared.Row.{Row}
 use Rattle.search_rows.specs.Held.{rowsIn}
-use Rattle.search.specs.Visit.{Answer as Found, found}
+use Rattle.search_model.specs.Visit.{Answer as Found, found}
 use Rattle.index_answer.specs.declared.Answer.{Answer}
 use Rattle.index_answer.specs.declared.Tally.{Tally}
 use Rattle.index_answer.specs.Tallies.{counted}

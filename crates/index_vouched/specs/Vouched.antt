@@ -11,10 +11,10 @@ use Rattle.geometry.specs.Stored.{inRange}
 use Rattle.pagestore.specs.Store.{viewOf, fieldAt, level, freeAt}
 use Rattle.tree_model.specs.Trees.{pointIn}
 use Rattle.tree_model.specs.Sound.{Permitted}
-use Rattle.tree.specs.Insertion.{pagesWanted}
-use Rattle.tree.specs.Deletion.{deleteFrom}
-use Rattle.tree.specs.Lookup.{findIn}
-use Rattle.tree.specs.Keyed.{holdsAt}
+use Rattle.tree_core.specs.Insertion.{pagesWanted}
+use Rattle.tree_core.specs.Deletion.{deleteFrom}
+use Rattle.tree_core.specs.Lookup.{findIn}
+use Rattle.tree_core.specs.Keyed.{holdsAt}
 use Rattle.index_refusals.specs.Refusals.{Rule, First, maxPoints, recordOf, liveTimes, badLength, unsound, badFeatures, badCoordinate, zeroId, notLive, full, noPages}
 use Rattle.index_refusals.specs.Outcomes.{unlessRefused, insertedWith}
 use Rattle.index_refusals.specs.Trusted.{maxLevel, Suits}

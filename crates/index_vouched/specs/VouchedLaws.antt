@@ -3,48 +3,26 @@
 use mathlib.Core.Path.{_≡_, refl, sym, ap, _∙_, subst}
 use mathlib.Core.Bool.{true}
 use mathlib.Core.Logic.{inl, inr}
-use mathlib.Core.List.{List, [], _∷_, map}
+use mathlib.Core.List.{List, map}
 use Prim.Native.Nat.{ℕ, _-_, _≤_, _<_}
 use native.Mathlib.Omega.{arith}
-use lib.Dec.{ltb}
-use lib.IntN.{ℤ, natAbs}
+use lib.IntN.{ℤ}
 use lib.ListN.{length, take, length-take}
-use borrow.Author.Tests.{ltb-true, ltb-false, le-leb}
-use Rattle.lists.specs.Basics.{All, none, also}
-use Rattle.lists.specs.Tests.{decide, by-cases}
-use Rattle.geometry.specs.Stored.{coordOf, pointOf, stored, slotsOf, inRange}
-use Rattle.geometry.proofs.StoredLaws.{length-point, coord-magnitude, in-range, slots-back}
-use Rattle.pagestore.specs.Fits.{RecordFits}
+use Rattle.lists.specs.Tests.{decide}
+use Rattle.geometry.specs.Stored.{pointOf, stored, slotsOf, inRange}
+use Rattle.geometry.proofs.StoredLaws.{length-point, in-range, slots-back, slots-own, slots-point, point-ranges}
+use Rattle.pagestore_page.specs.Fits.{RecordFits}
 use Rattle.pagestore.specs.Store.{viewOf}
 use Rattle.tree_model.specs.Sound.{RecordOk, SoundIndex}
-use Rattle.tree.specs.Deletion.{deleteFrom}
-use Rattle.tree.specs.Lookup.{findIn}
+use Rattle.tree_core.specs.Deletion.{deleteFrom}
+use Rattle.tree_core.specs.Lookup.{findIn}
 use Rattle.tree_laws.specs.LookupPromises.{find-ident}
 use Rattle.tree_laws.specs.KeyedPromises.{Twin, holds-found, found-holds, found-all, found-fits, delete-twin}
 use Rattle.index_refusals.specs.Refusals.{First, recordOf, liveTimes, alreadyLive, notLive, insertRules, deleteRules}
 use Rattle.index_refusals.specs.RefusalLaws.{rebalancing-takes-none, first-one, all-hold, none-fails, put-in}
-use Rattle.index_query.specs.PointLaws.{slots-own}
 use Rattle.index_refusals.specs.Trusted.{pairRules, roomRules}
 use Rattle.index_refusals.specs.TrustedLaws.{level-low, suits, not-found, insert-same}
 use Rattle.index_vouched.specs.Vouched.{vouchedInsert, vouchedDelete, LiveAt}
-
--- ---- A POINT AND ITS SLOTS
-
-slot-back : (x : ℕ) → stored (coordOf x) ≡ x
-slot-back x =
-    by-cases (ltb x 1000)
-    (λ e. let h = ltb-true x 1000 e in rw e (omega arith))
-    (λ e. let h = ltb-false x 1000 e in rw e (omega arith))
-
-slots-point : (xs : List ℕ) → map stored (pointOf xs) ≡ xs
-unfolding pointOf
-slots-point [] = refl
-slots-point (x ∷ xs) = λ i. slot-back x i ∷ slots-point xs i
-
-point-ranges : {xs : List ℕ} → All (λ c. c ≤ 2000) xs → inRange (pointOf xs) ≡ true
-unfolding pointOf inRange
-point-ranges none = refl
-point-ranges (also {x = x} h t) = rw (le-leb (natAbs (coordOf x)) 1000 (omega (arith, coord-magnitude x))) (point-ranges t)
 
 -- ---- ON A SOUND INDEX
 

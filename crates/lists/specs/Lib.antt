@@ -20,3 +20,4 @@ pub mod AscendingLaws
 pub mod Leading
 pub mod Lengths
 pub mod Equal
+pub mod Judges

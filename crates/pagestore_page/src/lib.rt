@@ -1,6 +1,7 @@
 // One page in bytes: keys, entries and records, leaf, inner and freed pages. docs/LAYOUT.md has the table of offsets. Each function is handed a
 // page's part of the index, 1,024 bytes; which part that is, is the affair of `pagestore`.
 use geometry::Key;
+use geometry::MAX_FEATURES;
 
 mod inners;
 mod items;
@@ -18,8 +19,6 @@ pub const MAX_POINTS: u32 = 65535;
 pub const MAX_ITEMS: usize = 16;
 // The items that a page other than the root has at least.
 pub const MIN_ITEMS: usize = 8;
-// The coordinates of a point at most.
-pub const MAX_FEATURES: usize = 16;
 
 // Leaves.
 pub use leaves::empty_leaf;

@@ -14,11 +14,11 @@ use Rattle.lists.specs.ConcatMapLaws.{all-every}
 use Rattle.lists.specs.Sorting.{filter, insertBy, sort, insertAll, offerAll}
 use Rattle.lists.specs.Sorting as sorting
 use Rattle.lists.specs.SortingLaws.{filter-all, length-sort}
-use Rattle.pagestore.specs.declared.Entry.{Entry}
+use Rattle.pagestore_page.specs.declared.Entry.{Entry}
 use Rattle.pagestore.specs.Store.{level, root, pagesIn, countAt, innerAt, entriesIn, leafAt, recordsIn, fieldAt}
 use Rattle.pagestore.specs.Store.PageLaws.{inner-counts, entries-slots}
 use Rattle.pagestore.specs.Store.RangeLaws.{pages-few}
-use Rattle.tree.specs.Lookup.{leafCount}
+use Rattle.tree_core.specs.Lookup.{leafCount}
 use Rattle.search_heap.specs.Heap.{Heap, held, Popped}
 use Rattle.search_heap.proofs.HeapLaws.{held-top}
 use Rattle.search_theory.specs.Nearest.{Outcome, exceeds, offered}

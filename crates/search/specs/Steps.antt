@@ -12,10 +12,11 @@ use Rattle.search.specs.declared.Query.{Query}
 use Rattle.search.specs.declared.Seen.{Seen}
 use Rattle.search_frontier.specs.Keys.{boundIn, levelIn, numberIn}
 use Rattle.search_frontier.specs.Opening.{Tabled}
-use Rattle.search_model.specs.Numbers.{maxFeatures, maxLevel}
+use Rattle.search_model.specs.Numbers.{maxLevel}
 use Rattle.search_model.specs.Asked.{Seekable, Asked, Askable, asking}
 use Rattle.search_model.specs.Visit.{largeRoom, Answer, answerOf, room, visited, readsNone, found}
 use Rattle.search_model.specs.Questions.{answerDue, unreadPages, AgreeBut}
+use Rattle.geometry.specs.Numbers.{maxFeatures}
 
 -- what a visit is lent: room for branches and for k rows
 pub record Visits (index asked near whole : List ℕ) (k : ℕ) (slots distances marks : List ℕ) : Type 0 where

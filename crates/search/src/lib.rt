@@ -7,7 +7,7 @@ ghost use Rattle.search.specs.Steps.{asks, Seeks, Looks, Searches, Searc
 ghost use Rattle.search_model.specs.Asked.{asking};
 use crate::visit::best_first;
 use crate::visit::reads_none;
-use geometry::bounds::prepare;
+use geometry_bounds::bounds::prepare;
 use pagestore::total_records;
 use search_model::FEATURE_PLACES;
 use search_model::FEW_RECORDS;
@@ -24,7 +24,7 @@ const NEAR_PLACES: usize = 288;
 
 const WHOLE_PLACES: usize = 32;
 
-// What is asked: the features, laid out in one list as `geometry::bounds::ask` does it, their number, and how many rows.
+// What is asked: the features, laid out in one list as `geometry_slices::asked::ask` does it, their number, and how many rows.
 pub struct Query {
     pub features: [u16; FEATURE_PLACES],
     pub d: usize,

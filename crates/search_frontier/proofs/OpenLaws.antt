@@ -11,15 +11,15 @@ use Rattle.geometry.specs.declared.Key.{Key}
 use Rattle.geometry.specs.declared.Pair.{Pair}
 use Rattle.geometry.specs.Features.{plain}
 use Rattle.geometry.specs.Slices.{boundOf}
-use Rattle.geometry.specs.Questions.{askedOf}
+use Rattle.geometry_slices.specs.Questions.{askedOf}
 use Rattle.geometry.specs.Stored.{pointOf}
 use Rattle.geometry.proofs.StoredLaws.{length-point}
 use Rattle.geometry.proofs.SliceLaws.{plain-length, plain-asks}
 use Rattle.geometry.proofs.BoundLaws.{bound-small}
-use Rattle.pagestore.specs.declared.Entry.{Entry}
-use Rattle.pagestore.specs.declared.Inner.{Inner}
+use Rattle.pagestore_page.specs.declared.Entry.{Entry}
+use Rattle.pagestore_page.specs.declared.Inner.{Inner}
 use Rattle.pagestore.specs.Store.{innerAt, entriesIn}
-use Rattle.tree.specs.Lookup.{leafCount}
+use Rattle.tree_core.specs.Lookup.{leafCount}
 use Rattle.search_heap.specs.Heap.{Heap, held, Pushed}
 use Rattle.search_model.specs.Asked.{spanBound, asking}
 use Rattle.search_model.specs.Branches.{Branch, lastPlace, before, pageIn, branchOf, branches}

@@ -4,8 +4,8 @@ use mathlib.Core.List.{List}
 use Prim.Native.Nat.{ℕ, _+_, _≤_, _<_}
 use lib.ListN.{length}
 use Rattle.lists.specs.Sorting.{insertAll}
-use Rattle.geometry.specs.Questions.{Ready}
-use Rattle.pagestore.specs.declared.Entry.{Entry}
+use Rattle.geometry_bounds.specs.Bounds.{Ready}
+use Rattle.pagestore_page.specs.declared.Entry.{Entry}
 use Rattle.pagestore.specs.Store.{innerAt, entriesIn}
 use Rattle.search_heap.specs.Heap.{Heap}
 use Rattle.search_model.specs.Asked.{Seekable, Asked, spanBound, asking}

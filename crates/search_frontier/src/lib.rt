@@ -7,7 +7,7 @@ ghost use Rattle.search_frontier.specs.Keys.{boundIn, placeIn, levelIn, 
 ghost use Rattle.search_frontier.specs.Opening.{Tabled, SpanBound, EntryKey, Opens, OpenedAny};
 use geometry::Key;
 use geometry::Pair;
-use geometry::bounds::bound;
+use geometry_bounds::bounds::bound;
 use pagestore::Entry;
 use pagestore::count_at;
 use pagestore::entry_at;

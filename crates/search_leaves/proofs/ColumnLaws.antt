@@ -19,7 +19,8 @@ use Rattle.lists.specs.Tests.{decide, by-cases}
 use Rattle.geometry.specs.Points.{distance}
 use Rattle.geometry.specs.Stored.{pointOf}
 use Rattle.geometry.proofs.LoopLaws.{dist-more, dist-end}
-use Rattle.pagestore.specs.LayoutLaws.{noRecord, leaf-fits, leaf-slots}
+use Rattle.pagestore_page.specs.LayoutLaws.{leaf-fits, leaf-slots}
+use Rattle.pagestore_page.specs.Layout.{noRecord}
 use Rattle.search_model.specs.Asked.{AskedPoint}
 use Rattle.search_leaves.specs.Columns.{coordsAt, costFrom, gapSquare, mostCost, Sized, Sums, costSpan, quartersLeft, Quarters, notPast, BehindPast}
 

@@ -17,10 +17,10 @@ use Rattle.geometry.specs.Features.{plain}
 use Rattle.geometry.specs.Stored.{pointOf}
 use Rattle.geometry.proofs.SliceLaws.{plain-distance, plain-length}
 use Rattle.geometry.proofs.StoredLaws.{length-point, point-take}
-use Rattle.pagestore.specs.declared.Record.{Record}
-use Rattle.pagestore.specs.declared.Leaf.{Leaf}
-use Rattle.pagestore.specs.Layout.{leafOf}
-use Rattle.pagestore.specs.LayoutLaws.{noRecord, leaf-slots}
+use Rattle.pagestore_page.specs.declared.Record.{Record}
+use Rattle.pagestore_page.specs.declared.Leaf.{Leaf}
+use Rattle.pagestore_page.specs.Layout.{leafOf, noRecord}
+use Rattle.pagestore_page.specs.LayoutLaws.{leaf-slots}
 use Rattle.pagestore.specs.Store.{inRange, leafAt, recordsIn}
 use Rattle.pagestore.specs.Store.PageLaws.{leaf-part, leaf-view, page-none}
 use Rattle.tree_model.specs.Trees.{pointIn}

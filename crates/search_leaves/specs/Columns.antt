@@ -8,10 +8,10 @@ use lib.ListN.{length, getD, drop}
 use Rattle.lists.specs.Basics.{All}
 use Rattle.geometry.specs.Points.{distance}
 use Rattle.geometry.specs.Stored.{pointOf}
-use Rattle.pagestore.specs.declared.Record.{Record}
-use Rattle.pagestore.specs.Layout.{leafOf}
-use Rattle.pagestore.specs.LayoutLaws.{noRecord}
-use Rattle.search_model.specs.Numbers.{pageSize, maxItems, maxFeatures}
+use Rattle.geometry.specs.Numbers.{maxFeatures}
+use Rattle.pagestore_page.specs.declared.Record.{Record}
+use Rattle.pagestore_page.specs.Layout.{leafOf, noRecord}
+use Rattle.search_model.specs.Numbers.{pageSize, maxItems}
 use Rattle.search_rows.specs.declared.Row.{Row}
 use Rattle.search_rows.specs.Held.{behindAll}
 

@@ -4,7 +4,7 @@ use mathlib.Core.Bool.{Bool}
 use mathlib.Core.List.{List, [], _∷_}
 use Prim.Native.Nat.{ℕ}
 use Rattle.lists.specs.Sorting as sorting
-use Rattle.pagestore.specs.Layout.{leafOf}
+use Rattle.pagestore_page.specs.Layout.{leafOf}
 use Rattle.pagestore.specs.Store.{leafAt, recordsIn}
 use Rattle.search_rows.specs.declared.Row.{Row}
 use Rattle.search_rows.specs.Rows.{rowOrder}

@@ -12,11 +12,12 @@ use Rattle.lists.specs.Sorting.{filter}
 use Rattle.lists.specs.SortingLaws.{filter-all}
 use Rattle.geometry.specs.Points.{InRange}
 use Rattle.geometry.specs.Features.{Feature, plain}
-use Rattle.geometry.specs.Questions.{featuresOf, sizeOf, partFrom, askedOf, Packed, Preparable}
+use Rattle.geometry_slices.specs.Questions.{featuresOf, sizeOf, partFrom, askedOf, Packed}
+use Rattle.geometry_bounds.specs.Bounds.{Preparable}
 use Rattle.geometry.specs.Stored.{coordOf, pointOf}
 use Rattle.geometry.proofs.StoredLaws.{coord-magnitude, length-point}
 use Rattle.geometry.proofs.SliceLaws.{plain-ordered, plain-length, plain-asks}
-use Rattle.pagestore.specs.declared.Record.{Record}
+use Rattle.pagestore_page.specs.declared.Record.{Record}
 use Rattle.search_model.specs.Asked.{Asked, plainly, candidate, Askable}
 use Rattle.search_model.specs.Asked.{lowEnds, Seekable}
 use Rattle.search_model.proofs.RecordLaws.{in-range}

@@ -11,13 +11,13 @@ use Rattle.lists.specs.Basics.{All, none, also, concatMap}
 use Rattle.lists.specs.Tests.{three, false-true}
 use Rattle.lists.specs.Sorting.{Order, sort, insertBy}
 use Rattle.lists.specs.Orders.{lower, higher, by-lower, by-equal, by-higher, by-weak, by-same, byHigher-weak, byHigher-same, lower-weak, lower-same, lex-last, weak-order}
+use Rattle.geometry.specs.Numbers.{maxFeatures}
 use Rattle.search_theory.specs.Nearest.{Outcome, reading, exceeds, offered, visit, bestFirst}
 use Rattle.search_theory.specs.Frontier.{leavesUnder, Descends, seek}
 use Rattle.search_theory.specs.FrontierLaws.{seek-end, seek-read, seek-root}
 use Rattle.search_theory.specs.VisitLaws.{visit-read}
 use Rattle.search_rows.specs.declared.Row.{Row}
 use Rattle.tree_model.specs.Trees.{Item, leaves}
-use Rattle.search_model.specs.Numbers.{maxFeatures}
 use Rattle.search_model.specs.Asked.{Asked, Askable}
 use Rattle.search_model.specs.Branches.{Branch, boundOf, placeOf, levelOf, pageOf, higherFirst, lastPlace, tied, before, isLeaf, kids, rowsAt}
 use Rattle.search_model.specs.Visit.{ranking, answerOf, placed}

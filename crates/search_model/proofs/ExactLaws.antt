@@ -18,7 +18,7 @@ use Rattle.search_theory.specs.Promises as flatly
 use Rattle.search_rows.specs.declared.Row.{Row}
 use Rattle.search_theory.specs.Marks.{Strict}
 use Rattle.search_rows.specs.RowLaws.{row-order, ofId, past, Distinct, candidates-strict}
-use Rattle.pagestore.specs.declared.Record.{Record}
+use Rattle.pagestore_page.specs.declared.Record.{Record}
 use Rattle.pagestore.specs.Store.{level, total, View, viewOf, fieldAt}
 use Rattle.tree_model.specs.Trees.{Item, leaves, treeOf, leavesOf, identOf, live}
 use Rattle.tree_model.specs.Sound.{SoundIndex}

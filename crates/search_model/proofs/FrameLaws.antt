@@ -12,12 +12,12 @@ use Rattle.lists.specs.Basics.{All, none, also, all-map, all-left, all-right, c
 use Rattle.lists.specs.Sorting.{sum}
 use Rattle.lists.specs.ConcatMapLaws.{all-concatMap, map-append, all-both, concatMap-some}
 use Rattle.lists.specs.Ascending.{Ascending, asc-left, asc-right}
+use Rattle.geometry.specs.Numbers.{maxFeatures}
 use Rattle.search_theory.specs.Frontier.{leavesUnder}
-use Rattle.pagestore.specs.declared.Record.{Record}
+use Rattle.pagestore_page.specs.declared.Record.{Record}
 use Rattle.pagestore.specs.Store.{inRange, innerAt, entriesIn}
 use Rattle.tree_model.specs.Trees.{Item, noRecord, rankOf, firstKey, lastKey, records, leaves, entryOf}
-use Rattle.tree.specs.Lookup.{leafCount}
-use Rattle.search_model.specs.Numbers.{maxFeatures}
+use Rattle.tree_core.specs.Lookup.{leafCount}
 use Rattle.search_model.specs.Asked.{Asked, spanBound, Askable}
 use Rattle.search_model.specs.Branches.{Branch, lastPlace, isLeaf, pageIn, branches, opened, kids}
 use Rattle.search_model.specs.Questions.{leafBound, leafBranch}

@@ -21,11 +21,11 @@ use Rattle.geometry.proofs.StoredLaws.{coord-magnitude, length-point}
 use Rattle.geometry.proofs.SliceLaws.{plain-length}
 use Rattle.geometry.proofs.SpanLaws.{pair-real}
 use Rattle.geometry.proofs.BoundLaws.{bound-below, bound-within}
-use Rattle.pagestore.specs.declared.Record.{Record}
-use Rattle.pagestore.specs.Fits.{RecordFits}
+use Rattle.geometry.specs.Numbers.{maxFeatures}
+use Rattle.pagestore_page.specs.declared.Record.{Record}
+use Rattle.pagestore_page.specs.Fits.{RecordFits}
 use Rattle.tree_model.specs.Trees.{pointIn, keyOf, rankOf, noRecord, firstKey, lastKey}
 use Rattle.tree_model.specs.Sound.{RecordOk}
-use Rattle.search_model.specs.Numbers.{maxFeatures}
 use Rattle.search_model.specs.Asked.{Asked, distanceTo, spanBound, Askable}
 
 module _ {A : Type 0} (f : A → ℕ) where

@@ -22,7 +22,7 @@ use Rattle.geometry.proofs.BoundLaws.{bound-exact}
 use Rattle.search_theory.specs.Nearest.{candidates, nearest, inSet}
 use Rattle.search_rows.specs.declared.Row.{Row}
 use Rattle.search_rows.specs.Rows.{rowOrder}
-use Rattle.pagestore.specs.declared.Record.{Record}
+use Rattle.pagestore_page.specs.declared.Record.{Record}
 use Rattle.pagestore.specs.Store.{View, viewOf}
 use Rattle.tree_model.specs.Trees.{Item, noRecord, firstKey, lastKey, rankOf, keyOf, treeOf, live, leavesOf}
 use Rattle.tree_model.specs.Sound.{SoundIndex}

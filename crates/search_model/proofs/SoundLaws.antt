@@ -15,8 +15,8 @@ use Rattle.lists.specs.Counts.{mult, mult-append, all-of-mult, pigeons}
 use Rattle.lists.specs.Tests.{by-cases}
 use Rattle.lists.specs.Lengths.{length-none}
 use Rattle.lists.specs.Choices.{indicator-true, indicator-le}
-use Rattle.pagestore.specs.declared.Record.{Record}
-use Rattle.pagestore.specs.Fits.{RecordFits}
+use Rattle.pagestore_page.specs.declared.Record.{Record}
+use Rattle.pagestore_page.specs.Fits.{RecordFits}
 use Rattle.pagestore.specs.Store.{level, root, total, View, viewOf, inRange, pagesIn, leafAt, recordsIn}
 use Rattle.pagestore.specs.Store.PageLaws.{leaf-view, inner-view, records-fit}
 use Rattle.pagestore.specs.Store.RangeLaws.{range-high}

@@ -16,8 +16,8 @@ use Rattle.lists.specs.Counts.{mult, mult-self, mult-more, mult-append, all-of-
 use Rattle.search_theory.specs.Nearest.{inSet}
 use Rattle.search_theory.specs.Promises as flatly
 use Rattle.search_rows.specs.RowLaws.{row-order}
-use Rattle.pagestore.specs.declared.Record.{Record}
-use Rattle.pagestore.specs.declared.Leaf.{Leaf}
+use Rattle.pagestore_page.specs.declared.Record.{Record}
+use Rattle.pagestore_page.specs.declared.Leaf.{Leaf}
 use Rattle.pagestore.specs.Store.{Field, level, total, root, viewOf, inRange, recordsIn, entriesIn, fieldAt}
 use Rattle.pagestore.specs.Store.PageLaws.{SamePage, bytes-page, bytes-field}
 use Rattle.pagestore.specs.Store.RangeLaws.{pages-same, range-same}

@@ -16,7 +16,7 @@ use Rattle.lists.specs.ConcatMapLaws.{all-mapped}
 use Rattle.search_theory.specs.Nearest.{Floor, bestFirst}
 use Rattle.search_theory.specs.Frontier.{seek}
 use Rattle.search_rows.specs.declared.Row.{Row}
-use Rattle.pagestore.specs.declared.Record.{Record}
+use Rattle.pagestore_page.specs.declared.Record.{Record}
 use Rattle.pagestore.specs.Store.{level, total, root, View, viewOf, pagesIn, leafAt, recordsIn, fieldAt}
 use Rattle.tree_model.specs.Trees.{Item, leaves, pages, treeOf, leavesOf}
 use Rattle.tree_model.specs.Sound.{SoundIndex}

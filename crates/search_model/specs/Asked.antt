@@ -10,11 +10,11 @@ use lib.IntN.{ℤ}
 use Rattle.geometry.specs.declared.Key.{Key}
 use Rattle.geometry.specs.Features.{Feature, distTo, plain, Ordered}
 use Rattle.geometry.specs.Slices.{boundOf}
-use Rattle.geometry.specs.Questions.{sizeOf, askedOf, Packed}
+use Rattle.geometry_slices.specs.Questions.{sizeOf, askedOf, Packed}
 use Rattle.geometry.specs.Stored.{pointOf}
-use Rattle.pagestore.specs.declared.Record.{Record}
+use Rattle.geometry.specs.Numbers.{maxFeatures}
+use Rattle.pagestore_page.specs.declared.Record.{Record}
 use Rattle.tree_model.specs.Trees.{pointIn}
-use Rattle.search_model.specs.Numbers.{maxFeatures}
 
 -- the features asked for, one for each coordinate, and how many rows
 pub record Asked : Type 0 where

@@ -7,10 +7,10 @@ use lib.Dec.{eqb}
 use Rattle.lists.specs.Basics.{if}
 use Rattle.lists.specs.Orders.{by, byHigher, lower}
 use Rattle.lists.specs.Sorting.{filter}
-use Rattle.pagestore.specs.declared.Record.{Record}
-use Rattle.pagestore.specs.declared.Entry.{Entry}
+use Rattle.pagestore_page.specs.declared.Record.{Record}
+use Rattle.pagestore_page.specs.declared.Entry.{Entry}
 use Rattle.pagestore.specs.Store.{root, level, inRange, leafAt, innerAt, recordsIn, entriesIn, fieldAt}
-use Rattle.tree.specs.Lookup.{leafCount}
+use Rattle.tree_core.specs.Lookup.{leafCount}
 use Rattle.search_rows.specs.declared.Row.{Row}
 use Rattle.search_model.specs.Asked.{Asked, distanceTo, candidate, spanBound}
 

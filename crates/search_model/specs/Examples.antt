@@ -5,7 +5,7 @@ use Prim.Native.Nat.{ℕ}
 use lib.IntN.{pos}
 use Rattle.lists.specs.Basics.{rangeFrom}
 use Rattle.geometry.specs.Stored.{slotsOf}
-use Rattle.pagestore.specs.declared.Record.{Record}
+use Rattle.pagestore_page.specs.declared.Record.{Record}
 use Rattle.pagestore.specs.Store.{View, viewOf}
 use Rattle.tree_model.specs.Trees.{leavesOf}
 use Rattle.tree_model.specs.Sound.{SoundIndex}

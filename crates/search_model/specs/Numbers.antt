@@ -13,10 +13,6 @@ maxItems = 16
 abbrev pub maxPages : ℕ
 maxPages = 16384
 
--- the most features of a question
-abbrev pub maxFeatures : ℕ
-maxFeatures = 16
-
 -- the highest level of a root
 abbrev pub maxLevel : ℕ
 maxLevel = 4

@@ -13,7 +13,7 @@ use Rattle.lists.specs.Sorting.{filter, count, sort}
 use Rattle.geometry.specs.Features.{Feature, distTo, InSpan}
 use Rattle.search_theory.specs.Nearest.{nearest, lastCost, inSet}
 use Rattle.search_rows.specs.declared.Row.{Row}
-use Rattle.pagestore.specs.declared.Record.{Record}
+use Rattle.pagestore_page.specs.declared.Record.{Record}
 use Rattle.pagestore.specs.Store.{View}
 use Rattle.tree_model.specs.Trees.{Item, firstKey, lastKey, live, leavesOf}
 use Rattle.search_model.specs.Numbers.{pageSize}

@@ -1,5 +1,6 @@
 // What is asked of an index, the visit that answers it, and what is promised of its answer. All of it is in specs/ and proofs/; this
 // file holds no function, only the numbers of which they speak.
+use geometry::MAX_FEATURES;
 
 // The bytes of a page, and how many records or entries it holds.
 pub const PAGE_SIZE: usize = 1024;
@@ -7,8 +8,6 @@ pub const PAGE_SIZE: usize = 1024;
 pub const MAX_ITEMS: usize = 16;
 
 // How many features a question has. As one list it has so many places for each of its four parts; the last part begins here.
-pub const MAX_FEATURES: usize = 16;
-
 pub const FEATURE_PLACES: usize = 4 * MAX_FEATURES;
 
 pub const REACHES_FROM: usize = 3 * MAX_FEATURES;

@@ -5,7 +5,7 @@ use Prim.Native.Nat.{ℕ, zero, suc, _+_, _*_, _≤_, _<_}
 use native.Mathlib.Omega.{arith}
 use lib.ListN.{length, getD, replicate, length-replicate}
 use Rattle.lists.specs.Members.{spot-below}
-use Rattle.pagestore.specs.declared.Entry.{Entry}
+use Rattle.pagestore_page.specs.declared.Entry.{Entry}
 use Rattle.pagestore.specs.Store.{levelOf, View, viewOf}
 use Rattle.tree_model.specs.Trees.{live}
 use Rattle.sound_faults.specs.Faults.{IsPage, RootFill, Rooted, Reached, EntryAt, NoFault, EntryFault, FailsAt}

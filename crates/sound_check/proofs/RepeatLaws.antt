@@ -20,7 +20,7 @@ use Rattle.sound_faults.specs.Assembled.{reached-page, live-idents}
 use Rattle.sound_faults.specs.Repeated.{repeated-fails}
 use Rattle.sound_chains.specs.Repeats.{lowestRepeat, Repeated}
 use Rattle.sound_chains.proofs.RepeatsLaws.{lowest-repeat}
-use Rattle.sound_faults.specs.Judges.{Found, nowhere, at}
+use Rattle.lists.specs.Judges.{Found, nowhere, at}
 use Rattle.sound_links.specs.Marks.{markedTo}
 use Rattle.sound_visit.specs.Collect.{identOn, holderOf, pairsTo, Collected}
 use Rattle.sound_check.specs.Outcome.{Counted}

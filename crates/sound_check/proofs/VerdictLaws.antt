@@ -15,7 +15,7 @@ use Rattle.tree_model.specs.Sound.{Permitted, SoundIndex}
 use Rattle.sound_faults.specs.Faults.{FailsAt}
 use Rattle.sound_faults.specs.Stored.{view-stored}
 use Rattle.sound_faults.specs.Assembled.{linked-sound}
-use Rattle.sound_faults.specs.Judges.{Found, nowhere, at}
+use Rattle.lists.specs.Judges.{Found, nowhere, at}
 use Rattle.sound_check.specs.Outcome.{Counted, Verdict}
 
 counted-sound : (b m : List ℕ) → Counted (viewOf b) m → ((i : ℕ) → mult i (map identOf (live (viewOf b))) ≤ 1) → Permitted (length b) → SoundIndex b

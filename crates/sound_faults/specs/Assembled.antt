@@ -15,8 +15,8 @@ use Rattle.lists.specs.Sorting.{sum}
 use Rattle.lists.specs.ConcatMapLaws.{map-append}
 use Rattle.lists.specs.Weights.{sum-one, sum-only, sum-zero, sum-some, sum-members}
 use Rattle.lists.specs.Tests.{by-cases, decide}
-use Rattle.pagestore.specs.declared.Record.{Record}
-use Rattle.pagestore.specs.declared.Entry.{Entry}
+use Rattle.pagestore_page.specs.declared.Record.{Record}
+use Rattle.pagestore_page.specs.declared.Entry.{Entry}
 use Rattle.pagestore.specs.Store.{Page, leaf, inner, levelOf, fillOf, recordsOf, entriesOf, View}
 use Rattle.tree_model.specs.Trees.{Item, records, pages, rankOf, identOf, entryOf, node, Rep, treeAt, treeOf, live}
 use Rattle.tree_model.specs.TreeLaws.{fill-node}

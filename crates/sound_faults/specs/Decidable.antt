@@ -12,8 +12,8 @@ use Rattle.lists.specs.AscendingLaws.{ascends?}
 use Rattle.lists.specs.Counts.{mult, mult-self, mult-not, mult-more, all-of-mult, mult-of-all}
 use Rattle.lists.specs.Tests.{by-cases, decide}
 use Rattle.geometry.specs.declared.Key.{Key}
-use Rattle.pagestore.specs.declared.Record.{Record}
-use Rattle.pagestore.specs.declared.Entry.{Entry}
+use Rattle.pagestore_page.specs.declared.Record.{Record}
+use Rattle.pagestore_page.specs.declared.Entry.{Entry}
 use Rattle.pagestore.specs.Store.{Page, leaf, inner, levelOf, fillOf, recordsOf, entriesOf, View, viewOf}
 use Rattle.tree_model.specs.Trees.{Item, pages, rankOf, identOf, node, Rep, treeOf, live}
 use Rattle.tree_model.specs.Sound.{Permitted, isPage, freshPages, RootFilled, Filled, RecordOk, Sound, SoundIndex}

@@ -13,8 +13,8 @@ use Rattle.lists.specs.Counts.{mult}
 use Rattle.lists.specs.Members.{all-spot, spots-all}
 use Rattle.lists.specs.Tests.{by-cases, decide}
 use Rattle.geometry.specs.declared.Key.{Key}
-use Rattle.pagestore.specs.declared.Record.{Record}
-use Rattle.pagestore.specs.declared.Entry.{Entry}
+use Rattle.pagestore_page.specs.declared.Record.{Record}
+use Rattle.pagestore_page.specs.declared.Entry.{Entry}
 use Rattle.pagestore.specs.Store.{Page, leaf, inner, levelOf, fillOf, recordsOf, View, viewOf}
 use Rattle.tree_model.specs.Trees.{identOf, live, pages, treeOf}
 use Rattle.tree_model.specs.Sound.{Permitted, RecordOk, Sound, SoundIndex}

@@ -9,9 +9,10 @@ use Rattle.lists.specs.Counts.{mult}
 use Rattle.lists.specs.Members.{At}
 use Rattle.geometry.specs.declared.Key.{Key}
 use Rattle.geometry.specs.Keys.{keyNumber}
-use Rattle.pagestore.specs.declared.Record.{Record}
-use Rattle.pagestore.specs.declared.Entry.{Entry}
-use Rattle.pagestore.specs.LayoutLaws.{noEntry}
+use Rattle.geometry.specs.Numbers.{maxFeatures}
+use Rattle.pagestore_page.specs.declared.Record.{Record}
+use Rattle.pagestore_page.specs.declared.Entry.{Entry}
+use Rattle.pagestore_page.specs.Layout.{noEntry}
 use Rattle.pagestore.specs.Store.{Page, leaf, inner, levelOf, fillOf, recordsOf, entriesOf, View}
 use Rattle.tree_model.specs.Trees.{rankOf, firstKey, lastKey, live}
 use Rattle.tree_model.specs.Sound.{RecordOk}
@@ -26,12 +27,6 @@ minItems = 8
 
 abbrev pub maxItems : ℕ
 maxItems = 16
-
-abbrev pub maxFeatures : ℕ
-maxFeatures = 16
-
-abbrev pub maxCoordinate : ℕ
-maxCoordinate = 1000
 
 abbrev pub maxPoints : ℕ
 maxPoints = 65535

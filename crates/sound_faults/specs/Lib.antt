@@ -1,4 +1,3 @@
-pub mod Judges
 pub mod Prefixes
 pub mod Faults
 pub mod Stored

@@ -6,7 +6,7 @@ use Prim.Native.Nat.{ℕ, suc, _*_, _≤_, _<_}
 use Rattle.lists.specs.Basics.{All}
 use Rattle.lists.specs.Counts.{mult}
 use Rattle.lists.specs.Ascending.{Ascending}
-use Rattle.pagestore.specs.declared.Entry.{Entry}
+use Rattle.pagestore_page.specs.declared.Entry.{Entry}
 use Rattle.pagestore.specs.Store.{levelOf, recordsOf, View}
 use Rattle.tree_model.specs.Sound.{RecordOk}
 use Rattle.sound_faults.specs.Faults.{pageSize, IsPage, Features, Freed, RootFill, NodeFill, firstKeyIn, lastKeyIn, ranksIn, Reached, EntryAt}

@@ -16,8 +16,8 @@ use Rattle.lists.specs.ConcatMapLaws.{map-append}
 use Rattle.lists.specs.Weights.{sum-one, sum-two}
 use Rattle.lists.specs.Tests.{by-cases, decide}
 use Rattle.lists.specs.Choices.{indicator-le}
-use Rattle.pagestore.specs.declared.Record.{Record}
-use Rattle.pagestore.specs.declared.Entry.{Entry}
+use Rattle.pagestore_page.specs.declared.Record.{Record}
+use Rattle.pagestore_page.specs.declared.Entry.{Entry}
 use Rattle.pagestore.specs.Store.{Page, levelOf, fillOf, recordsOf, entriesOf, View}
 use Rattle.tree_model.specs.Trees.{Item, records, pages, rankOf, identOf, entryOf, node, Rep, treeOf, live}
 use Rattle.tree_model.specs.TreeLaws.{fill-node, rep-level}

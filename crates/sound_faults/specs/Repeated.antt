@@ -11,7 +11,7 @@ use Rattle.lists.specs.Members.{map-spot, mult-find, mult-find-two}
 use Rattle.lists.specs.Sorting.{sum}
 use Rattle.lists.specs.Weights.{sum-only, sum-other, sum-some, sum-zero}
 use Rattle.lists.specs.Tests.{by-cases, decide}
-use Rattle.pagestore.specs.declared.Record.{Record}
+use Rattle.pagestore_page.specs.declared.Record.{Record}
 use Rattle.pagestore.specs.Store.{recordsOf, View}
 use Rattle.tree_model.specs.Trees.{identOf}
 use Rattle.sound_faults.specs.Faults.{RecordAt, FailsAt}

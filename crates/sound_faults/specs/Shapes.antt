@@ -13,9 +13,9 @@ use Rattle.lists.specs.Counts.{mult, mult-append}
 use Rattle.lists.specs.Sorting.{sum}
 use Rattle.lists.specs.ConcatMapLaws.{sum-append, map-append}
 use Rattle.geometry.specs.Keys.{keyNumber}
-use Rattle.pagestore.specs.declared.Record.{Record}
-use Rattle.pagestore.specs.declared.Entry.{Entry}
-use Rattle.pagestore.specs.LayoutLaws.{noEntry}
+use Rattle.pagestore_page.specs.declared.Record.{Record}
+use Rattle.pagestore_page.specs.declared.Entry.{Entry}
+use Rattle.pagestore_page.specs.Layout.{noEntry}
 use Rattle.pagestore.specs.Store.{Page, recordsOf, entriesOf, View}
 use Rattle.tree_model.specs.Trees.{Item, records, pages, keyOf, rankOf, identOf, noRecord, firstKey, lastKey, entryOf, node, Rep, treeAt, treeOf}
 use Rattle.tree_model.specs.Sound.{Filled}

@@ -7,9 +7,9 @@ use native.Mathlib.Omega.{arith}
 use lib.ListN.{length, getD, take, drop, length-take, length-drop}
 use Rattle.lists.specs.Basics.{indicator}
 use Rattle.lists.specs.Members.{At}
-use Rattle.pagestore.specs.declared.Leaf.{Leaf}
-use Rattle.pagestore.specs.declared.Inner.{Inner}
-use Rattle.pagestore.specs.LayoutLaws.{noEntry}
+use Rattle.pagestore_page.specs.declared.Leaf.{Leaf}
+use Rattle.pagestore_page.specs.declared.Inner.{Inner}
+use Rattle.pagestore_page.specs.Layout.{noEntry}
 use Rattle.pagestore.specs.Store.{Page, leaf, inner, levelOf, fillOf, recordsOf, entriesOf, pageAt, levelAt, countAt, leafAt, innerAt, recordsIn, entriesIn, inRange, viewOf}
 use Rattle.pagestore.specs.Store.PageLaws.{leaf-page, inner-page, page-fill, page-level, leaf-counts, inner-counts, entries-slots}
 use Rattle.pagestore.specs.Store.RangeLaws.{range-low, range-high, range-is, range-whole}

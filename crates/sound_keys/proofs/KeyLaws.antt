@@ -12,12 +12,12 @@ use Rattle.geometry.specs.Points.{heightOf}
 use Rattle.geometry.specs.Stored.{pointOf}
 use Rattle.geometry.proofs.StoredLaws.{coord-magnitude}
 use Rattle.geometry.proofs.KeyLaws.{KeyFits}
-use Rattle.pagestore.specs.declared.Record.{Record}
-use Rattle.pagestore.specs.Fits.{RecordFits}
+use Rattle.pagestore_page.specs.declared.Record.{Record}
+use Rattle.pagestore_page.specs.Fits.{RecordFits}
 use Rattle.tree_model.specs.Trees.{pointIn, keyOf, rankOf}
 use Rattle.tree_model.specs.Sound.{RecordOk}
-use Rattle.sound_faults.specs.Judges.{Decides}
-use Rattle.sound_faults.specs.Judges.{judge-map}
+use Rattle.lists.specs.Judges.{Decides}
+use Rattle.lists.specs.Judges.{judge-map}
 
 -- the rank of a record by its key
 pub rank-is : (d : ℕ) (r : Record) (k : Key) (x : ℕ) → k ≡ keyOf d r → x ≡ keyNumber k → x ≡ rankOf d r

@@ -17,10 +17,10 @@ use Rattle.geometry.specs.Stored.{coordOf, pointOf}
 use Rattle.geometry.proofs.StoredLaws.{length-point}
 use Rattle.geometry.proofs.PairLaws.{axis-inside}
 use Rattle.geometry.proofs.LoopLaws.{topLead, lead-more, lead-end, top-is, top-height, top-axis, pyramid-is}
-use Rattle.pagestore.specs.declared.Leaf.{Leaf}
-use Rattle.pagestore.specs.declared.Record.{Record}
-use Rattle.pagestore.specs.Layout.{leafOf}
-use Rattle.pagestore.specs.LayoutLaws.{noRecord, leaf-fits, leaf-slots}
+use Rattle.pagestore_page.specs.declared.Leaf.{Leaf}
+use Rattle.pagestore_page.specs.declared.Record.{Record}
+use Rattle.pagestore_page.specs.Layout.{leafOf, noRecord}
+use Rattle.pagestore_page.specs.LayoutLaws.{leaf-fits, leaf-slots}
 use Rattle.tree_model.specs.Trees.{keyOf}
 use Rattle.sound_keys.specs.Leads.{leadOf, leadTo, Leads}
 

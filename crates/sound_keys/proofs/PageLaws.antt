@@ -5,8 +5,8 @@ use Prim.Native.Nat.{ℕ}
 use Rattle.lists.specs.Basics.{All, none, concatMap}
 use Rattle.lists.specs.Ascending.{Ascending}
 use Rattle.lists.specs.Members.{At}
-use Rattle.pagestore.specs.declared.Leaf.{Leaf}
-use Rattle.pagestore.specs.declared.Inner.{Inner}
+use Rattle.pagestore_page.specs.declared.Leaf.{Leaf}
+use Rattle.pagestore_page.specs.declared.Inner.{Inner}
 use Rattle.pagestore.specs.Store.{Page, leaf, recordsOf, entriesIn, recordsIn, viewOf, levelAt, leafAt, innerAt}
 use Rattle.tree_model.specs.Trees.{rankOf}
 use Rattle.tree_model.specs.Sound.{RecordOk}

@@ -12,7 +12,7 @@ use Rattle.lists.specs.Ascending.{Ascending, one, headOr, lastOr, last-append}
 use Rattle.lists.specs.AscendingLaws.{headNo, lastNo, asc-append, asc-cross}
 use Rattle.lists.specs.ConcatMapLaws.{map-append}
 use Rattle.lists.specs.Tests.{by-cases}
-use Rattle.sound_faults.specs.Judges.{Judges, pass, fault, judge-map}
+use Rattle.lists.specs.Judges.{Judges, pass, fault, judge-map}
 use Rattle.sound_faults.specs.Prefixes.{take-more, take-next}
 use Rattle.sound_keys.specs.Judged.{AscendingSpan, Spans}
 use Rattle.sound_keys.specs.declared.Span.{Span}

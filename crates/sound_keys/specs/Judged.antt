@@ -8,14 +8,14 @@ use Rattle.lists.specs.AscendingLaws.{headNo, lastNo}
 use Rattle.lists.specs.Ascending.{Ascending}
 use Rattle.lists.specs.Members.{At}
 use Rattle.lists.specs.Basics.{All, concatMap}
-use Rattle.pagestore.specs.declared.Record.{Record}
-use Rattle.pagestore.specs.declared.Entry.{Entry}
+use Rattle.pagestore_page.specs.declared.Record.{Record}
+use Rattle.pagestore_page.specs.declared.Entry.{Entry}
 use Rattle.pagestore.specs.Store.{View}
 use Rattle.tree_model.specs.Trees.{rankOf}
 use Rattle.tree_model.specs.Sound.{RecordOk}
 use Rattle.sound_faults.specs.Faults.{ends, ranksIn, FailsAt}
 use Rattle.sound_faults.specs.Linked.{PageFine}
-use Rattle.sound_faults.specs.Judges.{Judges}
+use Rattle.lists.specs.Judges.{Judges}
 use Rattle.sound_keys.specs.declared.Span.{Span}
 
 -- the records of a leaf, by themselves

@@ -5,8 +5,8 @@ use Prim.Native.Nat.{ℕ, zero, suc, _+_, _-_, _*_, _≤_, _<_, max}
 use lib.IntN.{natAbs}
 use lib.ListN.{length, getD}
 use Rattle.geometry.specs.Stored.{coordOf}
-use Rattle.pagestore.specs.declared.Leaf.{Leaf}
-use Rattle.pagestore.specs.LayoutLaws.{noRecord}
+use Rattle.pagestore_page.specs.declared.Leaf.{Leaf}
+use Rattle.pagestore_page.specs.Layout.{noRecord}
 
 -- the magnitude of coordinate m of cs, followed by how far m is below 15: of two of one magnitude the first leads
 unfoldable pub leadOf : ℕ → List ℕ → ℕ

@@ -6,24 +6,25 @@ ghost use lib.Dec.{eqb};
 ghost use lib.ListN.{length};
 ghost use Rattle.lists.specs.Basics.{if};
 ghost use Rattle.geometry.specs.Keys.{keyNumber};
-ghost use Rattle.pagestore.specs.Layout.{leafOf};
+ghost use Rattle.pagestore_page.specs.Layout.{leafOf};
 ghost use Rattle.pagestore.specs.Store.{recordsIn, entriesIn, fillOf, pageAt, leafAt, innerAt, inRange, viewOf};
-ghost use Rattle.sound_faults.specs.Faults.{pageSize, maxItems, maxFeatures, maxCoordinate, Reached};
-ghost use Rattle.sound_faults.specs.Judges.{Decides};
+ghost use Rattle.sound_faults.specs.Faults.{pageSize, maxItems, Reached};
+ghost use Rattle.lists.specs.Judges.{Decides};
+ghost use Rattle.geometry.specs.Numbers.{maxFeatures, maxCoordinate};
 ghost use Rattle.sound_keys.specs.Judged.{LeafJudged, InnerJudged, PageJudged};
 ghost use Rattle.sound_keys.specs.Leads.{Leads};
-use crate::MAX_COORDINATE;
-use crate::MAX_ITEMS;
-use crate::PAGE_SIZE;
 use crate::Span;
 use crate::leads::lead_columns;
 use crate::leads::lead_key;
 use geometry::Key;
+use geometry::MAX_COORDINATE;
 use geometry::keys::key_number;
 use pagestore::count_at;
 use pagestore::entry_at;
 use pagestore::lanes;
 use pagestore::level_at;
+use pagestore_page::MAX_ITEMS;
+use pagestore_page::PAGE_SIZE;
 
 // A key as a number; there is room for one more.
 pub fn rank(k: Key) -> u64

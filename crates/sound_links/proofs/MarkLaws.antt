@@ -7,7 +7,7 @@ use lib.ListN.{length, getD, set, length-set}
 use lib.Seq.{getD-set-same, getD-set-other}
 use Rattle.lists.specs.Members.{At, here, next, spot-below}
 use Rattle.lists.specs.Tests.{by-cases, decide}
-use Rattle.pagestore.specs.declared.Entry.{Entry}
+use Rattle.pagestore_page.specs.declared.Entry.{Entry}
 use Rattle.pagestore.specs.Store.{Page, leaf, inner, levelOf, fillOf, entriesOf, View}
 use lib.Dec.{ltb}
 use borrow.Author.Tests.{ltb-true, ltb-false}

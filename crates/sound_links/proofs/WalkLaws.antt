@@ -9,7 +9,7 @@ use Rattle.lists.specs.Counts.{mult, mult-append, mult-self, mult-not, mult-non
 use Rattle.lists.specs.Tests.{by-cases, decide}
 use Rattle.pagestore.specs.Store.{View, viewOf, pagesIn, inRange, chain, chainEnd, linkAt, fieldAt, freed, freedAt, restAt}
 use Rattle.pagestore.specs.Store.RangeLaws.{range-low, range-high, range-is, range-zero}
-use Rattle.pagestore.specs.Store.FreeLaws.{chain-out, chain-in, end-out, end-in, end-none}
+use Rattle.pagestore.specs.Store.ChainLaws.{chain-out, chain-in, end-out, end-in, end-none}
 use Rattle.sound_faults.specs.Faults.{IsPage, FailsAt}
 use Rattle.sound_links.specs.Marks.{Marked, Clear, FreedOk, Walked}
 use Rattle.sound_links.proofs.MarkLaws.{set-here, set-keep, set-old}

@@ -7,7 +7,7 @@ use lib.ListN.{length, getD}
 use Rattle.lists.specs.Basics.{if}
 use Rattle.lists.specs.Counts.{mult}
 use Rattle.lists.specs.Members.{At}
-use Rattle.pagestore.specs.declared.Entry.{Entry}
+use Rattle.pagestore_page.specs.declared.Entry.{Entry}
 use Rattle.pagestore.specs.Store.{levelOf, entriesOf, View, viewOf, chain, chainEnd}
 use Rattle.sound_faults.specs.Faults.{IsPage, NodeFill, Freed, Reached}
 use Rattle.sound_faults.specs.Linked.{FreedFine}

@@ -4,8 +4,9 @@ ghost use Prim.Native.Nat.{suc, _≤_};
 ghost use Rattle.pagestore.specs.Store.{viewOf, pageAt};
 ghost use Rattle.sound_faults.specs.Faults.{RootFill, FailsAt};
 ghost use Rattle.sound_faults.specs.Linked.{HeaderFine};
-ghost use Rattle.sound_faults.specs.Judges.{Decides, Judges};
+ghost use Rattle.lists.specs.Judges.{Decides, Judges};
 ghost use Rattle.sound_links.specs.Marks.{Clear, Follows, Ready, Grown, FreedOk};
+use geometry::MAX_FEATURES;
 use pagestore::count_at;
 use pagestore::entry_at;
 use pagestore::features_of;
@@ -18,10 +19,9 @@ use pagestore::link_at;
 use pagestore::page_count;
 use pagestore::root_level;
 use pagestore::root_page;
-use sound_keys::MAX_FEATURES;
-use sound_keys::MAX_ITEMS;
-use sound_keys::MIN_ITEMS;
-use sound_keys::PAGE_SIZE;
+use pagestore_page::MAX_ITEMS;
+use pagestore_page::MIN_ITEMS;
+use pagestore_page::PAGE_SIZE;
 use sound_keys::item_count;
 
 // The most features, and the records or entries of a page, as their bytes say them.

@@ -12,10 +12,10 @@ use Rattle.lists.specs.Tests.{decide}
 use Rattle.geometry.specs.declared.Key.{Key}
 use Rattle.geometry.specs.Keys.{keyNumber}
 use Rattle.geometry.proofs.KeyLaws.{KeyFits}
-use Rattle.pagestore.specs.Fits
-use Rattle.pagestore.specs.Fits.{EntryFits}
-use Rattle.pagestore.specs.declared.Entry.{Entry}
-use Rattle.pagestore.specs.LayoutLaws.{noEntry}
+use Rattle.pagestore_page.specs.Fits
+use Rattle.pagestore_page.specs.Fits.{EntryFits}
+use Rattle.pagestore_page.specs.declared.Entry.{Entry}
+use Rattle.pagestore_page.specs.Layout.{noEntry}
 use Rattle.pagestore.specs.Store.{Page, fillOf, recordsOf, entriesOf, viewOf}
 use Rattle.pagestore.specs.Store.PageLaws.{PageFits, leafFits, innerFits, page-fits}
 use Rattle.tree_model.specs.Trees.{firstKey, lastKey}

@@ -8,7 +8,7 @@ use lib.ListN.{length, getD, set, length-set}
 use borrow.Author.Tests.{leb-true, leb-false, ltb-true, ltb-false}
 use Rattle.lists.specs.Members.{At, spot-below}
 use Rattle.lists.specs.Tests.{by-cases, decide}
-use Rattle.pagestore.specs.declared.Entry.{Entry}
+use Rattle.pagestore_page.specs.declared.Entry.{Entry}
 use Rattle.pagestore.specs.Store.{Page, levelOf, fillOf, entriesOf, View, viewOf}
 use Rattle.sound_faults.specs.Faults.{NodeFill, Reached, EntryAt, EntryFault}
 use Rattle.sound_faults.specs.Linked.{EntryFine}

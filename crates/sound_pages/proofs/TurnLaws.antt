@@ -14,10 +14,10 @@ use Rattle.pagestore.specs.Store.{View, viewOf}
 use Rattle.sound_faults.specs.Faults.{IsPage, ranksIn, Reached, FailsAt}
 use Rattle.sound_faults.specs.Linked.{PageFine, InState}
 use Rattle.sound_faults.specs.Assembled.{reached-page}
-use Rattle.sound_faults.specs.Judges.{Judges}
+use Rattle.lists.specs.Judges.{Judges}
 use Rattle.sound_keys.specs.Judged.{PageJudged}
 use Rattle.sound_keys.specs.declared.Span.{Span}
-use Rattle.sound_faults.specs.Judges.{passes, faults}
+use Rattle.lists.specs.Judges.{passes, faults}
 use Rattle.sound_links.specs.Marks.{Marked, Seen, Clear, MarksAre, FreedMarks}
 use Rattle.sound_pages.specs.Pages.{Named, PagesFine, Lost}
 

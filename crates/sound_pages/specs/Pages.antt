@@ -7,11 +7,11 @@ use Prim.Native.Nat.{ℕ, _+_, _*_, _≤_, _<_}
 use lib.ListN.{length, getD}
 use Rattle.lists.specs.AscendingLaws.{headNo, lastNo}
 use Rattle.geometry.specs.Keys.{keyNumber}
-use Rattle.pagestore.specs.declared.Entry.{Entry}
+use Rattle.pagestore_page.specs.declared.Entry.{Entry}
 use Rattle.pagestore.specs.Store.{View}
 use Rattle.sound_faults.specs.Faults.{maxItems, IsPage, Freed, Fresh, ranksIn, Reached, EntryAt, EntryFault, FailsAt}
 use Rattle.sound_faults.specs.Linked.{EntryFine, PageFine, InState}
-use Rattle.sound_faults.specs.Judges.{Judges, Found}
+use Rattle.lists.specs.Judges.{Judges, Found}
 use Rattle.sound_links.specs.Marks.{Marked, Seen, MarksAre, FreedMarks}
 
 -- the followed pages below k are fine, each by itself, and their first and last keys are kept as numbers

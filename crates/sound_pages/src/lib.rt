@@ -5,7 +5,7 @@ ghost use lib.ListN.{length};
 ghost use Rattle.pagestore.specs.Store.{viewOf, levelAt};
 ghost use Rattle.sound_faults.specs.Faults.{maxItems, Reached, EntryFault};
 ghost use Rattle.sound_faults.specs.Linked.{EntryFine};
-ghost use Rattle.sound_faults.specs.Judges.{Decides, Judges};
+ghost use Rattle.lists.specs.Judges.{Decides, Judges};
 ghost use Rattle.sound_links.specs.Marks.{Clear, MarksAre, FreedMarks};
 ghost use Rattle.sound_pages.specs.Pages.{PagesFine, Known, HasEntry, EndsKept, Named};
 ghost use Rattle.sound_pages.specs.Pages.{PageKept, EntriesJudged, ParentsJudged, StateJudged, StatesJudged};

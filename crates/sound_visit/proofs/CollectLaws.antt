@@ -13,9 +13,9 @@ use Rattle.lists.specs.Members.{At, map-spot, spots-all}
 use Rattle.lists.specs.Sorting.{sum}
 use Rattle.lists.specs.Tests.{decide}
 use Rattle.lists.specs.Lengths.{length-none}
-use Rattle.pagestore.specs.declared.Record.{Record}
+use Rattle.pagestore_page.specs.declared.Record.{Record}
 use Rattle.pagestore.specs.Store.{leaf, recordsOf, recordsIn, View, viewOf, pageAt, levelAt, leafAt}
-use Rattle.pagestore.specs.declared.Leaf.{Leaf}
+use Rattle.pagestore_page.specs.declared.Leaf.{Leaf}
 use Rattle.pagestore.specs.Store.PageLaws.{records-slots}
 use Rattle.tree_model.specs.Trees.{identOf}
 use Rattle.sound_faults.specs.Shapes.{idents}

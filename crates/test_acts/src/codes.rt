@@ -1,10 +1,10 @@
 // The refusals of 01, through the acts: lengths, features, coordinates, identifiers, k, rows lent and a damaged byte.
-// An index of 16,777,216 bytes is larger than a program's stack: of the two greatest lengths `index::permitted` is asked, which every act
+// An index of 16,777,216 bytes is larger than a program's stack: of the two greatest lengths `index_refusals::permitted` is asked, which every act
 // asks first; the lengths 2,047 and 2,048 are lent. The index of 2,048 bytes goes from act to act by value.
 ghost use mathlib.Core.Path.{_≡_};
 ghost use lib.ListN.{length};
-use index::Criteria;
 use index_answer::Answer;
+use index_query::Criteria;
 use test_parts::MAX_ROWS;
 use test_parts::PAGE_SIZE;
 use test_parts::answers::show_answer;
@@ -18,7 +18,11 @@ const TOO_SHORT: usize = 2047;
 
 // 1 if a length is not permitted.
 fn refused_length(bytes: usize) -> u64 {
-    if index::permitted(bytes) { 0 } else { 1 }
+    if index_refusals::permitted(bytes) {
+        0
+    } else {
+        1
+    }
 }
 
 fn show_permitted() {

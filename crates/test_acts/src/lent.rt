@@ -1,11 +1,11 @@
 // The public question, in rows and with a tally that the program lends.
 ghost use Prim.Native.Nat.{_≤_};
-use index::Criteria;
+use geometry::MAX_COORDINATE;
 use index::Returned;
 use index::ask;
 use index_answer::Tally;
+use index_query::Criteria;
 use search_rows::Row;
-use test_parts::MAX_COORDINATE;
 use test_parts::MAX_ROWS;
 use test_parts::answers::show_answer;
 use test_parts::answers::show_position;

@@ -7,10 +7,10 @@ use crate::HEIGHTS;
 use crate::scan::FAR;
 use crate::scan::gap;
 use crate::scan::square;
+use geometry::MAX_COORDINATE;
 use pagestore::Leaf;
 use pagestore::Record;
 use pagestore::leaf_at;
-use test_parts::MAX_COORDINATE;
 use test_parts::listing::item_count;
 use test_parts::places::MAX_PLACE;
 

@@ -3,7 +3,7 @@
 ghost use mathlib.Core.Path.{_≡_};
 ghost use Prim.Native.Nat.{_≤_, _<_, _+_};
 ghost use lib.ListN.{length};
-use test_parts::MAX_FEATURES;
+use geometry::MAX_FEATURES;
 use test_parts::places::coordinate;
 
 // The number after `seed`: Lehmer's generator, 48,271 times modulo 2^31 - 1.

@@ -4,7 +4,7 @@ ghost use mathlib.Core.Path.{_≡_};
 ghost use Prim.Native.Nat.{_≤_, _<_, _*_, _+_, max};
 ghost use lib.ListN.{length};
 use crate::numbers::id_of;
-use test_parts::MAX_FEATURES;
+use geometry::MAX_FEATURES;
 
 // The distance of a point that is not live, or was taken.
 pub const FAR: u64 = 18446744073709551615;

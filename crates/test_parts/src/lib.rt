@@ -4,10 +4,6 @@ pub mod listing;
 pub mod places;
 pub mod show;
 
-// The most features.
-pub const MAX_FEATURES: usize = 16;
-// The greatest coordinate.
-pub const MAX_COORDINATE: u16 = 1000;
 // The bytes of a page, and the most records or entries in it.
 pub const PAGE_SIZE: usize = 1024;
 

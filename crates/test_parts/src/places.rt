@@ -1,5 +1,5 @@
 // A place is a coordinate with 1,000 added: 0 to 2,000.
-use crate::MAX_COORDINATE;
+use geometry::MAX_COORDINATE;
 
 // The greatest place.
 pub const MAX_PLACE: u16 = 2 * MAX_COORDINATE;

@@ -3,9 +3,9 @@ ghost use mathlib.Core.Path.{_≡_};
 ghost use Prim.Native.Nat.{_≤_, _<_, _*_, _+_};
 ghost use lib.ListN.{length};
 ghost use Rattle.test_model.specs.Comparing.{Points};
+use geometry::MAX_FEATURES;
 use test_model::numbers::id_of;
 use test_model::numbers::point_at;
-use test_parts::MAX_FEATURES;
 
 fn insert_point(index: &mut [u8], places: &[u16], p: usize, d: usize) -> u32
     requires { ⌜ (d ≤ 16) × (16 * p + 16 ≤ length (now places)) ⌝ }

@@ -1,7 +1,7 @@
 // The tree's examples of 01: d = 1, the identifiers 1 to 17 at 1 to 17, inserted upward.
 ghost use Prim.Native.Nat.{_≤_, _<_};
+use geometry::MAX_FEATURES;
 use pagestore::Record;
-use tree::MAX_FEATURES;
 use tree_core::MAX_ITEMS;
 
 // The record of identifier n at n; a slot holds 1,000 more than its coordinate.

@@ -8,8 +8,8 @@ use native.Mathlib.Numerals.{add-one}
 use lib.ListN.{length, take, drop, getD, length-take, drop-of-length-le}
 use lib.Seq.{drop-cons, getD-take}
 use Rattle.lists.specs.Sorting.{sum}
-use Rattle.pagestore.specs.declared.Entry.{Entry}
-use Rattle.pagestore.specs.declared.Inner.{Inner}
+use Rattle.pagestore_page.specs.declared.Entry.{Entry}
+use Rattle.pagestore_page.specs.declared.Inner.{Inner}
 use Rattle.pagestore.specs.Store.{countAt, innerAt, entriesIn}
 use Rattle.pagestore.specs.Store.PageLaws.{inner-counts, entries-slots}
 use Rattle.tree_core.specs.Lookup.{leafCount}

@@ -7,6 +7,3 @@ pub use tree_delete::delete;
 pub use tree_insert::insert;
 pub use tree_keyed::holds;
 pub use tree_wanted::pages_wanted;
-
-// The greatest number of features, and of coordinate slots of a record.
-pub const MAX_FEATURES: usize = 16;

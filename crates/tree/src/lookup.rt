@@ -4,7 +4,7 @@ ghost use Prim.Native.Nat.{_^_, _<_, _≤_};
 ghost use Rattle.lists.specs.Ascending.{headOr};
 ghost use Rattle.pagestore.specs.Store.{leafAt, recordsIn};
 ghost use Rattle.tree_core.specs.Lookup.{blank, withIdent, findUnder, findIn, leafCount};
-use crate::MAX_FEATURES;
+use geometry::MAX_FEATURES;
 use pagestore::Record;
 use pagestore::entry_at;
 use pagestore::record_at;

@@ -12,10 +12,10 @@ use lib.Seq.{slice, take-nil, drop-nil, take-all, take-set-le, take-set-lt, set-
 use borrow.Author.Tests.{leb-true, leb-false, lt-ltb, le-ltb, le-leb, lt-leb, eq-eqb, ne-eqb}
 use Rattle.lists.specs.Leading.{leading}
 use Rattle.lists.specs.Tests.{by-cases}
-use Rattle.pagestore.specs.declared.Record.{Record}
-use Rattle.pagestore.specs.declared.Entry.{Entry}
-use Rattle.pagestore.specs.declared.Leaf.{Leaf}
-use Rattle.pagestore.specs.declared.Inner.{Inner}
+use Rattle.pagestore_page.specs.declared.Record.{Record}
+use Rattle.pagestore_page.specs.declared.Entry.{Entry}
+use Rattle.pagestore_page.specs.declared.Leaf.{Leaf}
+use Rattle.pagestore_page.specs.declared.Inner.{Inner}
 use Rattle.pagestore.specs.Store.{features, root, level, total, leafAt, innerAt, recordsIn, entriesIn, setLeaf, setInner, fieldAt, setField, freePage}
 use Rattle.tree_model.specs.Trees.{rankOf}
 use Rattle.tree_model.specs.Inserting.{choose}

@@ -18,8 +18,8 @@ use Rattle.geometry.specs.declared.Pair.{Pair}
 use Rattle.geometry.specs.Keys.{keyNumber, keyWith}
 use Rattle.geometry.specs.Points.{pyramidOf, heightOf, axisOf, axisAt}
 use Rattle.geometry.specs.Stored.{pointOf}
-use Rattle.pagestore.specs.declared.Record.{Record}
-use Rattle.pagestore.specs.declared.Entry.{Entry}
+use Rattle.pagestore_page.specs.declared.Record.{Record}
+use Rattle.pagestore_page.specs.declared.Entry.{Entry}
 use Rattle.tree_model.specs.Trees.{keyOf, firstKey, lastKey, noRecord}
 use Rattle.tree_model.specs.Inserting.{notAbove, choose}
 use Rattle.tree_core.specs.Entries.{childAt, noKey, noEntry, leafEntry, innerEntry}

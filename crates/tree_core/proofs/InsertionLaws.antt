@@ -12,8 +12,8 @@ use borrow.Author.Tests.{le-leb, lt-leb, leb-true, leb-false}
 use Rattle.lists.specs.Shift as shift
 use Rattle.lists.specs.Leading.{leading, ins-leading}
 use Rattle.lists.specs.Tests.{by-cases}
-use Rattle.pagestore.specs.declared.Record.{Record}
-use Rattle.pagestore.specs.declared.Entry.{Entry}
+use Rattle.pagestore_page.specs.declared.Record.{Record}
+use Rattle.pagestore_page.specs.declared.Entry.{Entry}
 use Rattle.pagestore.specs.Store.{leafAt, innerAt, recordsIn, entriesIn, setLeaf, setInner, pageTaken, takePage}
 use Rattle.tree_model.specs.Trees.{rankOf}
 use Rattle.tree_model.specs.Inserting.{choose, replaced, insertRecord, rankBelow}

@@ -15,10 +15,10 @@ use Rattle.lists.specs.Sorting.{filter}
 use Rattle.lists.specs.Leading.{leading}
 use Rattle.lists.specs.Tests.{by-cases}
 use Rattle.lists.specs.SortingLaws.{filter-append}
-use Rattle.pagestore.specs.declared.Record.{Record}
-use Rattle.pagestore.specs.declared.Entry.{Entry}
-use Rattle.pagestore.specs.declared.Leaf.{Leaf}
-use Rattle.pagestore.specs.declared.Inner.{Inner}
+use Rattle.pagestore_page.specs.declared.Record.{Record}
+use Rattle.pagestore_page.specs.declared.Entry.{Entry}
+use Rattle.pagestore_page.specs.declared.Leaf.{Leaf}
+use Rattle.pagestore_page.specs.declared.Inner.{Inner}
 use Rattle.pagestore.specs.Store.{root, level, leafAt, innerAt, recordsIn, entriesIn, fieldAt}
 use Rattle.tree_model.specs.Deleting.{otherIdent}
 use Rattle.tree_core.specs.Entries.{noEntry}

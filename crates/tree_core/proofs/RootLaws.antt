@@ -8,8 +8,8 @@ use native.Mathlib.Numerals.{sub-one}
 use lib.Dec.{leb, eqb}
 use borrow.Author.Tests.{le-leb, lt-leb, eq-eqb, ne-eqb}
 use Rattle.lists.specs.Basics.{if, indicator}
-use Rattle.pagestore.specs.declared.Record.{Record}
-use Rattle.pagestore.specs.declared.Entry.{Entry}
+use Rattle.pagestore_page.specs.declared.Record.{Record}
+use Rattle.pagestore_page.specs.declared.Entry.{Entry}
 use Rattle.pagestore.specs.Store.{features, root, level, total, innerAt, countAt, entriesIn, setInner, fieldAt, setField, pageTaken, takePage}
 use Rattle.tree_model.specs.Trees.{rankOf}
 use Rattle.tree_model.specs.Inserting.{choose}

@@ -2,7 +2,7 @@
 use mathlib.Core.Path.{_≡_}
 use mathlib.Core.List.{List, [], _∷_}
 use Prim.Native.Nat.{ℕ}
-use Rattle.pagestore.specs.declared.Entry.{Entry}
+use Rattle.pagestore_page.specs.declared.Entry.{Entry}
 use Rattle.tree_core.specs.Insertion.{Rewritten}
 use Rattle.tree_core.specs.Deletion.{Deleted}
 use Rattle.tree_core.specs.declared.Left.{Left}

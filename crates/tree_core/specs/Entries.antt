@@ -4,8 +4,8 @@ use Prim.Native.Nat.{ℕ}
 use lib.ListN.{getD}
 use Rattle.lists.specs.Ascending.{headOr, lastOr}
 use Rattle.geometry.specs.declared.Key.{Key}
-use Rattle.pagestore.specs.declared.Record.{Record}
-use Rattle.pagestore.specs.declared.Entry.{Entry}
+use Rattle.pagestore_page.specs.declared.Record.{Record}
+use Rattle.pagestore_page.specs.declared.Entry.{Entry}
 use Rattle.tree_model.specs.Trees.{firstKey, lastKey}
 
 -- the child at place i; no page where there is none

@@ -6,8 +6,8 @@ use lib.ListN.{replicate}
 use Rattle.lists.specs.Basics.{concatMap}
 use Rattle.lists.specs.Ascending.{headOr}
 use Rattle.lists.specs.Sorting.{filter, sum}
-use Rattle.pagestore.specs.declared.Record.{Record}
-use Rattle.pagestore.specs.declared.Entry.{Entry}
+use Rattle.pagestore_page.specs.declared.Record.{Record}
+use Rattle.pagestore_page.specs.declared.Entry.{Entry}
 use Rattle.pagestore.specs.Store.{root, level, leafAt, innerAt, recordsIn, entriesIn, fieldAt}
 
 -- the records below page p of level l, in order

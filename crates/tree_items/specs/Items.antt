@@ -1,8 +1,8 @@
 -- The items gathered.
 use mathlib.Core.List.{List}
 use lib.ListN.{take}
-use Rattle.pagestore.specs.declared.Record.{Record}
-use Rattle.pagestore.specs.declared.Entry.{Entry}
+use Rattle.pagestore_page.specs.declared.Record.{Record}
+use Rattle.pagestore_page.specs.declared.Entry.{Entry}
 use Rattle.tree_items.specs.declared.RecordList.{RecordList}
 use Rattle.tree_items.specs.declared.EntryList.{EntryList}
 

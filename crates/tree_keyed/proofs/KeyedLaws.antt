@@ -14,9 +14,9 @@ use Rattle.lists.specs.Basics.{if}
 use Rattle.lists.specs.Leading.{leading}
 use Rattle.lists.specs.Tests.{by-cases}
 use Rattle.lists.specs.Equal.{same}
-use Rattle.pagestore.specs.declared.Record.{Record}
-use Rattle.pagestore.specs.declared.Entry.{Entry}
-use Rattle.pagestore.specs.declared.Leaf.{Leaf}
+use Rattle.pagestore_page.specs.declared.Record.{Record}
+use Rattle.pagestore_page.specs.declared.Entry.{Entry}
+use Rattle.pagestore_page.specs.declared.Leaf.{Leaf}
 use Rattle.pagestore.specs.Store.{features, root, level, leafAt, innerAt, recordsIn, entriesIn, fieldAt}
 use Rattle.tree_model.specs.Trees.{rankOf}
 use Rattle.tree_model.specs.Inserting.{choose}

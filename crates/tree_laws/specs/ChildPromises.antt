@@ -16,7 +16,7 @@ use Rattle.lists.specs.Parts.{head-of}
 use Rattle.lists.specs.AscendingBy.{AscendingBy, step, rising-of, rising-left, rising-right, rising-cross}
 use Rattle.lists.specs.Tests.{decide}
 use Rattle.geometry.specs.Keys.{keyNumber}
-use Rattle.pagestore.specs.declared.Entry.{Entry}
+use Rattle.pagestore_page.specs.declared.Entry.{Entry}
 use Rattle.pagestore.specs.Store.{innerAt, entriesIn, levelAt, viewOf}
 use Rattle.tree_model.specs.Trees.{Item, records, pages, noRecord, rankOf, entryOf, treeOf}
 use Rattle.tree_model.specs.Sound.{SoundIndex}

@@ -7,7 +7,7 @@ use lib.ListN.{length}
 use Rattle.lists.specs.Basics.{All, all-map}
 use Rattle.lists.specs.Counts.{mult}
 use Rattle.lists.specs.AscendingBy.{Descending}
-use Rattle.pagestore.specs.declared.Record.{Record}
+use Rattle.pagestore_page.specs.declared.Record.{Record}
 use Rattle.pagestore.specs.Store.{features, root, level, total, fieldAt, levelAt, freeAt, viewOf}
 use Rattle.tree_model.specs.Trees.{rankOf, identOf, treeOf, live}
 use Rattle.tree_model.specs.Sound.{SoundIndex}

@@ -12,10 +12,11 @@ use Rattle.lists.specs.Choices.{bool-cases, indicator-le, indicator-true}
 use Rattle.lists.specs.Counts.{mult, mult-append, mult-self, absent}
 use Rattle.lists.specs.AscendingBy.{AscendingBy}
 use Rattle.lists.specs.Tabulated.{all-at}
-use Rattle.pagestore.specs.declared.Record.{Record}
-use Rattle.pagestore.specs.declared.Entry.{Entry}
+use Rattle.pagestore_page.specs.declared.Record.{Record}
+use Rattle.pagestore_page.specs.declared.Entry.{Entry}
 use Rattle.pagestore.specs.Store.{pageAt, features, root, level, fieldAt, inRange, innerAt, entriesIn, freeAt, freePage}
-use Rattle.pagestore.specs.Store.FreeLaws.{page-free, free-free, freed-part}
+use Rattle.pagestore.specs.Store.FreeLaws.{freed-part}
+use Rattle.pagestore.specs.Store.TakeLaws.{page-free, free-free}
 use Rattle.tree_model.specs.Trees.{Item, records, pages, rankOf}
 use Rattle.tree_model.specs.Deleting.{deleteRecord, deleteTree, collapsed, deletedTree}
 use Rattle.tree_model.specs.Inserting.{Shape, noTree}

@@ -13,8 +13,8 @@ use Rattle.lists.specs.Counts.{mult, mult-append, absent}
 use Rattle.lists.specs.ConcatMapLaws.{map-append}
 use Rattle.lists.specs.Parts.{all-drop, all-set, concatMap-set, concatMap-pair, map-take, map-drop, map-set}
 use Rattle.lists.specs.Tabulated.{all-take, all-at}
-use Rattle.pagestore.specs.declared.Record.{Record}
-use Rattle.pagestore.specs.declared.Entry.{Entry}
+use Rattle.pagestore_page.specs.declared.Record.{Record}
+use Rattle.pagestore_page.specs.declared.Entry.{Entry}
 use Rattle.pagestore.specs.Store.{pageAt, setPage, inRange, freeAt}
 use Rattle.tree_model.specs.Trees.{Item, pages, rankOf, entryOf, node}
 use Rattle.tree_model.specs.Inserting.{choose, noTree, chosen}

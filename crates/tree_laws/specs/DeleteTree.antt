@@ -15,7 +15,7 @@ use Rattle.lists.specs.ConcatMapLaws.{all-both}
 use Rattle.lists.specs.Parts.{all-drop, all-set, concatMap-split, concatMap-three, concatMap-set, concatMap-pair}
 use Rattle.lists.specs.AscendingBy.{AscendingBy, rising-left, rising-right}
 use Rattle.lists.specs.Tabulated.{all-take, all-at}
-use Rattle.pagestore.specs.declared.Record.{Record}
+use Rattle.pagestore_page.specs.declared.Record.{Record}
 use Rattle.tree_model.specs.Trees.{Item, records, pages, rankOf}
 use Rattle.tree_model.specs.Deleting.{deleteRecord, leftCount, rebalancedItems, leftOf, placePair, rebalancedPair, deleteTree}
 use Rattle.tree_model.specs.Inserting.{noTree, chosen}

@@ -5,8 +5,8 @@ use Prim.Native.Nat.{ℕ, suc, _<_}
 use lib.ListN.{length}
 use Rattle.lists.specs.Basics.{All, none, also, concatMap}
 use Rattle.lists.specs.Ascending.{headOr, lastOr, head-append, last-append, last-any}
-use Rattle.pagestore.specs.declared.Record.{Record}
-use Rattle.pagestore.specs.declared.Entry.{Entry}
+use Rattle.pagestore_page.specs.declared.Record.{Record}
+use Rattle.pagestore_page.specs.declared.Entry.{Entry}
 use Rattle.tree_model.specs.Trees.{Item, records, noRecord, keyOf, firstKey, lastKey, entryOf}
 use Rattle.tree_model.specs.TreeLaws.{concatMap-records}
 use Rattle.tree_core.specs.Entries.{noEntry, leafEntry, innerEntry}

@@ -9,12 +9,13 @@ use Rattle.lists.specs.Basics.{All, none, also, concatMap, all-append}
 use Rattle.lists.specs.Counts.{mult, mult-append, mult-more, mult-self}
 use Rattle.lists.specs.Parts.{head-of, last-of}
 use Rattle.lists.specs.Tests.{by-cases}
-use Rattle.pagestore.specs.declared.Record.{Record}
-use Rattle.pagestore.specs.Fits.{RecordFits, EntryFits}
+use Rattle.pagestore_page.specs.declared.Record.{Record}
+use Rattle.pagestore_page.specs.Fits.{RecordFits, EntryFits}
 use Rattle.pagestore.specs.Store.{Page, pageAt, setPage, Field, freed, fresh, Apart, fieldAt, linkAt, inRange, pagesIn, restAt, freeAt, takePage, freePage}
 use Rattle.pagestore.specs.Store.RangeLaws.{range-high, range-fits, range-whole, range-same, pages-same}
 use Rattle.pagestore.specs.Store.PageLaws.{PageFits, leafFits, innerFits, length-set-page, field-page, field-other, field-same}
-use Rattle.pagestore.specs.Store.FreeLaws.{rest-page, length-take-page, field-take, rest-take, length-free-page, field-free, rest-free, freed-part}
+use Rattle.pagestore.specs.Store.FreeLaws.{rest-page, freed-part}
+use Rattle.pagestore.specs.Store.TakeLaws.{length-take-page, field-take, rest-take, length-free-page, field-free, rest-free}
 use Rattle.tree_model.specs.Trees.{Item, records, pages, noRecord, firstKey, lastKey, entryOf, node}
 use Rattle.tree_laws.specs.Shapes.{Ok, records-some}
 use Rattle.tree_laws.specs.KeysFit.{key-fits}

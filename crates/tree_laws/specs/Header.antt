@@ -7,7 +7,7 @@ use native.Mathlib.Omega.{arith}
 use lib.ListN.{length}
 use Rattle.lists.specs.Basics.{indicator, All}
 use Rattle.lists.specs.Counts.{mult}
-use Rattle.pagestore.specs.declared.Record.{Record}
+use Rattle.pagestore_page.specs.declared.Record.{Record}
 use Rattle.pagestore.specs.Store.{pageAt, Field, size, features, root, level, total, freed, fresh, Apart, fieldAt, setField, inRange, freeAt, viewOf}
 use Rattle.pagestore.specs.Store.RangeLaws.{range-same, range-fits, range-whole, pages-same}
 use Rattle.pagestore.specs.Store.PageLaws.{length-set-field, field-same, field-other, page-field}

@@ -13,8 +13,8 @@ use Rattle.lists.specs.Counts.{mult, mult-more, mult-not, absent}
 use Rattle.lists.specs.ConcatMapLaws.{all-both}
 use Rattle.lists.specs.AscendingBy.{AscendingBy, end, step}
 use Rattle.lists.specs.Sorting.{insertBy}
-use Rattle.pagestore.specs.declared.Record.{Record}
-use Rattle.pagestore.specs.Fits.{RecordFits}
+use Rattle.pagestore_page.specs.declared.Record.{Record}
+use Rattle.pagestore_page.specs.Fits.{RecordFits}
 use Rattle.tree_model.specs.Trees.{identOf, rankOf}
 use Rattle.tree_model.specs.Inserting.{insertRecord, keyBefore}
 use Rattle.tree_model.specs.Deleting.{deleteRecord}

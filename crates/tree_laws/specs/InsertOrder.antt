@@ -14,11 +14,11 @@ use Rattle.lists.specs.Choices.{indicator-le, indicator-true}
 use Rattle.lists.specs.Counts.{mult, mult-self, absent}
 use Rattle.lists.specs.AscendingBy.{AscendingBy}
 use Rattle.lists.specs.Tests.{by-cases}
-use Rattle.pagestore.specs.declared.Record.{Record}
-use Rattle.pagestore.specs.Fits.{RecordFits}
+use Rattle.pagestore_page.specs.declared.Record.{Record}
+use Rattle.pagestore_page.specs.Fits.{RecordFits}
 use Rattle.pagestore.specs.Store.{pageAt, levelOf, setPage, features, fieldAt, inRange, freeAt, takePage}
 use Rattle.pagestore.specs.Store.PageLaws.{page-other}
-use Rattle.pagestore.specs.Store.FreeLaws.{page-take}
+use Rattle.pagestore.specs.Store.TakeLaws.{page-take}
 use Rattle.tree_model.specs.Trees.{Item, records, pages, rankOf, entryOf, node}
 use Rattle.tree_model.specs.TreeLaws.{level-node}
 use Rattle.tree_model.specs.Inserting.{insertRecord, insertTree, runOf}

@@ -9,8 +9,8 @@ use lib.ListN.{length, drop, getD}
 use Rattle.lists.specs.Basics.{indicator}
 use Rattle.lists.specs.Counts.{mult}
 use Rattle.lists.specs.AscendingBy.{AscendingBy, ins-all, length-ins, ins-rising}
-use Rattle.pagestore.specs.declared.Record.{Record}
-use Rattle.pagestore.specs.Fits.{RecordFits}
+use Rattle.pagestore_page.specs.declared.Record.{Record}
+use Rattle.pagestore_page.specs.Fits.{RecordFits}
 use Rattle.pagestore.specs.Store.{features, root, level, total, fieldAt, setField, levelOf, levelAt, freeAt, viewOf}
 use Rattle.pagestore.specs.Store.PageLaws.{page-level, page-field}
 use Rattle.tree_model.specs.Trees.{rankOf, identOf, treeOf, live}

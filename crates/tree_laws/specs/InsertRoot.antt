@@ -11,10 +11,10 @@ use Rattle.lists.specs.Basics.{indicator, All, none, also, concatMap, all-head}
 use Rattle.lists.specs.Choices.{indicator-true}
 use Rattle.lists.specs.Counts.{mult, mult-append, mult-self}
 use Rattle.lists.specs.AscendingBy.{AscendingBy}
-use Rattle.pagestore.specs.declared.Record.{Record}
-use Rattle.pagestore.specs.Fits.{RecordFits}
+use Rattle.pagestore_page.specs.declared.Record.{Record}
+use Rattle.pagestore_page.specs.Fits.{RecordFits}
 use Rattle.pagestore.specs.Store.{setPage, features, root, level, fieldAt, inRange, freeAt, takePage}
-use Rattle.pagestore.specs.Store.FreeLaws.{taken-first, free-take, page-take}
+use Rattle.pagestore.specs.Store.TakeLaws.{taken-first, free-take, page-take}
 use Rattle.tree_model.specs.Trees.{Item, records, pages, rankOf, entryOf, node}
 use Rattle.tree_model.specs.Inserting.{insertRecord, insertTree, rooted, insertedTree, runOf}
 use Rattle.tree_core.specs.Insertion.{Rewritten, insertAt, growRoot}

@@ -15,13 +15,14 @@ use Rattle.lists.specs.ConcatMapLaws.{map-append}
 use Rattle.lists.specs.Parts.{all-drop, all-replaced, length-replaced, concatMap-split, concatMap-three, map-take, map-drop}
 use Rattle.lists.specs.AscendingBy.{ins-all, length-ins}
 use Rattle.lists.specs.Tabulated.{all-take, all-at}
-use Rattle.pagestore.specs.declared.Record.{Record}
-use Rattle.pagestore.specs.declared.Entry.{Entry}
-use Rattle.pagestore.specs.Fits.{RecordFits}
+use Rattle.pagestore_page.specs.declared.Record.{Record}
+use Rattle.pagestore_page.specs.declared.Entry.{Entry}
+use Rattle.pagestore_page.specs.Fits.{RecordFits}
 use Rattle.pagestore.specs.Store.{pageAt, setPage, setLeaf, leafAt, innerAt, countAt, fillOf, recordsIn, entriesIn, inRange, freeAt, pageTaken, takePage}
 use Rattle.pagestore.specs.Store.RangeLaws.{range-fits}
 use Rattle.pagestore.specs.Store.PageLaws.{page-same, page-other, leaf-view, inner-view, page-fill}
-use Rattle.pagestore.specs.Store.FreeLaws.{free-page, taken-first, page-take, free-take, freed-part}
+use Rattle.pagestore.specs.Store.FreeLaws.{free-page, freed-part}
+use Rattle.pagestore.specs.Store.TakeLaws.{taken-first, page-take, free-take}
 use Rattle.tree_model.specs.Trees.{Item, records, pages, rankOf, entryOf, node}
 use Rattle.tree_model.specs.TreeLaws.{fill-node, no-pages}
 use Rattle.tree_model.specs.Inserting.{choose, replaced, insertRecord, noTree, chosen, Cut, cut, insertTree, runOf}

@@ -14,8 +14,8 @@ use Rattle.lists.specs.Counts.{mult, mult-append}
 use Rattle.lists.specs.Parts.{all-drop, all-replaced, length-replaced, concatMap-split, concatMap-three}
 use Rattle.lists.specs.Tabulated.{all-take, all-at}
 use Rattle.lists.specs.AscendingBy.{AscendingBy, rising-left, rising-right, ins-left, ins-right, ins-all, length-ins}
-use Rattle.pagestore.specs.declared.Record.{Record}
-use Rattle.pagestore.specs.Fits.{RecordFits}
+use Rattle.pagestore_page.specs.declared.Record.{Record}
+use Rattle.pagestore_page.specs.Fits.{RecordFits}
 use Rattle.tree_model.specs.Trees.{Item, records, pages, rankOf}
 use Rattle.tree_model.specs.Inserting.{noTree, chosen, insertRecord, replaced, Cut, cut, insertTree, runOf}
 use Rattle.tree_model.specs.TreeLaws.{concatMap-records, no-pages}

@@ -19,8 +19,8 @@ use Rattle.lists.specs.Tabulated.{all-at}
 use Rattle.lists.specs.Sorting.{filter}
 use Rattle.lists.specs.Tests.{false-true, by-cases}
 use Rattle.lists.specs.Equal.{same-is, is-same, same}
-use Rattle.pagestore.specs.declared.Record.{Record}
-use Rattle.pagestore.specs.Fits.{RecordFits}
+use Rattle.pagestore_page.specs.declared.Record.{Record}
+use Rattle.pagestore_page.specs.Fits.{RecordFits}
 use Rattle.pagestore.specs.Store.{features, root, level, leafAt, innerAt, recordsIn, entriesIn, fieldAt, viewOf}
 use Rattle.tree_model.specs.Trees.{Item, records, rankOf, keyOf, identOf, treeOf, live}
 use Rattle.tree_model.specs.Sound.{SoundIndex}

@@ -14,8 +14,8 @@ use Rattle.lists.specs.Tests.{by-cases}
 use Rattle.geometry.specs.Keys.{keyNumber}
 use Rattle.geometry.specs.Points.{isNeg, heightOf, axisAt, axisOf, pyramidOf}
 use Rattle.geometry.specs.Stored.{coordOf, pointOf}
-use Rattle.pagestore.specs.declared.Record.{Record}
-use Rattle.pagestore.specs.Fits.{RecordFits, KeyFits}
+use Rattle.pagestore_page.specs.declared.Record.{Record}
+use Rattle.pagestore_page.specs.Fits.{RecordFits, KeyFits}
 use Rattle.tree_model.specs.Trees.{noRecord, keyOf, rankOf}
 use Rattle.tree_core.specs.Entries.{noKey}
 

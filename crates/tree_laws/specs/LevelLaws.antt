@@ -17,7 +17,7 @@ use Rattle.lists.specs.Parts.{length-replaced, concatMap-split, concatMap-three
 use Rattle.lists.specs.AscendingBy.{Descending, low, down, length-ins}
 use Rattle.lists.specs.Tabulated.{all-at}
 use Rattle.lists.specs.Tests.{false-true, by-cases}
-use Rattle.pagestore.specs.declared.Record.{Record}
+use Rattle.pagestore_page.specs.declared.Record.{Record}
 use Rattle.pagestore.specs.Store.{pageAt, levelAt, levelOf}
 use Rattle.pagestore.specs.Store.PageLaws.{page-level}
 use Rattle.tree_model.specs.Trees.{Item, pages, rankOf}

@@ -13,8 +13,8 @@ use Rattle.lists.specs.Choices.{bool-cases}
 use Rattle.lists.specs.Counts.{mult, mult-more, mult-not, absent}
 use Rattle.lists.specs.ConcatMapLaws.{map-append}
 use Rattle.lists.specs.Sorting.{filter, sum}
-use Rattle.pagestore.specs.declared.Record.{Record}
-use Rattle.pagestore.specs.declared.Entry.{Entry}
+use Rattle.pagestore_page.specs.declared.Record.{Record}
+use Rattle.pagestore_page.specs.declared.Entry.{Entry}
 use Rattle.pagestore.specs.Store.{root, level, fieldAt, viewOf}
 use Rattle.tree_model.specs.Trees.{Item, records, leaves, identOf, entryOf, treeOf, live, leavesOf}
 use Rattle.tree_model.specs.Sound.{SoundIndex}

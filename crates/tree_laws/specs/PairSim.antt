@@ -12,12 +12,13 @@ use Rattle.lists.specs.Choices.{bool-cases, indicator-le, indicator-true}
 use Rattle.lists.specs.Counts.{mult, mult-append, mult-more, mult-self, absent}
 use Rattle.lists.specs.ConcatMapLaws.{map-append}
 use Rattle.lists.specs.Parts.{map-take, map-drop}
-use Rattle.pagestore.specs.declared.Record.{Record}
-use Rattle.pagestore.specs.declared.Entry.{Entry}
+use Rattle.pagestore_page.specs.declared.Record.{Record}
+use Rattle.pagestore_page.specs.declared.Entry.{Entry}
 use Rattle.pagestore.specs.Store.{pageAt, setPage, setLeaf, inRange, freeAt, freePage}
 use Rattle.pagestore.specs.Store.RangeLaws.{range-fits}
 use Rattle.pagestore.specs.Store.PageLaws.{page-same, page-other}
-use Rattle.pagestore.specs.Store.FreeLaws.{free-page, page-free, free-free, freed-part}
+use Rattle.pagestore.specs.Store.FreeLaws.{free-page, freed-part}
+use Rattle.pagestore.specs.Store.TakeLaws.{page-free, free-free}
 use Rattle.tree_model.specs.Trees.{Item, pages, entryOf, node}
 use Rattle.tree_model.specs.Inserting.{Cut}
 use Rattle.tree_model.specs.Deleting.{leftCount, rebalancedItems, placePair}

@@ -13,9 +13,9 @@ use Rattle.lists.specs.ConcatMapLaws.{concatMap-some}
 use Rattle.lists.specs.Parts.{head-of}
 use Rattle.lists.specs.AscendingBy.{AscendingBy, step, rising-right, rising-cross}
 use Rattle.geometry.specs.Keys.{keyNumber}
-use Rattle.pagestore.specs.declared.Record.{Record}
-use Rattle.pagestore.specs.declared.Entry.{Entry}
-use Rattle.pagestore.specs.Fits.{RecordFits}
+use Rattle.pagestore_page.specs.declared.Record.{Record}
+use Rattle.pagestore_page.specs.declared.Entry.{Entry}
+use Rattle.pagestore_page.specs.Fits.{RecordFits}
 use Rattle.tree_model.specs.Trees.{minItems, maxItems, Item, records, noRecord, firstKey, rankOf, entryOf}
 use Rattle.tree_model.specs.Inserting.{noTree, notAbove, choose, chosen}
 use Rattle.tree_core.specs.Entries.{childAt}

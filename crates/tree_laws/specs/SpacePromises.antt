@@ -8,7 +8,7 @@ use lib.Dec.{ltb}
 use lib.ListN.{length, drop, length-append}
 use Rattle.lists.specs.Basics.{indicator}
 use Rattle.lists.specs.Counts.{mult, mult-append, length-once}
-use Rattle.pagestore.specs.declared.Record.{Record}
+use Rattle.pagestore_page.specs.declared.Record.{Record}
 use Rattle.pagestore.specs.Store.{inRange, pagesIn, freeAt, viewOf}
 use Rattle.pagestore.specs.Store.RangeLaws.{range-same}
 use Rattle.tree_model.specs.Trees.{pages, identOf, treeOf, live}

@@ -16,8 +16,8 @@ use Rattle.lists.specs.Sorting.{insertBy}
 use Rattle.geometry.specs.Keys.{keyNumber}
 use Rattle.geometry.specs.Points.{heightOf, axisAt, axisOf, pyramidOf}
 use Rattle.geometry.specs.Stored.{pointOf, slotsOf}
-use Rattle.pagestore.specs.declared.Record.{Record}
-use Rattle.pagestore.specs.Fits.{RecordFits}
+use Rattle.pagestore_page.specs.declared.Record.{Record}
+use Rattle.pagestore_page.specs.Fits.{RecordFits}
 use Rattle.pagestore.specs.Store.{pagesIn, freeAt, newIndex, viewOf}
 use Rattle.tree_model.specs.Trees.{Item, records, firstKey, entryOf, keyOf, rankOf, identOf, leaves, live, leavesOf}
 use Rattle.tree_model.specs.Sound.{Permitted, RecordOk, SoundIndex}

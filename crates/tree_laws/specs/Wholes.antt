@@ -9,8 +9,8 @@ use Rattle.lists.specs.Counts.{mult, mult-append}
 use Rattle.lists.specs.ConcatMapLaws.{all-both, all-concatMap}
 use Rattle.lists.specs.AscendingBy.{AscendingBy, rising-of, ascending-of}
 use Rattle.lists.specs.Tests.{by-cases}
-use Rattle.pagestore.specs.declared.Record.{Record}
-use Rattle.pagestore.specs.Fits.{RecordFits}
+use Rattle.pagestore_page.specs.declared.Record.{Record}
+use Rattle.pagestore_page.specs.Fits.{RecordFits}
 use Rattle.pagestore.specs.Store.{size, features, root, level, total, freed, fresh, fieldAt, inRange, leafAt, recordsIn, freedAt, freshAt, freeAt, viewOf}
 use Rattle.pagestore.specs.Store.RangeLaws.{range-past}
 use Rattle.pagestore.specs.Store.PageLaws.{records-fit as stored-fit}

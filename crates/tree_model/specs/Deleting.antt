@@ -5,7 +5,7 @@ use Prim.Native.Nat.{ℕ, zero, suc, _+_, _-_}
 use lib.Dec.{ltb, eqb}
 use lib.ListN.{length, take, drop, getD, set}
 use Rattle.lists.specs.Basics.{if}
-use Rattle.pagestore.specs.declared.Record.{Record}
+use Rattle.pagestore_page.specs.declared.Record.{Record}
 use Rattle.tree_model.specs.Trees.{minItems, Item, rankOf}
 use Rattle.tree_model.specs.Inserting.{Shape, noTree, chosen, Cut}
 

@@ -7,8 +7,8 @@ use lib.ListN.{length, take, drop, getD}
 use Rattle.lists.specs.Basics.{if, indicator}
 use Rattle.lists.specs.Sorting.{insertBy}
 use Rattle.geometry.specs.Keys.{keyNumber}
-use Rattle.pagestore.specs.declared.Record.{Record}
-use Rattle.pagestore.specs.declared.Entry.{Entry}
+use Rattle.pagestore_page.specs.declared.Record.{Record}
+use Rattle.pagestore_page.specs.declared.Entry.{Entry}
 use Rattle.tree_model.specs.Trees.{maxItems, Item, rankOf, entryOf}
 
 -- a tree with its level

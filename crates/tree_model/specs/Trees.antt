@@ -10,8 +10,8 @@ use Rattle.geometry.specs.declared.Key.{Key}
 use Rattle.geometry.specs.Keys.{keyNumber}
 use Rattle.geometry.specs.Points.{pyramidOf, heightOf}
 use Rattle.geometry.specs.Stored.{pointOf}
-use Rattle.pagestore.specs.declared.Record.{Record}
-use Rattle.pagestore.specs.declared.Entry.{Entry}
+use Rattle.pagestore_page.specs.declared.Record.{Record}
+use Rattle.pagestore_page.specs.declared.Entry.{Entry}
 use Rattle.pagestore.specs.Store.{Page, leaf, inner, recordsOf, entriesOf, View}
 
 -- RECORDS

@@ -6,7 +6,7 @@ use native.Mathlib.Omega.{arith}
 use denote.Ref.{now}
 use lib.ListN.{length}
 use lib.Seq.{length-take-le}
-use Rattle.geometry.specs.Questions.{LaidOut}
+use Rattle.geometry_slices.specs.Questions.{LaidOut}
 use Rattle.index_query.specs.PointLaws.{take-same}
 use borrow.Author.Needs.{needs}
 use Rattle.index_query.proofs.plain_features.Statement.{statement}

@@ -4,8 +4,8 @@ use borrow.Author.Needs.{needs}
 use mathlib.Core.Path.{_≡_, refl, sym, ap, _∙_}
 use mathlib.Core.Logic.{inl, inr}
 use mathlib.Core.List.{[]}
-use Rattle.pagestore.specs.declared.Record.{Record}
-use Rattle.tree.specs.Lookup.{findIn}
+use Rattle.pagestore_page.specs.declared.Record.{Record}
+use Rattle.tree_core.specs.Lookup.{findIn}
 use Rattle.index_refusals.specs.Refusals.{alreadyLive}
 use Rattle.index_refusals.proofs.RuleLaws.{pair-refuses, pair-passes, pair-ident, pair-fits, ofInsert}
 use Rattle.index_refusals.proofs.refuse_insert.Statement.{statement}

@@ -8,7 +8,7 @@ use Prim.Native.Nat.{_≤_}
 use native.Mathlib.Omega.{arith}
 use Rattle.lists.specs.Tests.{false-true}
 use Rattle.pagestore.specs.Store.{fieldAt, level}
-use Rattle.index_refusals.specs.OutcomeLaws.{when, unless}
+use Rattle.lists.specs.Judges.{passes, faults}
 use Rattle.index_refusals.proofs.RuleLaws.{suits-view}
 use Rattle.index_refusals.proofs.refuse_point.Statement.{statement}
 use Rattle.index_refusals.proofs.refuse_point.Tie as tie
@@ -17,7 +17,7 @@ permitted-requires : tie.Need-permitted-requires
 permitted-requires c κs = search needs
 
 returns : tie.Need-returns
-returns c = inl (refl, unless (c .before .permitted .ensures) (not-true _ (c .if1 .taken)))
+returns c = inl (refl, faults (c .before .permitted .ensures) (not-true _ (c .if1 .taken)))
 
 root-level-requires : tie.Need-root-level-requires
 root-level-requires c κs = search needs
@@ -25,7 +25,7 @@ root-level-requires c κs = search needs
 returns-2 : tie.Need-returns-2
 returns-2 c =
     let a = c .before .before .before .before .before .args in
-    inr (when (c .before .before .before .permitted .ensures) (not-false _ (c .before .before .if1 .left)), inl (refl, λ (l : fieldAt level (now (a .index)) ≤ 4). omega (arith, c .if2 .taken, c .before .root-level .ensures)))
+    inr (passes (c .before .before .before .permitted .ensures) (not-false _ (c .before .before .if1 .left)), inl (refl, λ (l : fieldAt level (now (a .index)) ≤ 4). omega (arith, c .if2 .taken, c .before .root-level .ensures)))
 
 features-of-requires : tie.Need-features-of-requires
 features-of-requires c κs = search needs
@@ -38,8 +38,8 @@ returns-3 c =
     let a = c .before .before .before .before .before .before .before .before .args in
     let low : fieldAt level (now (a .index)) ≤ 4 = omega (arith, c .before .before .before .if2 .left, c .before .before .before .before .root-level .ensures) in
     inr (
-      when (c .before .before .before .before .before .before .permitted .ensures) (not-false _ (c .before .before .before .before .before .if1 .left)),
-      inr (low, inl (refl, unless (suits-view (now (a .index)) (now (a .point)) _ _ (c .before .before .features-of .ensures) (c .before .suits .ensures)) (not-true _ (c .if3 .taken)))),
+      passes (c .before .before .before .before .before .before .permitted .ensures) (not-false _ (c .before .before .before .before .before .if1 .left)),
+      inr (low, inl (refl, faults (suits-view (now (a .index)) (now (a .point)) _ _ (c .before .before .features-of .ensures) (c .before .suits .ensures)) (not-true _ (c .if3 .taken)))),
     )
 
 in-range-requires : tie.Need-in-range-requires
@@ -50,11 +50,11 @@ returns-4 c =
     let a = c .before .before .before .before .before .before .before .before .before .before .args in
     let low : fieldAt level (now (a .index)) ≤ 4 = omega (arith, c .before .before .before .before .before .if2 .left, c .before .before .before .before .before .before .root-level .ensures) in
     inr (
-      when (c .before .before .before .before .before .before .before .before .permitted .ensures) (not-false _ (c .before .before .before .before .before .before .before .if1 .left)),
+      passes (c .before .before .before .before .before .before .before .before .permitted .ensures) (not-false _ (c .before .before .before .before .before .before .before .if1 .left)),
       inr (
         low,
         inr (
-          when (suits-view (now (a .index)) (now (a .point)) _ _ (c .before .before .before .before .features-of .ensures) (c .before .before .before .suits .ensures)) (not-false _ (c .before .before .if3 .left)),
+          passes (suits-view (now (a .index)) (now (a .point)) _ _ (c .before .before .before .before .features-of .ensures) (c .before .before .before .suits .ensures)) (not-false _ (c .before .before .if3 .left)),
           inl (refl, λ t. false-true (sym (sym (c .before .in-range .ensures) ∙ not-true _ (c .if4 .taken)) ∙ t)),
         ),
       ),
@@ -65,11 +65,11 @@ returns-5 c =
     let a = c .before .before .before .before .before .before .before .before .before .before .args in
     let low : fieldAt level (now (a .index)) ≤ 4 = omega (arith, c .before .before .before .before .before .if2 .left, c .before .before .before .before .before .before .root-level .ensures) in
     inr (
-      when (c .before .before .before .before .before .before .before .before .permitted .ensures) (not-false _ (c .before .before .before .before .before .before .before .if1 .left)),
+      passes (c .before .before .before .before .before .before .before .before .permitted .ensures) (not-false _ (c .before .before .before .before .before .before .before .if1 .left)),
       inr (
         low,
         inr (
-          when (suits-view (now (a .index)) (now (a .point)) _ _ (c .before .before .before .before .features-of .ensures) (c .before .before .before .suits .ensures)) (not-false _ (c .before .before .if3 .left)),
+          passes (suits-view (now (a .index)) (now (a .point)) _ _ (c .before .before .before .before .features-of .ensures) (c .before .before .before .suits .ensures)) (not-false _ (c .before .before .if3 .left)),
           inr (sym (c .before .in-range .ensures) ∙ not-false _ (c .if4 .left), refl),
         ),
       ),

@@ -7,9 +7,9 @@ use Prim.Native.Nat.{_≤_, _<_}
 use native.Mathlib.Omega.{arith}
 use lib.ListN.{length}
 use Rattle.pagestore.specs.Store.{viewOf, freeAt}
-use Rattle.tree.specs.Insertion.{pagesWanted}
+use Rattle.tree_core.specs.Insertion.{pagesWanted}
 use Rattle.index_refusals.specs.Refusals.{recordOf}
-use Rattle.index_refusals.specs.OutcomeLaws.{when, unless}
+use Rattle.lists.specs.Judges.{passes, faults}
 use Rattle.index_refusals.proofs.RuleLaws.{total-view, not-below}
 use Rattle.index_refusals.proofs.refuse_room.Statement.{statement}
 use Rattle.index_refusals.proofs.refuse_room.Tie as tie
@@ -38,7 +38,7 @@ returns-2 c =
     let total : c .before .before .before .before .before .total-records .result ≡ viewOf index .total = c .before .before .before .before .before .total-records .ensures ∙ total-view index in
     let wanted : c .before .before .pages-wanted .result ≡ pagesWanted index (recordOf (a .id) (now (a .point))) = c .before .before .pages-wanted .ensures ∙ ap (pagesWanted index) (c .before .before .before .record-of .ensures) in
     let few : viewOf index .total < 65535 = omega (arith, c .before .before .before .before .if1 .left) in
-    inr (few, inl (refl, λ (l : pagesWanted index (recordOf (a .id) (now (a .point))) ≤ length (freeAt index)). omega (arith, when (c .before .too-few .ensures) (c .if2 .taken))))
+    inr (few, inl (refl, λ (l : pagesWanted index (recordOf (a .id) (now (a .point))) ≤ length (freeAt index)). omega (arith, passes (c .before .too-few .ensures) (c .if2 .taken))))
 
 returns-3 : tie.Need-returns-3
 returns-3 c =
@@ -46,7 +46,7 @@ returns-3 c =
     let total : c .before .before .before .before .before .total-records .result ≡ viewOf index .total = c .before .before .before .before .before .total-records .ensures ∙ total-view index in
     let wanted : c .before .before .pages-wanted .result ≡ pagesWanted index (recordOf (a .id) (now (a .point))) = c .before .before .pages-wanted .ensures ∙ ap (pagesWanted index) (c .before .before .before .record-of .ensures) in
     let few : viewOf index .total < 65535 = omega (arith, c .before .before .before .before .if1 .left) in
-    let many : ¬ (length (freeAt index) < c .before .before .pages-wanted .result) = unless (c .before .too-few .ensures) (c .if2 .left) in
+    let many : ¬ (length (freeAt index) < c .before .before .pages-wanted .result) = faults (c .before .too-few .ensures) (c .if2 .left) in
     let room : pagesWanted index (recordOf (a .id) (now (a .point))) ≤ length (freeAt index) = omega (arith, not-below (length (freeAt index)) (c .before .before .pages-wanted .result) many) in
     inr (few, inr (room, refl))
 

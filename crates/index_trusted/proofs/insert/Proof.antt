@@ -2,7 +2,7 @@
 use denote.Ref.{now}
 use borrow.Author.Needs.{needs}
 use mathlib.Core.Path.{refl, ap, _∙_}
-use Rattle.tree.specs.Insertion.{insertInto}
+use Rattle.tree_core.specs.Insertion.{insertInto}
 use Rattle.index_refusals.specs.OutcomeLaws.{carried-out, left-alone}
 use Rattle.index_refusals.proofs.RuleLaws.{pair-fits, ofInsert}
 use Rattle.index_trusted.proofs.insert.Statement.{statement}

@@ -9,8 +9,8 @@ use mathlib.Core.List.{List, []}
 use Prim.Native.Nat.{ℕ}
 use lib.IntN.{ℤ}
 use Rattle.lists.specs.Tests.{false-true}
-use Rattle.tree.specs.Deletion.{deleteFrom}
-use Rattle.tree.specs.Keyed.{holdsAt}
+use Rattle.tree_core.specs.Deletion.{deleteFrom}
+use Rattle.tree_core.specs.Keyed.{holdsAt}
 use Rattle.index_refusals.specs.Refusals.{Rule, recordOf, notLive}
 use Rattle.index_refusals.specs.RefusalLaws.{later}
 use Rattle.index_refusals.specs.OutcomeLaws.{left-alone}

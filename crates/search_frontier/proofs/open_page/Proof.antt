@@ -4,9 +4,9 @@ use Prim.Native.Nat.{_-_}
 use native.Mathlib.Omega.{arith}
 use denote.Ref.{now}
 use borrow.Author.Needs.{needs}
-use Rattle.pagestore.specs.declared.Entry.{Entry}
+use Rattle.pagestore_page.specs.declared.Entry.{Entry}
 use Rattle.pagestore.specs.Store.{innerAt}
-use Rattle.tree.specs.Lookup.{leafCount}
+use Rattle.tree_core.specs.Lookup.{leafCount}
 use Rattle.search_model.specs.Asked.{asking}
 use Rattle.search_model.specs.Branches.{branchOf}
 use Rattle.search_frontier.specs.Keys.{keyOf}

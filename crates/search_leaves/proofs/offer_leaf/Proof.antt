@@ -5,8 +5,7 @@ use native.Mathlib.Omega.{arith}
 use denote.Ref.{now}
 use borrow.Author.Needs.{needs}
 use lib.ListN.{length}
-use Rattle.pagestore.specs.Layout.{leafOf}
-use Rattle.pagestore.specs.LayoutLaws.{noRecord}
+use Rattle.pagestore_page.specs.Layout.{leafOf, noRecord}
 use Rattle.pagestore.specs.Store.{recordsIn}
 use Rattle.search_rows.specs.Held.{rowsIn, Held}
 use Rattle.search_model.specs.Asked.{askingPoint}

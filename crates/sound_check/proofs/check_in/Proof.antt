@@ -1,7 +1,7 @@
 use Prim.Native.Nat.{ℕ}
 use Rattle.sound_faults.specs.Faults.{FailsAt, RootFill}
 use Rattle.pagestore.specs.Store.{pageAt, viewOf}
-use Rattle.sound_faults.specs.Judges.{faults, passes}
+use Rattle.lists.specs.Judges.{faults, passes}
 use Rattle.sound_links.specs.Marks.{Marked}
 use Rattle.sound_check.proofs.FinishLaws.{root-freed, rooted-of, start-of}
 use Rattle.sound_check.specs.Outcome.{Verdict}

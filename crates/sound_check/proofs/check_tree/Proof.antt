@@ -1,5 +1,5 @@
 use Rattle.pagestore.specs.Store.{viewOf}
-use Rattle.sound_faults.specs.Judges.{found-at, found-nowhere}
+use Rattle.lists.specs.Judges.{found-at, found-nowhere}
 use Rattle.sound_check.proofs.FinishLaws.{whole}
 use Rattle.sound_check.specs.Outcome.{Verdict}
 use Rattle.tree_model.specs.Trees.{pages}

@@ -1,5 +1,5 @@
 use Rattle.pagestore.specs.Store.{viewOf}
-use Rattle.sound_faults.specs.Judges.{found-at, found-nowhere}
+use Rattle.lists.specs.Judges.{found-at, found-nowhere}
 use Rattle.sound_check.proofs.RepeatLaws.{repeat-found}
 use Rattle.sound_check.proofs.FinishLaws.{whole-collected, whole-counted, whole-lost, whole-most, whole-room, whole-total}
 use Rattle.sound_check.proofs.VerdictLaws.{verdict}

@@ -1,10 +1,10 @@
 use Prim.Native.Nat.{_-_, _<_, _≤_, ℕ}
 use Rattle.sound_faults.specs.Assembled.{reached-page}
-use Rattle.pagestore.specs.LayoutLaws.{noEntry}
+use Rattle.pagestore_page.specs.Layout.{noEntry}
 use Rattle.pagestore.specs.Store.{innerAt, levelAt, viewOf}
-use Rattle.pagestore.specs.declared.Entry.{Entry}
+use Rattle.pagestore_page.specs.declared.Entry.{Entry}
 use Rattle.sound_faults.specs.ViewLaws.{entries-most, inner-count, inner-few, slot-entry}
-use Rattle.sound_faults.specs.Judges.{faults, passes}
+use Rattle.lists.specs.Judges.{faults, passes}
 use Rattle.sound_links.proofs.MarkLaws.{going-done, going-grown, going-ready, going-skip, going-start, no-entries}
 use Rattle.sound_faults.specs.ViewLaws.{view-level}
 use Rattle.sound_links.specs.Marks.{Follows, Going, Grown, Ready}

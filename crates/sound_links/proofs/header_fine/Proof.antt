@@ -1,8 +1,8 @@
 use mathlib.Core.Path.{_≡_, sym, ap, _∙_}
 use Prim.Native.Nat.{ℕ, _-_, _*_}
 use native.Mathlib.Omega.{arith}
-use Rattle.sound_faults.specs.Judges.{judge-eq}
-use Rattle.sound_faults.specs.Judges.{Judges}
+use Rattle.lists.specs.Judges.{judge-eq}
+use Rattle.lists.specs.Judges.{Judges}
 use Rattle.pagestore.specs.Store.{viewOf, levelOf}
 use Rattle.sound_faults.specs.ViewLaws.{view-level}
 use Rattle.sound_faults.specs.Faults.{FailsAt}

@@ -1,8 +1,8 @@
 use mathlib.Core.Path.{sym, _∙_}
 use Prim.Native.Nat.{_-_}
 use native.Mathlib.Omega.{arith}
-use Rattle.sound_faults.specs.Judges.{judge-le}
-use Rattle.sound_faults.specs.Judges.{Judges}
+use Rattle.lists.specs.Judges.{judge-le}
+use Rattle.lists.specs.Judges.{Judges}
 use borrow.Author.Tests.{not-true, not-false}
 use Rattle.sound_faults.specs.ViewLaws.{page-of, page-out, view-level, view-fill}
 use borrow.Author.Needs.{needs}

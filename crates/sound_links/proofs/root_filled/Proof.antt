@@ -1,8 +1,8 @@
 use mathlib.Core.Path.{_≡_, sym, _∙_}
 use Prim.Native.Nat.{_-_}
 use native.Mathlib.Omega.{arith}
-use Rattle.sound_faults.specs.Judges.{judge-le}
-use Rattle.sound_faults.specs.Judges.{Judges}
+use Rattle.lists.specs.Judges.{judge-le}
+use Rattle.lists.specs.Judges.{Judges}
 use Rattle.pagestore.specs.Store.{pageAt, levelOf}
 use Rattle.sound_links.proofs.MarkLaws.{root-fill-leaf, root-fill-most, root-fill-inner, root-fill-few}
 use Rattle.pagestore.specs.Store.PageLaws.{page-level, page-fill}

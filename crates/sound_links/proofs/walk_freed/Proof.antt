@@ -2,8 +2,8 @@ use mathlib.Core.Path.{_≡_, refl, sym, _∙_, subst}
 use Prim.Native.Nat.{ℕ, _+_, _-_, _≤_}
 use native.Mathlib.Omega.{arith}
 use lib.ListN.{length}
-use Rattle.sound_faults.specs.Judges.{judge-eq}
-use Rattle.sound_faults.specs.Judges.{Judges}
+use Rattle.lists.specs.Judges.{judge-eq}
+use Rattle.lists.specs.Judges.{Judges}
 use lib.ListN.{length-set, set}
 use Rattle.pagestore.specs.Store.{viewOf}
 use Rattle.sound_links.specs.Marks.{Marked, Walked}

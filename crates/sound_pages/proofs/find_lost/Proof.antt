@@ -3,8 +3,8 @@ use Rattle.sound_faults.specs.Linked.{InState}
 use mathlib.Core.Path.{subst}
 use Prim.Native.Nat.{ℕ, _-_, _≤_, _<_}
 use native.Mathlib.Omega.{arith}
-use Rattle.sound_faults.specs.Judges.{passes, faults}
-use Rattle.sound_faults.specs.Judges.{Found}
+use Rattle.lists.specs.Judges.{passes, faults}
+use Rattle.lists.specs.Judges.{Found}
 use borrow.Author.Tests.{not-true, not-false}
 use Rattle.pagestore.specs.Store.{viewOf}
 use Rattle.sound_faults.specs.Faults.{IsPage}

@@ -1,6 +1,6 @@
 use Prim.Native.Nat.{ℕ}
-use Rattle.sound_faults.specs.Judges.{judge-eq}
-use Rattle.sound_faults.specs.Judges.{Judges}
+use Rattle.lists.specs.Judges.{judge-eq}
+use Rattle.lists.specs.Judges.{Judges}
 use borrow.Author.Needs.{needs}
 use lib.ListN.{getD}
 use mathlib.Core.Path.{_∙_, ap, sym}

@@ -1,5 +1,5 @@
-use Rattle.sound_faults.specs.Judges.{judge-eq}
-use Rattle.sound_faults.specs.Judges.{Judges}
+use Rattle.lists.specs.Judges.{judge-eq}
+use Rattle.lists.specs.Judges.{Judges}
 use borrow.Author.Needs.{needs}
 use lib.ListN.{getD}
 use mathlib.Core.Logic.{inl, inr}

@@ -1,13 +1,13 @@
 use Prim.Native.Nat.{_*_, _+_, _-_, _≤_, ℕ}
 use Rattle.sound_faults.specs.Faults.{EntryAt}
 use Rattle.sound_faults.specs.Linked.{EntryFine}
-use Rattle.pagestore.specs.LayoutLaws.{noEntry}
+use Rattle.pagestore_page.specs.Layout.{noEntry}
 use Rattle.pagestore.specs.Store.{innerAt, viewOf}
-use Rattle.pagestore.specs.declared.Entry.{Entry}
+use Rattle.pagestore_page.specs.declared.Entry.{Entry}
 use Rattle.sound_faults.specs.ViewLaws.{entries-most, inner-count, inner-few, slot-entry}
 use Rattle.sound_pages.proofs.EntryLaws.{named-before, named-done, named-step}
-use Rattle.sound_faults.specs.Judges.{faults, passes}
-use Rattle.sound_faults.specs.Judges.{Judges}
+use Rattle.lists.specs.Judges.{faults, passes}
+use Rattle.lists.specs.Judges.{Judges}
 use Rattle.sound_links.specs.Marks.{Marked}
 use Rattle.sound_pages.specs.Pages.{Named}
 use borrow.Author.Tests.{not-false, not-true}

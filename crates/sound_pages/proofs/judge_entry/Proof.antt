@@ -4,9 +4,9 @@ use Rattle.sound_faults.specs.Faults.{EntryFault}
 use Rattle.pagestore.specs.Store.{levelOf, viewOf}
 use Rattle.sound_pages.proofs.EndsLaws.{ends-fault, first-right, last-right}
 use Rattle.sound_pages.proofs.EntryLaws.{mark-level, mark-other, mark-reached, past-fresh, reached-fill}
-use Rattle.sound_faults.specs.Judges.{judge-map}
+use Rattle.lists.specs.Judges.{judge-map}
 use Rattle.sound_faults.specs.ViewLaws.{view-level}
-use Rattle.sound_faults.specs.Judges.{Judges}
+use Rattle.lists.specs.Judges.{Judges}
 use Rattle.sound_links.specs.Marks.{Marked}
 use borrow.Author.Needs.{needs}
 use lib.ListN.{getD}

@@ -1,7 +1,7 @@
 use Prim.Native.Nat.{_<_, _≤_, ℕ}
 use Rattle.sound_pages.proofs.EntryLaws.{named-below}
 use Rattle.sound_faults.specs.ViewLaws.{view-level}
-use Rattle.sound_faults.specs.Judges.{Judges}
+use Rattle.lists.specs.Judges.{Judges}
 use borrow.Author.Needs.{needs}
 use lib.ListN.{getD}
 use mathlib.Core.Path.{subst}

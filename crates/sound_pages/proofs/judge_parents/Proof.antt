@@ -1,9 +1,9 @@
 use Prim.Native.Nat.{_*_, _-_, _<_, _≤_, ℕ}
 use Rattle.sound_faults.specs.Faults.{FailsAt}
 use Rattle.pagestore.specs.Store.{viewOf}
-use Rattle.sound_faults.specs.Judges.{faults, passes}
+use Rattle.lists.specs.Judges.{faults, passes}
 use Rattle.sound_pages.proofs.TurnLaws.{named-start}
-use Rattle.sound_faults.specs.Judges.{Found}
+use Rattle.lists.specs.Judges.{Found}
 use Rattle.sound_pages.specs.Pages.{Named}
 use Rattle.tree_model.specs.Trees.{pages}
 use borrow.Author.Tests.{not-false, not-true}

@@ -2,7 +2,7 @@ use Prim.Native.Nat.{ℕ}
 use Rattle.pagestore.specs.Store.{viewOf}
 use Rattle.sound_links.proofs.MarkLaws.{seen, unseen}
 use Rattle.sound_pages.proofs.TurnLaws.{kept-page, pages-skip}
-use Rattle.sound_faults.specs.Judges.{Judges}
+use Rattle.lists.specs.Judges.{Judges}
 use borrow.Author.Needs.{needs}
 use lib.ListN.{getD}
 use mathlib.Core.Path.{_∙_, ap, sym}

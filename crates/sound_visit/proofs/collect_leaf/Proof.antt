@@ -6,7 +6,7 @@ use native.Mathlib.Omega.{arith}
 use lib.ListN.{length, take, length-take}
 use lib.ListN.{length-set}
 use Rattle.sound_visit.proofs.CollectLaws.{put-step, put-start}
-use Rattle.pagestore.specs.LayoutLaws.{noRecord}
+use Rattle.pagestore_page.specs.Layout.{noRecord}
 use Rattle.pagestore.specs.Store.PageLaws.{records-slots}
 use Rattle.tree_model.specs.Trees.{identOf}
 use mathlib.Core.List.{_++_}

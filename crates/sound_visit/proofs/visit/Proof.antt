@@ -1,8 +1,8 @@
 use Prim.Native.Nat.{_-_, _<_, _≤_, ℕ}
 use Rattle.pagestore.specs.Store.{viewOf}
-use Rattle.sound_faults.specs.Judges.{faults, passes}
+use Rattle.lists.specs.Judges.{faults, passes}
 use Rattle.sound_pages.proofs.TurnLaws.{pages-start}
-use Rattle.sound_faults.specs.Judges.{Found}
+use Rattle.lists.specs.Judges.{Found}
 use Rattle.sound_pages.specs.Pages.{PagesFine}
 use Rattle.sound_visit.proofs.CollectLaws.{gathered-start}
 use Rattle.sound_visit.specs.Collect.{Gathered}

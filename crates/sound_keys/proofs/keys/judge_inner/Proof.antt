@@ -1,7 +1,7 @@
 use Prim.Native.Nat.{_-_, _≤_, ℕ}
 use Rattle.sound_faults.specs.Faults.{ends}
 use Rattle.lists.specs.Basics.{concatMap}
-use Rattle.pagestore.specs.LayoutLaws.{noEntry}
+use Rattle.pagestore_page.specs.Layout.{noEntry}
 use Rattle.pagestore.specs.Store.{innerAt}
 use Rattle.pagestore.specs.Store.PageLaws.{entries-slots}
 use Rattle.sound_keys.proofs.SpanLaws.{pair-stop, pairs-step, pairs-stop, ascending-start, span-faulty, span-fine}

@@ -2,7 +2,7 @@ use Prim.Native.Nat.{_*_, _+_, _-_}
 use Rattle.pagestore.specs.Store.{recordsIn}
 use Rattle.pagestore.specs.Store.PageLaws.{leaf-part}
 use Rattle.pagestore.specs.Store.RangeLaws.{range-whole}
-use Rattle.pagestore.specs.declared.Leaf.{Leaf}
+use Rattle.pagestore_page.specs.declared.Leaf.{Leaf}
 use Rattle.sound_faults.specs.ViewLaws.{part-length}
 use Rattle.sound_keys.specs.Judged.{LeafJudged}
 use borrow.Author.Needs.{needs}

@@ -1,4 +1,4 @@
-use Rattle.pagestore.specs.Layout.{leafOf}
+use Rattle.pagestore_page.specs.Layout.{leafOf}
 use Rattle.sound_keys.proofs.LeadLaws.{leads-fewer, leads-start}
 use borrow.Author.Needs.{needs}
 use Rattle.sound_keys.proofs.keys.judge_part.Statement.{statement}

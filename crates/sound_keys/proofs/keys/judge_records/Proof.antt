@@ -1,10 +1,10 @@
 use Prim.Native.Nat.{_-_, _≤_, ℕ}
 use Rattle.lists.specs.Basics.{All, none}
-use Rattle.pagestore.specs.Layout.{leafOf}
-use Rattle.pagestore.specs.LayoutLaws.{leaf-slots, noRecord}
-use Rattle.pagestore.specs.declared.Record.{Record}
+use Rattle.pagestore_page.specs.Layout.{leafOf, noRecord}
+use Rattle.pagestore_page.specs.LayoutLaws.{leaf-slots}
+use Rattle.pagestore_page.specs.declared.Record.{Record}
 use Rattle.sound_faults.specs.Prefixes.{all-more, take-spot}
-use Rattle.sound_faults.specs.Judges.{faults, passes}
+use Rattle.lists.specs.Judges.{faults, passes}
 use Rattle.sound_keys.proofs.SpanLaws.{ranks-step, ranks-stop, ascending-start, span-faulty, span-fine}
 use Rattle.sound_keys.proofs.KeyLaws.{key-judged, rank-is}
 use Rattle.sound_keys.specs.Judged.{RecordsBad, AscendingSpan}

@@ -1,6 +1,6 @@
 use native.Mathlib.Omega.{arith}
-use Rattle.sound_faults.specs.Judges.{judge-le}
-use Rattle.sound_faults.specs.Judges.{Judges}
+use Rattle.lists.specs.Judges.{judge-le}
+use Rattle.lists.specs.Judges.{Judges}
 use Rattle.sound_keys.proofs.keys.key_fine.Statement.{statement}
 use Rattle.sound_keys.proofs.keys.key_fine.Tie as tie
 

@@ -1,6 +1,5 @@
 use Rattle.geometry.proofs.StoredLaws.{coord-magnitude}
-use Rattle.pagestore.specs.Layout.{leafOf}
-use Rattle.pagestore.specs.LayoutLaws.{noRecord}
+use Rattle.pagestore_page.specs.Layout.{leafOf, noRecord}
 use Rattle.sound_keys.proofs.LeadLaws.{lead-reads}
 use borrow.Author.Needs.{needs}
 use lib.ListN.{getD}

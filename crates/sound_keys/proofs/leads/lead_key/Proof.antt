@@ -1,7 +1,6 @@
 use Prim.Native.Nat.{_≤_}
-use Rattle.pagestore.specs.Layout.{leafOf}
-use Rattle.pagestore.specs.LayoutLaws.{noRecord}
-use Rattle.pagestore.specs.declared.Record.{Record}
+use Rattle.pagestore_page.specs.Layout.{leafOf, noRecord}
+use Rattle.pagestore_page.specs.declared.Record.{Record}
 use Rattle.sound_keys.proofs.LeadLaws.{coords-length, lead-height, lead-inside, lead-key, lead-pyramid}
 use borrow.Author.Needs.{needs}
 use lib.ListN.{getD, length}

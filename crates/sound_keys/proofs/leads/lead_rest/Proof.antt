@@ -1,5 +1,5 @@
 use Prim.Native.Nat.{_-_, _≤_, ℕ}
-use Rattle.pagestore.specs.Layout.{leafOf}
+use Rattle.pagestore_page.specs.Layout.{leafOf}
 use Rattle.sound_keys.specs.Leads.{Leads}
 use lib.ListN.{length}
 use mathlib.Core.Path.{_∙_, _≡_, refl, subst}

@@ -3,7 +3,7 @@ use Prim.Native.Nat.{ℕ, _-_, _≤_, min, _<_}
 use native.Mathlib.Nat.{pos-of-ne-zero}
 use native.Mathlib.Omega.{arith}
 use denote.Ref.{now}
-use Rattle.pagestore.specs.declared.Entry.{Entry}
+use Rattle.pagestore_page.specs.declared.Entry.{Entry}
 use Rattle.pagestore.specs.Store.{leafAt, innerAt, entriesIn}
 use Rattle.pagestore.specs.Store.PageLaws.{inner-counts, entries-slots}
 use Rattle.tree_core.specs.Lookup.{findUnder}

@@ -4,7 +4,7 @@ use mathlib.Core.Path.{_≡_, refl, ap, _∙_}
 use native.Mathlib.Omega.{arith}
 use denote.Ref.{now}
 use borrow.Author.Needs.{needs}
-use Rattle.pagestore.specs.declared.Entry.{Entry}
+use Rattle.pagestore_page.specs.declared.Entry.{Entry}
 use Rattle.pagestore.specs.Store.{innerAt, entriesIn}
 use Rattle.tree_core.specs.Lookup.{leafCount}
 use Rattle.tree.proofs.CountLaws.{countFrom, inner-number, swapped, count-most, count-leaf, count-low, count-start, count-next, count-end}

@@ -7,8 +7,8 @@ use lib.Seq.{slice}
 use denote.Ref.{now}
 use Rattle.pagestore.specs.Store.{leafAt, recordsIn}
 use Rattle.pagestore.specs.Store.PageLaws.{records-slots}
-use Rattle.pagestore.specs.declared.Leaf.{Leaf}
-use Rattle.pagestore.specs.declared.Record.{Record}
+use Rattle.pagestore_page.specs.declared.Leaf.{Leaf}
+use Rattle.pagestore_page.specs.declared.Record.{Record}
 use Rattle.tree_core.proofs.DeletionLaws.{delete-is, delete-leaf}
 use borrow.Author.Needs.{needs}
 use Rattle.tree_delete.proofs.deletion.delete_leaf.Statement.{statement}

@@ -3,7 +3,7 @@ use Prim.Native.Nat.{ℕ, _<_}
 use native.Mathlib.Nat.{pos-of-ne-zero}
 use native.Mathlib.Omega.{arith}
 use denote.Ref.{now}
-use Rattle.pagestore.specs.declared.Inner.{Inner}
+use Rattle.pagestore_page.specs.declared.Inner.{Inner}
 use Rattle.pagestore.specs.Store.{entriesIn}
 use Rattle.tree_core.proofs.InsertionLaws.{level-zero, inner-step}
 use borrow.Author.Needs.{needs}

@@ -3,7 +3,7 @@ use native.Mathlib.Omega.{arith}
 use mathlib.Core.List.{List}
 use Rattle.tree_core.proofs.HeldLaws.{held-then, held-is}
 use lib.Seq.{slice}
-use Rattle.pagestore.specs.declared.Entry.{Entry}
+use Rattle.pagestore_page.specs.declared.Entry.{Entry}
 use borrow.Author.Needs.{needs}
 use Rattle.tree_insert.proofs.roots.over_two.Statement.{statement}
 use Rattle.tree_insert.proofs.roots.over_two.Tie as tie

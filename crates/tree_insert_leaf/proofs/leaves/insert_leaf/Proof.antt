@@ -3,7 +3,7 @@ use native.Mathlib.Omega.{arith}
 use lib.ListN.{length}
 use denote.Ref.{now}
 use Rattle.pagestore.specs.Store.{recordsIn}
-use Rattle.pagestore.specs.declared.Leaf.{Leaf}
+use Rattle.pagestore_page.specs.declared.Leaf.{Leaf}
 use Rattle.tree_model.specs.Inserting.{insertRecord}
 use Rattle.tree_core.proofs.HeldLaws.{held-most}
 use Rattle.tree_core.proofs.InsertionLaws.{leaf-step}

@@ -2,7 +2,7 @@ use mathlib.Core.Path.{_≡_, ap}
 use mathlib.Core.List.{List, _++_}
 use lib.ListN.{length}
 use Rattle.tree_core.proofs.HeldLaws.{held-is}
-use Rattle.pagestore.specs.declared.Entry.{Entry}
+use Rattle.pagestore_page.specs.declared.Entry.{Entry}
 use Rattle.tree_items.specs.Items.{heldEntries}
 use Rattle.tree_core.proofs.EntryLaws.{taken-in}
 use borrow.Author.Needs.{needs}

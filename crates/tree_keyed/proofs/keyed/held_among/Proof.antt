@@ -2,7 +2,7 @@ use mathlib.Core.Path.{_≡_, ap, _∙_}
 use Prim.Native.Nat.{min}
 use native.Mathlib.Omega.{arith}
 use denote.Ref.{now}
-use Rattle.pagestore.specs.declared.Record.{Record}
+use Rattle.pagestore_page.specs.declared.Record.{Record}
 use Rattle.pagestore.specs.Store.{leafAt}
 use Rattle.pagestore.specs.Store.PageLaws.{leaf-counts, records-slots}
 use Rattle.tree_core.specs.Keyed.{samePoint}
