@@ -10,6 +10,7 @@ use acts_fields::bytes::NEWLINE;
 use acts_fields::bytes::SPACE;
 use acts_fields::bytes::ZERO;
 use acts_fields::bytes::put_bytes;
+use search_rows::MAX_ROWS;
 
 mod rows;
 
@@ -18,7 +19,6 @@ pub use rows::put_rows;
 // The most bytes of a line of output: five numbers of 64 bits, each with a byte behind it.
 pub const MAX_LINE: usize = 105;
 // The rows lent to a question.
-pub const MAX_ROWS: usize = 64;
 // The most bytes that a line of input prints.
 pub const MAX_PRINTED: usize = MAX_ROWS * MAX_LINE;
 

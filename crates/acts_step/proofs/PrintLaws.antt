@@ -19,7 +19,7 @@ use Rattle.acts_text.proofs.NameLaws.{names-kept}
 use Rattle.acts_step.specs.Steps.{indexBytes, Steps, Begins, ends, begins}
 use Rattle.acts_step.specs.Advances.{Does, first, later, Closes, closed, last, Goings, Advances, Hands, Fresh}
 use Rattle.acts_step.specs.Advances as goings
-use Rattle.acts_step.specs.Texts.{Tabulated, firstOf, laterOf, Prints}
+use Rattle.acts_step.specs.Texts.{Runs, firstOf, laterOf, Prints}
 use Rattle.acts_step.specs.Texts as texts
 use Rattle.acts_buffer.specs.declared.Progress.{Progress}
 use Rattle.acts_step.proofs.StepLaws.{lent, few-features}
@@ -49,11 +49,11 @@ begins-kept {l = l} (begins z e f g) = begins z (e ∙ names-kept l) f g
 module _ (b i : List ℕ) where
   -- the first line's text, and that of the later lines
   goes-on : (d : ℕ) (l made s c u : List ℕ) (ks : List (List ℕ)) → kept (firstOf (linesOf i)) ≡ l → map kept (laterOf (linesOf i)) ≡ ks → d ≢ 0
-      → Begins b l d made s → Tabulated d made 2 ks c u → Prints b i c (s ++ u)
+      → Begins b l d made s → Runs d made 2 ks c u → Prints b i c (s ++ u)
   goes-on d l made s c u ks e f z g r =
       texts.goes d made s u z
       (begins-kept (subst (λ (x : List ℕ). Begins b x d made s) (sym e) g))
-      (runs-kept (laterOf (linesOf i)) (subst (λ (x : List (List ℕ)). Tabulated d made 2 x c u) (sym f) r))
+      (runs-kept (laterOf (linesOf i)) (subst (λ (x : List (List ℕ)). Runs d made 2 x c u) (sym f) r))
       refl
 
   stops : (l c s : List ℕ) → kept (firstOf (linesOf i)) ≡ l → (d : ℕ) → d ≡ 0 → Begins b l d c s → Prints b i c s
@@ -73,13 +73,13 @@ goings-going goings.end e = e
 goings-going (goings.next h r) e = refl
 
 goings-runs : {d n d' n' : ℕ} {b c t : List ℕ} {g g' : Bool} {ls : List (List ℕ)} → 2 ≤ n → Goings d n b g ls d' n' c g' t
-    → Tabulated d b n ls c t × ((d' ≡ d) × (n' ≡ n + length ls))
+    → Runs d b n ls c t × ((d' ≡ d) × (n' ≡ n + length ls))
 goings-runs low goings.end = (texts.end, (refl, omega arith))
 goings-runs low (goings.next (first z g h) r) = absurd (omega arith)
 goings-runs {c = c} low (goings.next {n = n} {m = m} {t = t} {ls = ls} (later z e st h) r) =
     let w = goings-runs (omega arith) r in
     let k = w .1 .1 in
-    (texts.next st (subst (λ (x : ℕ). Tabulated x m (n + 1) ls c t) e (w .0)), (w .1 .0 ∙ e, omega arith))
+    (texts.next st (subst (λ (x : ℕ). Runs x m (n + 1) ls c t) e (w .0)), (w .1 .0 ∙ e, omega arith))
 
 -- the line that the end of input ends, if there is one
 data Last (d n : ℕ) (m l c u : List ℕ) : Type 0 where
@@ -95,14 +95,14 @@ last-none : (l : List ℕ) → l ≡ [] → lastLine l ≡ []
 unfolding lastLine
 last-none l z = rw z
 
-last-runs : (d n d' n' : ℕ) (m l c u : List ℕ) → d' ≡ d → n' ≡ n → 2 ≤ n → Last d' n' m l c u → Tabulated d m n (lastLine l) c u
+last-runs : (d n d' n' : ℕ) (m l c u : List ℕ) → d' ≡ d → n' ≡ n → 2 ≤ n → Last d' n' m l c u → Runs d m n (lastLine l) c u
 last-runs d n d' n' m l c u e f low (none z y x w) =
-    subst (λ (k : List (List ℕ)). Tabulated d m n k c u) (sym (last-none l y)) (subst (Tabulated d m n [] c) (sym w) (subst (λ (k : List ℕ). Tabulated d m n [] k []) (sym x) texts.end))
+    subst (λ (k : List (List ℕ)). Runs d m n k c u) (sym (last-none l y)) (subst (Runs d m n [] c) (sym w) (subst (λ (k : List ℕ). Runs d m n [] k []) (sym x) texts.end))
 last-runs d n d' n' m l c u e f low (some w (first z g h)) = absurd (omega arith)
 last-runs d n d' n' m l c u e f low (some (inl w) (later z y st h)) = absurd (z w)
 last-runs d n d' n' m l c u e f low (some (inr w) (later z y st h)) =
     let st' : Steps d m n l c u = subst (λ (k : ℕ). Steps k m n l c u) e (subst (λ (k : ℕ). Steps d' m k l c u) f st) in
-    subst (λ (k : List (List ℕ)). Tabulated d m n k c u) (sym (last-line l w)) (subst (Tabulated d m n (l ∷ []) c) (append-nil u) (texts.next st' texts.end))
+    subst (λ (k : List (List ℕ)). Runs d m n k c u) (sym (last-line l w)) (subst (Runs d m n (l ∷ []) c) (append-nil u) (texts.next st' texts.end))
 
 -- ---- ALL LINES
 
@@ -119,10 +119,10 @@ prints-all {b = b} {i = i} {m = m} {c = c} {l = l} {u = u} {n = n} {d' = d'} {n'
     (goings.next {d₁ = d₁} {l = x} {m = made} {s = s} {t = t} {g₁ = g₁} {ls = ls} (first z g h) r) e f k =
     let w = goings-runs (let v : 2 ≤ n + 1 = omega arith in v) r in
     let v = first-kept (linesOf i) x (ls ++ lastLine l) f in
-    let all : Tabulated d₁ made (n + 1) (ls ++ lastLine l) c (t ++ u) = runs-append (w .0) (last-runs d₁ (n + 1 + length ls) d' n' m l c u (w .1 .0) (w .1 .1) (omega arith) k) in
+    let all : Runs d₁ made (n + 1) (ls ++ lastLine l) c (t ++ u) = runs-append (w .0) (last-runs d₁ (n + 1 + length ls) d' n' m l c u (w .1 .0) (w .1 .1) (omega arith) k) in
     let two : n + 1 ≡ 2 = omega arith in
     subst (Prints b i c) (sym (append-assoc s t u))
-    (goes-on b i d₁ x made s c (t ++ u) (ls ++ lastLine l) (v .0) (v .1) (named d₁ g₁ (goings-going r e) h) g (subst (λ (y : ℕ). Tabulated d₁ made y (ls ++ lastLine l) c (t ++ u)) two all))
+    (goes-on b i d₁ x made s c (t ++ u) (ls ++ lastLine l) (v .0) (v .1) (named d₁ g₁ (goings-going r e) h) g (subst (λ (y : ℕ). Runs d₁ made y (ls ++ lastLine l) c (t ++ u)) two all))
 
 -- what the end of input prints
 abbrev lastText : {b held out : List ℕ} {s : Progress} {c out' : List ℕ} {r : Progress} → Closes b held out s c out' r → List ℕ
@@ -212,5 +212,5 @@ prints-stands b i c t len (texts.ends (begins z e f g)) = absurd (z refl)
 prints-stands b i c t len (texts.goes d made s u z (ends n y e f) r w) = absurd (z y)
 prints-stands b i c t len (texts.goes d made s u z (begins y e f g) r w) =
     let few = few-features (firstOf (linesOf i)) d e z in
-    let run : Tabulated d (newIndex b d) 2 (laterOf (linesOf i)) c u = subst (λ (x : List ℕ). Tabulated d x 2 (laterOf (linesOf i)) c u) f r in
+    let run : Runs d (newIndex b d) 2 (laterOf (linesOf i)) c u = subst (λ (x : List ℕ). Runs d x 2 (laterOf (linesOf i)) c u) f r in
     inr (d, (runs-series run .0, text-stands b d (lent b len) (few .0) (few .1) run))

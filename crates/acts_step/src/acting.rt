@@ -5,11 +5,11 @@ ghost use Rattle.index_query.specs.Asking.{questionOf};
 ghost use Rattle.index.specs.Acts.{insert, delete};
 ghost use Rattle.acts_output.specs.Puts.{mostPrinted, Puts};
 ghost use Rattle.acts_step.specs.Steps.{askedBy, Acted, Replies};
-use acts_output::MAX_ROWS;
 use acts_output::put_result;
 use acts_output::put_rows;
 use acts_text::ActLine;
 use index_query::Criteria;
+use search_rows::MAX_ROWS;
 
 // Inserts, and prints the line of it.
 fn insert_line(

@@ -8,8 +8,8 @@ use index_answer::Answer;
 use index_answer::Tally;
 use index_answer::deliver;
 use index_query::Criteria;
-use index_query::MAX_ROWS;
 use index_trusted::refused;
+use search_rows::MAX_ROWS;
 use search_rows::Row;
 
 // A question before it is handed over, with so many rows lent: its rows, as distances and tags, go to two arrays.

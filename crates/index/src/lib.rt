@@ -3,7 +3,7 @@
 // itself. A caller that also keeps the identifiers and their points may insert and delete without a look for the identifier (`index_vouched`).
 use index_answer::Answer;
 use index_answer::Tally;
-use index_query::MAX_ROWS;
+use search_rows::MAX_ROWS;
 use search_rows::Row;
 
 mod asking;

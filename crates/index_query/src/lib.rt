@@ -9,8 +9,6 @@ use geometry_slices::asked::ask;
 use search::Query;
 
 // The most rows that a question may ask for.
-pub const MAX_ROWS: usize = 64;
-
 // What is asked of a point.
 pub struct Criteria {
     pub k: usize, // how many of its nearest

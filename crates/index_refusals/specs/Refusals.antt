@@ -15,7 +15,7 @@ use Rattle.geometry.specs.Numbers.{maxFeatures}
 use Rattle.pagestore_page.specs.declared.Record.{Record}
 use Rattle.pagestore.specs.Store.{viewOf, freeAt}
 use Rattle.tree_model.specs.Trees.{identOf, live}
-use Rattle.tree_model.specs.Sound.{Permitted, SoundIndex}
+use Rattle.tree_model.specs.Sound.{Permitted, SoundIndex, maxPoints}
 use Rattle.tree_core.specs.Insertion.{pagesWanted}
 use Rattle.tree_laws.specs.DeletePromises.{deleteIdent}
 use Rattle.tree_laws.specs.SpacePromises.{treePages}
@@ -79,10 +79,6 @@ fewRows = 11
 
 abbrev pub noPageToEven : ℕ
 noPageToEven = 12
-
--- the most points of an index
-abbrev pub maxPoints : ℕ
-maxPoints = 65535
 
 -- b: the bytes lent. d: features. i: an identifier. p: a point. w: a question. n: rows lent.
 

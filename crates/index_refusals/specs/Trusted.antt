@@ -14,15 +14,12 @@ use lib.ListN.{length}
 use Rattle.geometry.specs.Stored.{inRange}
 use Rattle.geometry.specs.Numbers.{maxFeatures}
 use Rattle.pagestore.specs.Store.{viewOf, fieldAt, level, freeAt}
-use Rattle.tree_model.specs.Sound.{Permitted}
+use Rattle.tree_model.specs.Sound.{Permitted, maxPoints}
 use Rattle.tree_core.specs.Insertion.{pagesWanted}
 use Rattle.tree_core.specs.Lookup.{findIn}
 use Rattle.index_query.specs.Asking.{Question}
-use Rattle.index_refusals.specs.Refusals.{Rule, maxPoints, recordOf, askedRules, badLength, unsound, badFeatures, badCoordinate, zeroId, alreadyLive, notLive, full, noPages}
-
--- the highest level of a root: 65,535 records fill no more
-abbrev pub maxLevel : ℕ
-maxLevel = 4
+use Rattle.index_refusals.specs.Refusals.{Rule, recordOf, askedRules, badLength, unsound, badFeatures, badCoordinate, zeroId, alreadyLive, notLive, full, noPages}
+use Rattle.search_model.specs.Numbers.{maxLevel}
 
 -- the point p has as many coordinates as the index b has features: 1 to 16
 abbrev pub Suits : List ℕ → List ℤ → Type 0

@@ -10,14 +10,15 @@ use Rattle.lists.specs.Tests.{decide}
 use Rattle.pagestore_page.specs.declared.Record.{Record}
 use Rattle.pagestore.specs.Store.{viewOf, fieldAt, level, freeAt}
 use Rattle.tree_model.specs.Trees.{live}
-use Rattle.tree_model.specs.Sound.{Permitted, SoundIndex}
+use Rattle.tree_model.specs.Sound.{Permitted, SoundIndex, maxPoints}
 use Rattle.tree_core.specs.Lookup.{findIn}
 use Rattle.tree_laws.specs.LookupPromises.{find-ident, find-none}
 use Rattle.search_model.proofs.SoundLaws.{tree-level}
 use Rattle.index_query.specs.Asking.{Question}
-use Rattle.index_refusals.specs.Refusals.{Rule, First, maxPoints, liveTimes, pagesToRebalance, insertRules, deleteRules, questionRules, askedRules, badLength, unsound, zeroId, notLive, noPageToEven}
+use Rattle.index_refusals.specs.Refusals.{Rule, First, liveTimes, pagesToRebalance, insertRules, deleteRules, questionRules, askedRules, badLength, unsound, zeroId, notLive, noPageToEven}
 use Rattle.index_refusals.specs.RefusalLaws.{rebalancing-takes-none, all-hold, put-in, later, Carried, asked-carried}
-use Rattle.index_refusals.specs.Trusted.{maxLevel, Suits, trustedInsert, trustedDelete, trustedQuestion, numbers}
+use Rattle.index_refusals.specs.Trusted.{Suits, trustedInsert, trustedDelete, trustedQuestion, numbers}
+use Rattle.search_model.specs.Numbers.{maxLevel}
 
 -- ---- THE NUMBERS: THE ACT'S, IN ITS ORDER; A DELETE'S BUT FOR 12, ITS LAST
 

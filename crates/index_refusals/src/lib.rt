@@ -14,15 +14,19 @@ ghost use Rattle.index_refusals.specs.Trusted.{trustedPoint, pairRules, 
 use geometry::MAX_FEATURES;
 use geometry::points::slots_of;
 use index_query::Criteria;
-use index_query::MAX_ROWS;
+use pagestore::MAX_POINTS;
+use pagestore::PAGE_SIZE;
 use pagestore::Record;
 use pagestore::features_of;
 use pagestore::free_count;
+use pagestore::fresh_count;
 use pagestore::fresh_page;
 use pagestore::in_range;
 use pagestore::page_count;
 use pagestore::root_level;
 use pagestore::total_records;
+use search_model::MAX_LEVEL;
+use search_rows::MAX_ROWS;
 use tree::find;
 use tree::pages_wanted;
 
@@ -49,17 +53,10 @@ pub const BAD_K: u32 = 10; // k is out of range
 
 pub const FEW_ROWS: u32 = 11; // fewer than k rows are lent
 
-// The fewest and the most bytes of an index, and those of a page.
+// The fewest and the most bytes of an index.
 const MIN_BYTES: usize = 2 * PAGE_SIZE;
 
 const MAX_BYTES: usize = 16384 * PAGE_SIZE;
-
-const PAGE_SIZE: usize = 1024;
-
-// The most points of an index, and the highest level of its root.
-const MAX_POINTS: u32 = 65535;
-
-pub const MAX_LEVEL: u8 = 4;
 
 // Whether this many bytes are 2 to 16,384 whole pages.
 pub fn permitted(bytes: usize) -> bool
@@ -168,22 +165,11 @@ pub fn refuse_pair(index: &[u8], id: u32, point: &[i16]) -> u32
     0
 }
 
-// The pages never used.
-fn fresh_left(index: &[u8]) -> u32
-    ensures { λ r. ⌜ r ≡ length (freshAt (now (index .entry))) ⌝ }
-{
-    let fresh = fresh_page(index);
-    if in_range(index, fresh) {
-        return page_count(index) - fresh;
-    }
-    0
-}
-
 // Whether fewer pages are free than are wanted. The chain of freed pages is followed only where the pages never used are too few.
 fn too_few(index: &[u8], wanted: u32) -> bool
     ensures { λ r. ⌜ Decides (length (freeAt (now (index .entry))) < wanted) r ⌝ }
 {
-    if wanted <= fresh_left(index) {
+    if wanted <= fresh_count(index) {
         return false;
     }
     if wanted <= free_count(index) {

@@ -10,14 +10,15 @@ use lib.ListN.{length}
 use Rattle.geometry.specs.Stored.{inRange}
 use Rattle.pagestore.specs.Store.{viewOf, fieldAt, level, freeAt}
 use Rattle.tree_model.specs.Trees.{pointIn}
-use Rattle.tree_model.specs.Sound.{Permitted}
+use Rattle.tree_model.specs.Sound.{Permitted, maxPoints}
 use Rattle.tree_core.specs.Insertion.{pagesWanted}
 use Rattle.tree_core.specs.Deletion.{deleteFrom}
 use Rattle.tree_core.specs.Lookup.{findIn}
 use Rattle.tree_core.specs.Keyed.{holdsAt}
-use Rattle.index_refusals.specs.Refusals.{Rule, First, maxPoints, recordOf, liveTimes, badLength, unsound, badFeatures, badCoordinate, zeroId, notLive, full, noPages}
+use Rattle.index_refusals.specs.Refusals.{Rule, First, recordOf, liveTimes, badLength, unsound, badFeatures, badCoordinate, zeroId, notLive, full, noPages}
 use Rattle.index_refusals.specs.Outcomes.{unlessRefused, insertedWith}
-use Rattle.index_refusals.specs.Trusted.{maxLevel, Suits}
+use Rattle.index_refusals.specs.Trusted.{Suits}
+use Rattle.search_model.specs.Numbers.{maxLevel}
 
 abbrev pub vouchedInsert : List ℕ → ℕ → List ℤ → List Rule
 vouchedInsert b i p =

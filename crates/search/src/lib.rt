@@ -8,13 +8,13 @@ ghost use Rattle.search_model.specs.Asked.{asking};
 use crate::visit::best_first;
 use crate::visit::reads_none;
 use geometry_bounds::bounds::prepare;
+use geometry_slices::ASKED_PLACES;
+use geometry_slices::REACHES_FROM;
 use pagestore::total_records;
-use search_model::FEATURE_PLACES;
 use search_model::FEW_RECORDS;
 use search_model::LARGE_ROOM;
 use search_model::MANY_RECORDS;
 use search_model::MIDDLE_ROOM;
-use search_model::REACHES_FROM;
 use search_model::SMALL_ROOM;
 
 mod visit;
@@ -26,7 +26,7 @@ const WHOLE_PLACES: usize = 32;
 
 // What is asked: the features, laid out in one list as `geometry_slices::asked::ask` does it, their number, and how many rows.
 pub struct Query {
-    pub features: [u16; FEATURE_PLACES],
+    pub features: [u16; ASKED_PLACES],
     pub d: usize,
     pub k: usize,
 }

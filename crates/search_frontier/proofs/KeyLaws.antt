@@ -9,10 +9,10 @@ use borrow.Author.Tests.{lt-ltb, le-ltb}
 use Rattle.lists.specs.Tests.{three, by-cases}
 use Rattle.lists.specs.Sorting.{insertBy}
 use Rattle.lists.specs.Orders.{lower, higher, by-lower, by-equal, by-higher, lex-first, lex-second, lex-last}
-use Rattle.search_model.specs.Numbers.{maxPages, maxLevel}
+use Rattle.search_model.specs.Numbers.{maxLevel}
 use Rattle.search_model.specs.Branches.{Branch, lastPlace, boundOf, placeOf, levelOf, pageOf, higherFirst, tied, before, pageIn}
 use Rattle.search_frontier.specs.Keys.{levels, places, keyOf, boundIn, placeIn, levelIn, numberIn, branchIn}
-use Rattle.pagestore.specs.Store.{inRange}
+use Rattle.pagestore.specs.Store.{inRange, maxPages}
 use Rattle.pagestore.specs.Store.RangeLaws.{range-fits}
 
 -- ---- PAGES IN RANGE

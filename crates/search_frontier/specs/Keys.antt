@@ -2,8 +2,9 @@
 use mathlib.Core.List.{List, map}
 use Prim.Native.Nat.{ℕ, _+_, _*_, _-_, _/_, _%_, _≤_, _<_}
 use Rattle.search_heap.specs.Heap.{held}
-use Rattle.search_model.specs.Numbers.{maxPages, maxLevel}
+use Rattle.search_model.specs.Numbers.{maxLevel}
 use Rattle.search_model.specs.Branches.{Branch, lastPlace}
+use Rattle.pagestore.specs.Store.{maxPages}
 
 -- how many levels and positions there are
 abbrev pub levels : ℕ

@@ -1,10 +1,11 @@
 // The frontier: keys of branches in a heap.
 ghost use mathlib.Core.Path.{_≡_};
 ghost use Prim.Native.Nat.{_≤_, _<_, min};
-ghost use Rattle.search_model.specs.Numbers.{maxPages, maxLevel};
+ghost use Rattle.search_model.specs.Numbers.{maxLevel};
 ghost use Rattle.search_model.specs.Branches.{lastPlace, pageIn};
 ghost use Rattle.search_frontier.specs.Keys.{boundIn, placeIn, levelIn, numberIn, keyOf, Fits};
 ghost use Rattle.search_frontier.specs.Opening.{Tabled, SpanBound, EntryKey, Opens, OpenedAny};
+ghost use Rattle.pagestore.specs.Store.{maxPages};
 use geometry::Key;
 use geometry::Pair;
 use geometry_bounds::bounds::bound;

@@ -10,8 +10,7 @@ use Rattle.geometry.specs.Points.{distance}
 use Rattle.geometry.specs.Stored.{pointOf}
 use Rattle.geometry.specs.Numbers.{maxFeatures}
 use Rattle.pagestore_page.specs.declared.Record.{Record}
-use Rattle.pagestore_page.specs.Layout.{leafOf, noRecord}
-use Rattle.search_model.specs.Numbers.{pageSize, maxItems}
+use Rattle.pagestore_page.specs.Layout.{leafOf, noRecord, maxItems, pageSize}
 use Rattle.search_rows.specs.declared.Row.{Row}
 use Rattle.search_rows.specs.Held.{behindAll}
 

@@ -4,9 +4,9 @@ ghost use mathlib.Core.Path.{_≡_};
 ghost use Prim.Native.Nat.{_+_, _*_, _≤_, _<_};
 ghost use lib.IntN.{pos, natAbs, _-ℤ_};
 ghost use lib.ListN.{length, getD};
-ghost use Rattle.search_model.specs.Numbers.{pageSize, maxItems};
 ghost use Rattle.search_leaves.specs.Columns.{coordsAt, gapSquare, mostCost, Sums, Quarters};
 ghost use Rattle.geometry.specs.Numbers.{maxFeatures};
+ghost use Rattle.pagestore_page.specs.Layout.{maxItems, pageSize};
 use pagestore::read_coord;
 
 // The gap of two stored coordinates, in 16 bits with its sign: so much a lane of the loops below holds.

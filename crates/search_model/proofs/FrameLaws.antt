@@ -22,6 +22,7 @@ use Rattle.search_model.specs.Asked.{Asked, spanBound, Askable}
 use Rattle.search_model.specs.Branches.{Branch, lastPlace, isLeaf, pageIn, branches, opened, kids}
 use Rattle.search_model.specs.Questions.{leafBound, leafBranch}
 use Rattle.search_model.proofs.RecordLaws.{Right, from-first, to-last, span-part}
+use Rattle.tree_model.specs.TreeLaws.{concatMap-records}
 
 -- the inner pages of c hold the tree t of level l; its leaves are pages
 unfoldable pub Frame : List ℕ → ℕ → (l : ℕ) → Item (suc l) → Type 0
@@ -35,11 +36,6 @@ Branching (suc l) t = (2 ≤ length (t .1)) × All (Branching l) (t .1)
 
 pub not-leaf : (l : ℕ) → eqb (suc l) 0 ≡ false
 not-leaf l = ne-eqb (suc l) 0 (omega arith)
-
-pub concatMap-records : (rs : List Record) → concatMap (records 0) rs ≡ rs
-unfolding concatMap records
-concatMap-records [] = refl
-concatMap-records (r ∷ rs) = ap (λ (z : List Record). r ∷ z) (concatMap-records rs)
 
 pub leaf-records : (t : Item 1) → records 1 t ≡ t .1
 unfolding records

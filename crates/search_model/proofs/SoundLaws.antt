@@ -23,7 +23,8 @@ use Rattle.pagestore.specs.Store.RangeLaws.{range-high}
 use Rattle.tree_model.specs.Trees.{Item, records, pages, leaves, entryOf, node, Rep, treeAt, treeOf, live, leavesOf}
 use Rattle.tree_model.specs.Sound.{isPage, freshPages, RootFilled, Filled, SoundIndex}
 use Rattle.search_model.specs.Numbers.{maxLevel}
-use Rattle.search_model.proofs.FrameLaws.{Frame, Branching, Ordered, ordered-kids, concatMap-records, leaf-records, parts-right}
+use Rattle.search_model.proofs.FrameLaws.{Frame, Branching, Ordered, ordered-kids, leaf-records, parts-right}
+use Rattle.tree_model.specs.TreeLaws.{concatMap-records, tree-page}
 
 -- ---- A TREE AND ITS LEAVES
 
@@ -144,11 +145,6 @@ module _ (b : List ℕ) where
   records-stored l t r =
       rw (records-leaves l t)
       (all-concatMap leafItems (leaves l t) (all-map (λ u (e : recordsIn (leafAt b (u .0)) ≡ u .1). rw e at (records-fit b (u .0))) (leaves-hold l t r)))
-
-pub tree-page : (l : ℕ) (v : View) (p : ℕ) → treeAt l v p .0 ≡ p
-unfolding treeAt
-tree-page zero v p = refl
-tree-page (suc l) v p = refl
 
 module _ (b : List ℕ) (s : SoundIndex b) where
   abbrev v : View

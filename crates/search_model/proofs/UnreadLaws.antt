@@ -31,6 +31,7 @@ use Rattle.search_model.proofs.FrameLaws.{Frame, parts-right, leafBranc
 use Rattle.search_model.proofs.DescentLaws.{branch-order}
 use Rattle.search_model.proofs.SoundLaws.{tree-frame, tree-header, tree-once}
 use Rattle.search_model.proofs.VisitedLaws.{indexLeaves, Like, like-self, found-like, leaves-some, rows-all, floors, found-none}
+use Rattle.tree_model.specs.TreeLaws.{no-pages}
 
 -- ---- PAGES OF THE TREE
 
@@ -40,11 +41,6 @@ pageOf u = u .0
 unfoldable innerPages : (l : ℕ) → Item (suc l) → List ℕ
 innerPages zero t = []
 innerPages (suc l) t = t .0 ∷ concatMap (innerPages l) (t .1)
-
-no-pages : (rs : List Record) → concatMap (pages 0) rs ≡ []
-unfolding concatMap pages
-no-pages [] = refl
-no-pages (r ∷ rs) = no-pages rs
 
 split-list : (p l : ℕ) (ts : List (Item (suc l))) → All (λ t. mult p (pages (suc l) t) ≡ mult p (innerPages l t) + mult p (map pageOf (leaves l t))) ts
     → mult p (concatMap (pages (suc l)) ts) ≡ mult p (concatMap (innerPages l) ts) + mult p (map pageOf (concatMap (leaves l) ts))

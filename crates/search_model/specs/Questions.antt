@@ -16,10 +16,10 @@ use Rattle.search_rows.specs.declared.Row.{Row}
 use Rattle.pagestore_page.specs.declared.Record.{Record}
 use Rattle.pagestore.specs.Store.{View}
 use Rattle.tree_model.specs.Trees.{Item, firstKey, lastKey, live, leavesOf}
-use Rattle.search_model.specs.Numbers.{pageSize}
 use Rattle.search_model.specs.Asked.{Asked, candidate, spanBound}
 use Rattle.search_model.specs.Branches.{Branch, before, rowsAmong}
 use Rattle.search_model.specs.Visit.{ranking, Answer, placed}
+use Rattle.pagestore_page.specs.Layout.{pageSize}
 
 -- the rows of leaves, the first of them at position p
 unfoldable pub rowsFrom : Asked → ℕ → List (Item 1) → List Row

@@ -5,6 +5,9 @@ ghost use lib.ListN.{length};
 ghost use Rattle.search_rows.specs.Rows.{rowOrder, rowOf, tagOf};
 ghost use Rattle.search_rows.specs.Held.{behindAll, GivesWay, Held, Offered};
 
+// The most rows that a question may ask for.
+pub const MAX_ROWS: usize = 64;
+
 // A row (01): the squared distance and the identifier of a record, and the position of the leaf that holds it.
 #[repr(C)]
 pub struct Row {

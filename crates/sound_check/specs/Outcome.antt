@@ -4,9 +4,9 @@ use mathlib.Core.List.{List}
 use Prim.Native.Nat.{ℕ, _≤_}
 use lib.ListN.{length}
 use Rattle.pagestore.specs.Store.{View, viewOf}
-use Rattle.tree_model.specs.Sound.{Permitted, SoundIndex}
+use Rattle.tree_model.specs.Sound.{Permitted, SoundIndex, maxPoints}
 use Rattle.tree_model.specs.Trees.{live}
-use Rattle.sound_faults.specs.Faults.{maxPoints, IsPage, RootFill, Reached, FailsAt}
+use Rattle.sound_faults.specs.Faults.{IsPage, RootFill, Reached, FailsAt}
 use Rattle.sound_faults.specs.Linked.{HeaderFine, Linked, PageFine, InState}
 use Rattle.sound_links.specs.Marks.{Marked, Clear, MarksAre, FreedOk}
 use Rattle.sound_visit.specs.Collect.{Gathered}

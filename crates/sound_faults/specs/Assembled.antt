@@ -19,12 +19,12 @@ use Rattle.pagestore_page.specs.declared.Record.{Record}
 use Rattle.pagestore_page.specs.declared.Entry.{Entry}
 use Rattle.pagestore.specs.Store.{Page, leaf, inner, levelOf, fillOf, recordsOf, entriesOf, View}
 use Rattle.tree_model.specs.Trees.{Item, records, pages, rankOf, identOf, entryOf, node, Rep, treeAt, treeOf, live}
-use Rattle.tree_model.specs.TreeLaws.{fill-node}
+use Rattle.tree_model.specs.TreeLaws.{fill-node, no-pages, concatMap-records, tree-page}
 use Rattle.tree_model.specs.Sound.{Permitted, isPage, freshPages, Filled, RootFilled, RecordOk, Sound}
 use Rattle.sound_faults.specs.Faults.{IsPage, Freed, RootFill, firstKeyIn, lastKeyIn, ends, ranksIn, Rooted, Reached, EntryAt}
 use Rattle.sound_faults.specs.Stored.{Counted, Stored}
 use Rattle.sound_faults.specs.Linked.{Linked, PageFine, InState, Followed}
-use Rattle.sound_faults.specs.Shapes.{childOf, kids, idents, itemRanks, named-once, indicator-same, page-tree, root-is, records-held, first-node, last-node, kids-asc, own-records, no-pages}
+use Rattle.sound_faults.specs.Shapes.{childOf, kids, idents, itemRanks, named-once, indicator-same, root-is, records-held, first-node, last-node, kids-asc}
 
 -- ---- PAGES BY THEIR ITEMS
 
@@ -92,7 +92,7 @@ module _ (v : View) (st : Stored v) (c : Linked v) where
       let lv : levelOf (v .page (e .child)) ≡ l = omega (arith, ok .level, k) in
       let b = f (e .child) re lv in
       let t : Item (suc l) = treeAt l v (e .child) in
-      let z : t .0 ≡ e .child = page-tree l v (e .child) in
+      let z : t .0 ≡ e .child = tree-page l v (e .child) in
       let pg : v .page (e .child) ≡ node (v .d) l (t .1) = ap (v .page) (sym z) ∙ b .rep .0 in
       let n : fillOf (v .page (e .child)) ≡ length (t .1) = ap fillOf pg ∙ fill-node (v .d) l (t .1) in
       let some : 0 < length (t .1) = omega (arith, ok .fill .0) in
@@ -156,8 +156,8 @@ module _ (v : View) (st : Stored v) (c : Linked v) where
         let rs : List Record = recordsOf (v .page p) in
         let pg : v .page p ≡ leaf (length rs) rs = leaf-of (v .page p) k (st .items p) (fill-most h) in
         record {
-          order = subst (λ (z : List Record). Ascending (map (rankOf (v .d)) z)) (sym (own-records rs)) (subst (λ (x : Page). Ascending (ranksIn (v .d) x)) pg (fine p h .order));
-          ranges = subst (All (RecordOk (v .d))) (sym (own-records rs)) (fine p h .records);
+          order = subst (λ (z : List Record). Ascending (map (rankOf (v .d)) z)) (sym (concatMap-records rs)) (subst (λ (x : Page). Ascending (ranksIn (v .d) x)) pg (fine p h .order));
+          ranges = subst (All (RecordOk (v .d))) (sym (concatMap-records rs)) (fine p h .records);
         }
     sorted (suc l) p h k =
         let es : List Entry = entriesOf (v .page p) in

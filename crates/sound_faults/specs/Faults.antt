@@ -12,24 +12,12 @@ use Rattle.geometry.specs.Keys.{keyNumber}
 use Rattle.geometry.specs.Numbers.{maxFeatures}
 use Rattle.pagestore_page.specs.declared.Record.{Record}
 use Rattle.pagestore_page.specs.declared.Entry.{Entry}
-use Rattle.pagestore_page.specs.Layout.{noEntry}
+use Rattle.pagestore_page.specs.Layout.{noEntry, maxItems, pageSize}
 use Rattle.pagestore.specs.Store.{Page, leaf, inner, levelOf, fillOf, recordsOf, entriesOf, View}
-use Rattle.tree_model.specs.Trees.{rankOf, firstKey, lastKey, live}
-use Rattle.tree_model.specs.Sound.{RecordOk}
+use Rattle.tree_model.specs.Trees.{rankOf, firstKey, lastKey, live, minItems}
+use Rattle.tree_model.specs.Sound.{RecordOk, maxPoints}
 
 -- ---- NUMBERS OF THE FORMAT: bytes of a page; records or entries of one; features; the greatest magnitude of a coordinate; points
-
-abbrev pub pageSize : ℕ
-pageSize = 1024
-
-abbrev pub minItems : ℕ
-minItems = 8
-
-abbrev pub maxItems : ℕ
-maxItems = 16
-
-abbrev pub maxPoints : ℕ
-maxPoints = 65535
 
 -- ---- PAGES
 

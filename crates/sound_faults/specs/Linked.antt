@@ -9,7 +9,8 @@ use Rattle.lists.specs.Ascending.{Ascending}
 use Rattle.pagestore_page.specs.declared.Entry.{Entry}
 use Rattle.pagestore.specs.Store.{levelOf, recordsOf, View}
 use Rattle.tree_model.specs.Sound.{RecordOk}
-use Rattle.sound_faults.specs.Faults.{pageSize, IsPage, Features, Freed, RootFill, NodeFill, firstKeyIn, lastKeyIn, ranksIn, Reached, EntryAt}
+use Rattle.sound_faults.specs.Faults.{IsPage, Features, Freed, RootFill, NodeFill, firstKeyIn, lastKeyIn, ranksIn, Reached, EntryAt}
+use Rattle.pagestore_page.specs.Layout.{pageSize}
 
 -- the header's fields, each by itself
 pub record HeaderFine (v : View) : Type 0 where

@@ -20,10 +20,10 @@ use Rattle.pagestore_page.specs.declared.Record.{Record}
 use Rattle.pagestore_page.specs.declared.Entry.{Entry}
 use Rattle.pagestore.specs.Store.{Page, levelOf, fillOf, recordsOf, entriesOf, View}
 use Rattle.tree_model.specs.Trees.{Item, records, pages, rankOf, identOf, entryOf, node, Rep, treeOf, live}
-use Rattle.tree_model.specs.TreeLaws.{fill-node, rep-level}
+use Rattle.tree_model.specs.TreeLaws.{fill-node, rep-level, no-pages, concatMap-records}
 use Rattle.tree_model.specs.Sound.{isPage, freshPages, Filled, RootFilled, RecordOk, Sound}
 use Rattle.sound_faults.specs.Faults.{IsPage, Freed, Fresh, RootFill, firstKeyIn, lastKeyIn, ranksIn, Reached, EntryAt, RecordAt, EntryFault, FailsAt}
-use Rattle.sound_faults.specs.Shapes.{childOf, kids, idents, ranks, itemRanks, named-once, indicator-same, root-is, records-held, no-pages, own-records, first-node, last-node, asc-node}
+use Rattle.sound_faults.specs.Shapes.{childOf, kids, idents, ranks, itemRanks, named-once, indicator-same, root-is, records-held, first-node, last-node, asc-node}
 use Rattle.sound_faults.specs.Assembled.{is-page}
 
 page-is : (v : View) (q : ℕ) → 0 < indicator (isPage v q) → IsPage v q
@@ -236,7 +236,7 @@ module _ (v : View) (s : Sound v) where
   holds p h = let t = sits p h in go (t .level) (t .items) (t .page) (t .ranges)
     where
       go : (l : ℕ) (ts : List (Item l)) → v .page p ≡ node (v .d) l ts → All (RecordOk (v .d)) (concatMap (records l) ts) → All (RecordOk (v .d)) (recordsOf (v .page p))
-      go zero ts x o = subst (λ (z : Page). All (RecordOk (v .d)) (recordsOf z)) (sym x) (subst (All (RecordOk (v .d))) (own-records ts) o)
+      go zero ts x o = subst (λ (z : Page). All (RecordOk (v .d)) (recordsOf z)) (sym x) (subst (All (RecordOk (v .d))) (concatMap-records ts) o)
       go (suc l) ts x o = subst (λ (z : Page). All (RecordOk (v .d)) (recordsOf z)) (sym x) none
 
   ident-sum : (c : ℕ) → sum (λ p. mult c (idents v p)) ps ≤ 1

@@ -20,6 +20,7 @@ use Rattle.pagestore.specs.Store.{Page, recordsOf, entriesOf, View}
 use Rattle.tree_model.specs.Trees.{Item, records, pages, keyOf, rankOf, identOf, noRecord, firstKey, lastKey, entryOf, node, Rep, treeAt, treeOf}
 use Rattle.tree_model.specs.Sound.{Filled}
 use Rattle.sound_faults.specs.Faults.{firstKeyIn, lastKeyIn, ends, ranksIn}
+use Rattle.tree_model.specs.TreeLaws.{no-pages, concatMap-records, tree-page}
 
 abbrev pub childOf : Entry → ℕ
 childOf e = e .child
@@ -35,16 +36,6 @@ kids-node : (d l : ℕ) (ts : List (Item (suc l))) → map childOf (map (entryOf
 unfolding entryOf
 kids-node d l [] = refl
 kids-node d l (t ∷ ts) = ap (λ (z : List ℕ). t .0 ∷ z) (kids-node d l ts)
-
-pub no-pages : (rs : List Record) → concatMap (pages 0) rs ≡ []
-unfolding pages concatMap
-no-pages [] = refl
-no-pages (r ∷ rs) = no-pages rs
-
-pub own-records : (rs : List Record) → concatMap (records 0) rs ≡ rs
-unfolding records concatMap
-own-records [] = refl
-own-records (r ∷ rs) = ap (λ (z : List Record). r ∷ z) (own-records rs)
 
 -- ---- PAGES: the root of a tree, and those named in its pages
 
@@ -71,15 +62,10 @@ module _ (v : View) (c : ℕ) where
       let ih = named-kids l (pages-named l) (t .1) (r .1) in
       omega arith
 
-pub page-tree : (l : ℕ) (v : View) (p : ℕ) → treeAt l v p .0 ≡ p
-unfolding treeAt
-page-tree zero v p = refl
-page-tree (suc l) v p = refl
-
 -- the same of the whole tree
 pub root-is : (v : View) → treeOf v .0 ≡ v .root
 unfolding treeOf
-root-is v = page-tree (v .level) v (v .root)
+root-is v = tree-page (v .level) v (v .root)
 
 module _ (v : View) (r : Rep (suc (v .level)) v (treeOf v)) where
   abbrev ps : List ℕ
@@ -108,7 +94,7 @@ module _ (g : List Record → ℕ) (zip : g [] ≡ 0) (both : (xs ys : List Reco
   unfolding records pages sum Rep node
   records-held zero t r =
       let k : g (recordsOf (v .page (t .0))) ≡ g (t .1) = ap (λ (x : Page). g (recordsOf x)) (r .0) in
-      let e : g (concatMap (records 0) (t .1)) ≡ g (t .1) = ap g (own-records (t .1)) in
+      let e : g (concatMap (records 0) (t .1)) ≡ g (t .1) = ap g (concatMap-records (t .1)) in
       rw (no-pages (t .1)) (omega arith)
   records-held (suc l) t r =
       let k : g (recordsOf (v .page (t .0))) ≡ 0 = ap (λ (x : Page). g (recordsOf x)) (r .0) ∙ zip in
@@ -138,7 +124,7 @@ module _ (d : ℕ) where
 
   pub two-records : (l : ℕ) (t : Item (suc l)) → Filled (suc l) t → 2 ≤ length (records (suc l) t)
   unfolding Filled records concatMap
-  two-records zero t f = omega (arith, ap length (own-records (t .1)), f .0)
+  two-records zero t f = omega (arith, ap length (concatMap-records (t .1)), f .0)
   two-records (suc l) t f = many (t .1) (f .0) (f .2) (two-records l)
     where
       many : (ts : List (Item (suc l))) → 8 ≤ length ts → All (Filled (suc l)) ts → ((u : Item (suc l)) → Filled (suc l) u → 2 ≤ length (records (suc l) u))
@@ -165,12 +151,12 @@ module _ (d : ℕ) where
 
   pub first-node : (l : ℕ) (ts : List (Item l)) → 0 < length ts → All (Filled l) ts → firstKeyIn d (node d l ts) ≡ firstKey d (concatMap (records l) ts)
   unfolding node
-  first-node zero ts n a = ap (firstKey d) (sym (own-records ts))
+  first-node zero ts n a = ap (firstKey d) (sym (concatMap-records ts))
   first-node (suc l) ts n a = first-kids l ts n a
 
   pub last-node : (l : ℕ) (ts : List (Item l)) → 0 < length ts → All (Filled l) ts → lastKeyIn d (node d l ts) ≡ lastKey d (concatMap (records l) ts)
   unfolding node lastKey concatMap lastOr entryOf
-  last-node zero ts n a = ap (lastKey d) (sym (own-records ts))
+  last-node zero ts n a = ap (lastKey d) (sym (concatMap-records ts))
   last-node (suc l) [] n a = absurd (omega arith)
   last-node (suc l) (t ∷ ts) n (also h a) =
       last-kids l (entryOf d l t) (lastOr noRecord (records (suc l) t)) ts refl a
@@ -226,7 +212,7 @@ module _ (d : ℕ) where
   -- where the records ascend, so do the keys in the page
   pub asc-node : (l : ℕ) (ts : List (Item l)) → All (Filled l) ts → Ascending (ranks (concatMap (records l) ts)) → Ascending (ranksIn d (node d l ts))
   unfolding node
-  asc-node zero ts a h = subst (λ (z : List Record). Ascending (ranks z)) (own-records ts) h
+  asc-node zero ts a h = subst (λ (z : List Record). Ascending (ranks z)) (concatMap-records ts) h
   asc-node (suc l) ts a h = asc-kids l ts a h
 
   -- where the keys in the page and the records of each child ascend, so do all records

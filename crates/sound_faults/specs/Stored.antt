@@ -10,7 +10,8 @@ use Rattle.pagestore.specs.Store.{Page, leaf, inner, View, viewOf, pageAt, leve
 use Rattle.pagestore.specs.Store.PageLaws.{leaf-page, inner-page, records-slots, entries-slots}
 use Rattle.pagestore.specs.Store.RangeLaws.{range-low, range-high}
 use Rattle.pagestore.specs.Store.FreeLaws.{freed-range}
-use Rattle.sound_faults.specs.Faults.{maxItems, IsPage, Freed}
+use Rattle.sound_faults.specs.Faults.{IsPage, Freed}
+use Rattle.pagestore_page.specs.Layout.{maxItems}
 
 abbrev pub Counted : Page → Type 0
 Counted (leaf n rs) = n ≤ maxItems → length rs ≡ n

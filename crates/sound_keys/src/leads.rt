@@ -2,9 +2,8 @@
 ghost use mathlib.Core.Path.{_≡_};
 ghost use Prim.Native.Nat.{_+_, _-_, _*_, _<_, _≤_};
 ghost use lib.ListN.{length, getD};
-ghost use Rattle.pagestore_page.specs.Layout.{leafOf, noRecord};
+ghost use Rattle.pagestore_page.specs.Layout.{leafOf, noRecord, maxItems, pageSize};
 ghost use Rattle.tree_model.specs.Trees.{keyOf};
-ghost use Rattle.sound_faults.specs.Faults.{pageSize, maxItems};
 ghost use Rattle.sound_keys.specs.Leads.{leadOf, leadTo, Leads};
 ghost use Rattle.geometry.specs.Numbers.{maxFeatures};
 use geometry::Height;

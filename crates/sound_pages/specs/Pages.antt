@@ -9,10 +9,11 @@ use Rattle.lists.specs.AscendingLaws.{headNo, lastNo}
 use Rattle.geometry.specs.Keys.{keyNumber}
 use Rattle.pagestore_page.specs.declared.Entry.{Entry}
 use Rattle.pagestore.specs.Store.{View}
-use Rattle.sound_faults.specs.Faults.{maxItems, IsPage, Freed, Fresh, ranksIn, Reached, EntryAt, EntryFault, FailsAt}
+use Rattle.sound_faults.specs.Faults.{IsPage, Freed, Fresh, ranksIn, Reached, EntryAt, EntryFault, FailsAt}
 use Rattle.sound_faults.specs.Linked.{EntryFine, PageFine, InState}
 use Rattle.lists.specs.Judges.{Judges, Found}
 use Rattle.sound_links.specs.Marks.{Marked, Seen, MarksAre, FreedMarks}
+use Rattle.pagestore_page.specs.Layout.{maxItems}
 
 -- the followed pages below k are fine, each by itself, and their first and last keys are kept as numbers
 pub record PagesFine (v : View) (firsts lasts : List ℕ) (k : ℕ) : Type 0 where

@@ -6,10 +6,11 @@ use lib.Dec.{eqb}
 use lib.ListN.{length, getD, take}
 use Rattle.lists.specs.Basics.{if}
 use Rattle.pagestore.specs.Store.{recordsOf, View}
-use Rattle.sound_faults.specs.Faults.{maxItems, FailsAt}
+use Rattle.sound_faults.specs.Faults.{FailsAt}
 use Rattle.lists.specs.Judges.{Found}
 use Rattle.sound_pages.specs.Pages.{PagesFine}
 use Rattle.sound_visit.specs.declared.Findings.{Findings}
+use Rattle.pagestore_page.specs.Layout.{maxItems}
 
 abbrev pub identOn : ℕ × ℕ → ℕ
 identOn x = x .0

@@ -5,8 +5,8 @@ use crate::numbers::CLUSTERED;
 use crate::numbers::TIED;
 use crate::numbers::WIDE;
 use crate::numbers::leap;
+use search_rows::MAX_ROWS;
 use std::num::wrapping_add_u64;
-use test_parts::MAX_ROWS;
 use test_parts::show;
 
 // Every fourth question of a batch is asked from anywhere.

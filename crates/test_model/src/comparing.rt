@@ -11,9 +11,9 @@ use crate::leaves::set_count;
 use crate::scan::measure;
 use crate::scan::take;
 use index_answer::Answer;
+use search_rows::MAX_ROWS;
 use search_rows::Row;
 use search_rows::row_of;
-use test_parts::MAX_ROWS;
 
 // 1 if a row is not the one that the scan finds next, or is not held by the leaf at its position.
 fn compare_row(index: &[u8], pages: &[u32], distances: &mut [u64], row: Row) -> u64

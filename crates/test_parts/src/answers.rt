@@ -1,8 +1,8 @@
 // Lines of an answer, of its rows, of a tally and of a leaf, each number beside the one that 01 says.
-use crate::MAX_ITEMS;
 use crate::show::line;
 use index_answer::Answer;
 use index_answer::Tally;
+use pagestore::MAX_ITEMS;
 use pagestore::leaf_at;
 use search_rows::Row;
 

@@ -2,8 +2,8 @@
 ghost use mathlib.Core.Path.{_≡_};
 ghost use Prim.Native.Nat.{_≤_, _<_};
 ghost use lib.ListN.{length};
-use crate::MAX_ITEMS;
 use pagestore::Inner;
+use pagestore::MAX_ITEMS;
 use pagestore::inner_at;
 use pagestore::root_level;
 use pagestore::root_page;

@@ -5,12 +5,12 @@ ghost use lib.ListN.{length};
 ghost use Rattle.test_model.specs.Comparing.{Counts, Lent, Points, pairs};
 use index_answer::Answer;
 use index_query::Criteria;
+use search_rows::MAX_ROWS;
 use test_model::Asked;
 use test_model::Seen;
 use test_model::comparing::compare;
 use test_model::comparing::prepare;
 use test_model::numbers::point_at;
-use test_parts::MAX_ROWS;
 
 // The question for the k nearest of the point with these places.
 fn ask(index: &[u8], q: &[u16], d: usize, k: usize, near: &mut [u64], tags: &mut [u64]) -> Answer

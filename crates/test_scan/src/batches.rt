@@ -7,6 +7,7 @@ use crate::asking::ask_from;
 use crate::filling::delete_points;
 use crate::filling::insert_points;
 use geometry::MAX_FEATURES;
+use pagestore::PAGE_SIZE;
 use test_model::Asked;
 use test_model::Batch;
 use test_model::PAIRS;
@@ -23,7 +24,6 @@ use test_model::numbers::WIDE;
 use test_model::numbers::draw;
 use test_model::numbers::leap;
 use test_model::scan::live_count;
-use test_parts::PAGE_SIZE;
 use test_parts::listing::MAX_LEAVES;
 use test_parts::listing::list_leaves;
 

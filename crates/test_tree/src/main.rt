@@ -1,8 +1,8 @@
 // The tree's examples of 01: d = 1, the identifiers 1 to 17 at 1 to 17, inserted upward.
 ghost use Prim.Native.Nat.{_≤_, _<_};
 use geometry::MAX_FEATURES;
+use pagestore::MAX_ITEMS;
 use pagestore::Record;
-use tree_core::MAX_ITEMS;
 
 // The record of identifier n at n; a slot holds 1,000 more than its coordinate.
 fn record_of(n: u16) -> Record

@@ -22,7 +22,8 @@ use Rattle.pagestore_page.specs.declared.Record.{Record}
 use Rattle.pagestore_page.specs.declared.Entry.{Entry}
 use Rattle.tree_model.specs.Trees.{keyOf, firstKey, lastKey, noRecord}
 use Rattle.tree_model.specs.Inserting.{notAbove, choose}
-use Rattle.tree_core.specs.Entries.{childAt, noKey, noEntry, leafEntry, innerEntry}
+use Rattle.tree_core.specs.Entries.{childAt, leafEntry, innerEntry}
+use Rattle.pagestore_page.specs.Layout.{noKey, noEntry}
 
 -- ---- the slots that a stored count takes in
 

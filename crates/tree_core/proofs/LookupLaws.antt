@@ -21,8 +21,8 @@ use Rattle.pagestore_page.specs.declared.Leaf.{Leaf}
 use Rattle.pagestore_page.specs.declared.Inner.{Inner}
 use Rattle.pagestore.specs.Store.{root, level, leafAt, innerAt, recordsIn, entriesIn, fieldAt}
 use Rattle.tree_model.specs.Deleting.{otherIdent}
-use Rattle.tree_core.specs.Entries.{noEntry}
 use Rattle.tree_core.specs.Lookup.{recordsUnder, withIdent, blank, findUnder, findIn}
+use Rattle.pagestore_page.specs.Layout.{noEntry}
 
 -- ---- in a leaf
 

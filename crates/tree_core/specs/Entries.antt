@@ -7,17 +7,11 @@ use Rattle.geometry.specs.declared.Key.{Key}
 use Rattle.pagestore_page.specs.declared.Record.{Record}
 use Rattle.pagestore_page.specs.declared.Entry.{Entry}
 use Rattle.tree_model.specs.Trees.{firstKey, lastKey}
+use Rattle.pagestore_page.specs.Layout.{noEntry}
 
 -- the child at place i; no page where there is none
 unfoldable pub childAt : List Entry → ℕ → ℕ
 childAt es i = getD (map (λ e. e .child) es) i 0
-
--- where there is no item
-abbrev pub noKey : Key
-noKey = record { pyramid = record { 0 = 0 }; height = record { 0 = 0 }; id = 0 }
-
-abbrev pub noEntry : Entry
-noEntry = record { child = 0; first = noKey; last = noKey }
 
 -- the entry of page p: with the records rs, and with the entries es
 unfoldable pub leafEntry : ℕ → ℕ → List Record → Entry

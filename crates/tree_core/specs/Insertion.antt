@@ -7,9 +7,10 @@ use Rattle.lists.specs.Basics.{if, indicator}
 use Rattle.pagestore_page.specs.declared.Record.{Record}
 use Rattle.pagestore_page.specs.declared.Entry.{Entry}
 use Rattle.pagestore.specs.Store.{features, root, level, total, leafAt, innerAt, countAt, recordsIn, entriesIn, setLeaf, setInner, fieldAt, setField, pageTaken, takePage}
-use Rattle.tree_model.specs.Trees.{maxItems, rankOf}
+use Rattle.tree_model.specs.Trees.{rankOf}
 use Rattle.tree_model.specs.Inserting.{choose, replaced, insertRecord}
 use Rattle.tree_core.specs.Entries.{childAt, leafEntry, innerEntry}
+use Rattle.pagestore_page.specs.Layout.{maxItems}
 
 -- the index after the items of a page or two have been written anew, and the entries of the pages that hold them: one, or two neighbours
 pub record Rewritten : Type 0 where

@@ -5,7 +5,6 @@ ghost use Prim.Native.Nat.{_≤_};
 ghost use Rattle.pagestore.specs.Store.{innerAt, recordsIn, entriesIn};
 ghost use Rattle.tree_model.specs.Inserting.{choose};
 ghost use Rattle.tree_core.specs.Entries.{childAt, leafEntry, innerEntry};
-use crate::keys::filled;
 use crate::keys::filled_at;
 use crate::keys::record_key;
 use geometry::Height;
@@ -16,6 +15,7 @@ use pagestore::Entry;
 use pagestore::Inner;
 use pagestore::Leaf;
 use pagestore::entry_at;
+use pagestore::filled;
 
 // In the inner page at a page number, the place of the last child whose first key is not above the rank, else of the first child.
 pub fn choose_at(index: &[u8], page: u32, rank: u64) -> usize

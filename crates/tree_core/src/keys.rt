@@ -3,22 +3,16 @@ ghost use mathlib.Core.Path.{_≡_};
 ghost use Prim.Native.Nat.{min};
 ghost use Rattle.pagestore.specs.Store.{countAt};
 ghost use Rattle.tree_model.specs.Trees.{keyOf, rankOf};
-use crate::MAX_ITEMS;
 use geometry::Height;
 use geometry::Key;
 use geometry::Pyramid;
 use geometry::keys::key_number;
 use geometry::keys::key_of;
 use geometry::points::pair_of;
+use pagestore::MAX_ITEMS;
 use pagestore::Record;
 use pagestore::count_at;
-
-// Of a stored count, the slots that it takes in.
-pub fn filled(count: usize) -> usize
-    ensures { λ r. ⌜ r ≡ min 16 count ⌝ }
-{
-    if count < MAX_ITEMS { count } else { MAX_ITEMS }
-}
+use pagestore::filled;
 
 // The slots that the count of a page takes in.
 pub fn filled_at(index: &[u8], page: u32) -> usize

@@ -11,16 +11,11 @@ pub use entries::child_of;
 pub use entries::choose_at;
 pub use entries::inner_entry;
 pub use entries::leaf_entry;
-pub use keys::filled;
 pub use keys::filled_at;
 pub use keys::record_rank;
 pub use places::ident_place;
 
 // The greatest and the least number of records or entries of a page; a root may have fewer.
-pub const MAX_ITEMS: usize = 16;
-
-pub const MIN_ITEMS: usize = 8;
-
 // What the items of a page or two have become: one page, or two neighbours.
 pub enum Grown {
     One(Entry),

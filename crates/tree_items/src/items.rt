@@ -13,10 +13,10 @@ use crate::RecordList;
 use pagestore::Entry;
 use pagestore::Inner;
 use pagestore::Leaf;
+use pagestore::MAX_ITEMS;
 use pagestore::Record;
+use pagestore::filled;
 use tree_core::Grown;
-use tree_core::MAX_ITEMS;
-use tree_core::filled;
 
 pub fn lesser(a: usize, b: usize) -> usize
     ensures { λ r. ⌜ r ≡ min a b ⌝ }

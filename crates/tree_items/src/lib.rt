@@ -1,8 +1,8 @@
 // Items gathered one after the other, up to one more than a page holds, and made into pages.
 use pagestore::Entry;
+use pagestore::MAX_ITEMS;
+use pagestore::MIN_ITEMS;
 use pagestore::Record;
-use tree_core::MAX_ITEMS;
-use tree_core::MIN_ITEMS;
 
 mod items;
 

@@ -22,13 +22,13 @@ use Rattle.tree_model.specs.Trees.{Item, records, pages, noRecord, rankOf, entr
 use Rattle.tree_model.specs.Sound.{SoundIndex}
 use Rattle.tree_model.specs.Inserting.{notAbove, choose}
 use Rattle.tree_model.specs.TreeLaws.{no-pages}
-use Rattle.tree_core.specs.Entries.{noEntry}
 use Rattle.tree_laws.specs.Shapes.{Ok, Some, Root, ok-root, records-some, first-rank}
 use Rattle.tree_laws.specs.LevelLaws.{root-level}
 use Rattle.tree_laws.specs.Frames.{Held}
 use Rattle.tree_laws.specs.InsertSim.{inner-items}
 use Rattle.tree_laws.specs.Wholes.{sound-whole}
 use Rattle.tree_laws.specs.SpacePromises.{treePages}
+use Rattle.pagestore_page.specs.Layout.{noEntry}
 
 -- an entry's first key, as a number
 abbrev pub firstRank : Entry → ℕ

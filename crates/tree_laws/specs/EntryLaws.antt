@@ -9,9 +9,10 @@ use Rattle.pagestore_page.specs.declared.Record.{Record}
 use Rattle.pagestore_page.specs.declared.Entry.{Entry}
 use Rattle.tree_model.specs.Trees.{Item, records, noRecord, keyOf, firstKey, lastKey, entryOf}
 use Rattle.tree_model.specs.TreeLaws.{concatMap-records}
-use Rattle.tree_core.specs.Entries.{noEntry, leafEntry, innerEntry}
+use Rattle.tree_core.specs.Entries.{leafEntry, innerEntry}
 use Rattle.tree_laws.specs.Shapes.{Ok, records-some}
 use Rattle.tree_laws.specs.KeysFit.{no-key}
+use Rattle.pagestore_page.specs.Layout.{noEntry}
 
 pub leaf-entry : (d q : ℕ) (rs : List Record) → leafEntry d q rs ≡ entryOf d 0 (q, rs)
 unfolding leafEntry entryOf records

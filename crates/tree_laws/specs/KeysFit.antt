@@ -17,13 +17,8 @@ use Rattle.geometry.specs.Stored.{coordOf, pointOf}
 use Rattle.pagestore_page.specs.declared.Record.{Record}
 use Rattle.pagestore_page.specs.Fits.{RecordFits, KeyFits}
 use Rattle.tree_model.specs.Trees.{noRecord, keyOf, rankOf}
-use Rattle.tree_core.specs.Entries.{noKey}
-
-coord-low : (x : ℕ) → x < 1000 → coordOf x ≡ negsuc (999 - x)
-coord-low x l = rw (lt-ltb x 1000 l) (ap negsuc (let e : 1000 - suc x ≡ 999 - x = omega arith in e))
-
-pub coord-high : (x : ℕ) → 1000 ≤ x → coordOf x ≡ pos (x - 1000)
-coord-high x l = rw (le-ltb x 1000 l)
+use Rattle.geometry.proofs.StoredLaws.{coord-low, coord-high, length-point}
+use Rattle.pagestore_page.specs.Layout.{noKey}
 
 coord-fits : (x : ℕ) → x < 2 ^ 11 → natAbs (coordOf x) < 2 ^ 16
 coord-fits x h =
@@ -35,11 +30,6 @@ height-fits : {xs : List ℕ} → All (λ c. c < 2 ^ 11) xs → heightOf (pointO
 unfolding heightOf pointOf
 height-fits none = omega arith
 height-fits (also {x = x} {xs = xs} h t) = omega (arith, coord-fits x h, height-fits t)
-
-length-point : (xs : List ℕ) → length (pointOf xs) ≡ length xs
-unfolding pointOf
-length-point [] = refl
-length-point (x ∷ xs) = ap suc (length-point xs)
 
 axis-le : (h : ℕ) (p : List ℤ) → axisAt h p ≤ length p
 unfolding axisAt

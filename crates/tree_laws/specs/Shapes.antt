@@ -16,9 +16,10 @@ use Rattle.geometry.specs.Keys.{keyNumber}
 use Rattle.pagestore_page.specs.declared.Record.{Record}
 use Rattle.pagestore_page.specs.declared.Entry.{Entry}
 use Rattle.pagestore_page.specs.Fits.{RecordFits}
-use Rattle.tree_model.specs.Trees.{minItems, maxItems, Item, records, noRecord, firstKey, rankOf, entryOf}
+use Rattle.tree_model.specs.Trees.{minItems, Item, records, noRecord, firstKey, rankOf, entryOf}
 use Rattle.tree_model.specs.Inserting.{noTree, notAbove, choose, chosen}
 use Rattle.tree_core.specs.Entries.{childAt}
+use Rattle.pagestore_page.specs.Layout.{maxItems}
 
 -- a page other than the root, with all below it: 8 to 16 items each, and records that fit
 unfoldable pub Ok : (l : ℕ) → Item l → Type 0

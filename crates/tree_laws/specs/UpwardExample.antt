@@ -25,7 +25,6 @@ use Rattle.tree_model.specs.Inserting.{insertRecord, Shape, chosen, cut, insert
 use Rattle.tree_model.specs.Deleting.{deleteRecord, leftCount, rebalancedItems, leftOf, placePair, deleteTree, collapsed, deletedTree}
 use Rattle.tree_core.specs.Insertion.{insertInto, pagesWanted}
 use Rattle.tree_core.specs.Lookup.{findIn}
-use Rattle.tree_laws.specs.KeysFit.{coord-high}
 use Rattle.tree_laws.specs.Wholes.{shapeAt}
 use Rattle.tree_laws.specs.InsertPromises.{MayInsert, pages-wanted, insert-sound, insert-live, insert-pages, insert-shape, insert-features}
 use Rattle.tree_laws.specs.DeleteTree.{gives, given}
@@ -33,6 +32,7 @@ use Rattle.tree_laws.specs.DeleteRoot.{givenRoot}
 use Rattle.tree_laws.specs.LookupPromises.{find-only}
 use Rattle.tree_laws.specs.DeletePromises.{deleteIdent, pagesGiven, delete-sound, delete-live, delete-pages, delete-shape, delete-features}
 use Rattle.tree_laws.specs.NewPromises.{new-sound, new-live, new-free, new-features, new-shape}
+use Rattle.geometry.proofs.StoredLaws.{coord-high}
 
 -- identifier n at n
 abbrev pub numbered : ℕ → Record

@@ -9,7 +9,8 @@ use Rattle.lists.specs.Sorting.{insertBy}
 use Rattle.geometry.specs.Keys.{keyNumber}
 use Rattle.pagestore_page.specs.declared.Record.{Record}
 use Rattle.pagestore_page.specs.declared.Entry.{Entry}
-use Rattle.tree_model.specs.Trees.{maxItems, Item, rankOf, entryOf}
+use Rattle.tree_model.specs.Trees.{Item, rankOf, entryOf}
+use Rattle.pagestore_page.specs.Layout.{maxItems}
 
 -- a tree with its level
 abbrev pub Shape : Type 0

@@ -10,7 +10,12 @@ use Rattle.lists.specs.Counts.{mult}
 use Rattle.lists.specs.Ascending.{Ascending}
 use Rattle.pagestore_page.specs.declared.Record.{Record}
 use Rattle.pagestore.specs.Store.{View, viewOf}
-use Rattle.tree_model.specs.Trees.{minItems, maxItems, Item, pages, rankOf, identOf, Rep, treeOf, live}
+use Rattle.tree_model.specs.Trees.{minItems, Item, pages, rankOf, identOf, Rep, treeOf, live}
+use Rattle.pagestore_page.specs.Layout.{maxItems}
+
+-- the most records of an index
+abbrev pub maxPoints : ℕ
+maxPoints = 65535
 
 -- a permitted number of bytes: 2 to 16,384 whole pages
 pub record Permitted (bytes : ℕ) : Type 0 where
@@ -53,7 +58,7 @@ pub record Sound (v : View) : Type 0 where
   pub ranges : All (RecordOk (v .d)) (live v)
   pub distinct : (i : ℕ) → mult i (map identOf (live v)) ≤ 1
   pub total : v .total ≡ length (live v)
-  pub most : v .total ≤ 65535
+  pub most : v .total ≤ maxPoints
   -- the chain of freed pages ends, and the never used pages begin within the index
   pub chain : v .rest ≡ 0
   pub fresh : (1 ≤ v .fresh) × (v .fresh ≤ v .count)

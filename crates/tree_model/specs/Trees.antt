@@ -47,9 +47,6 @@ lastKey d rs = keyOf d (lastOr noRecord rs)
 abbrev pub minItems : ℕ
 minItems = 8
 
-abbrev pub maxItems : ℕ
-maxItems = 16
-
 -- an item of level 0 is a record; an item of level l + 1 is a page of level l with its items
 abbrev pub Item : ℕ → Type 0
 Item zero = Record

@@ -2,7 +2,7 @@
 ghost use mathlib.Core.Path.{_≡_};
 ghost use Prim.Native.Nat.{_+_, _≤_};
 ghost use Rattle.tree_model.specs.Deleting.{leftCount, leftOf};
-use tree_core::MIN_ITEMS;
+use pagestore::MIN_ITEMS;
 
 // The left one of child i and its partner, of n children.
 pub fn left_of(i: usize, n: usize) -> usize

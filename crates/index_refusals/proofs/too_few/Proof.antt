@@ -10,13 +10,13 @@ use Rattle.lists.specs.Judges.{pass, fault}
 use Rattle.index_refusals.proofs.too_few.Statement.{statement}
 use Rattle.index_refusals.proofs.too_few.Tie as tie
 
-fresh-left-requires : tie.Need-fresh-left-requires
-fresh-left-requires c κs = search needs
+fresh-count-requires : tie.Need-fresh-count-requires
+fresh-count-requires c κs = search needs
 
 returns : tie.Need-returns
 returns c =
     let a = c .before .before .before .args in let index = now (a .index) in
-    fault (λ (l : length (freeAt index) < a .wanted). omega (arith, free-both index, c .if1 .taken, c .before .fresh-left .ensures))
+    fault (λ (l : length (freeAt index) < a .wanted). omega (arith, free-both index, c .if1 .taken, c .before .fresh-count .ensures))
 
 free-count-requires : tie.Need-free-count-requires
 free-count-requires c κs = search needs
@@ -32,4 +32,4 @@ returns-3 c =
     let few : length (freeAt index) < a .wanted = omega (arith, c .if2 .left, c .before .free-count .ensures) in pass few
 
 pub too-few-spec : {M : Type 1} → statement M
-too-few-spec = tie.close (tie.spec fresh-left-requires returns free-count-requires returns-2 returns-3)
+too-few-spec = tie.close (tie.spec fresh-count-requires returns free-count-requires returns-2 returns-3)

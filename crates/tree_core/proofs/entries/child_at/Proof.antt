@@ -7,7 +7,7 @@ use Rattle.tree_core.proofs.entries.child_at.Statement.{statement}
 use Rattle.tree_core.proofs.entries.child_at.Tie as tie
 use Rattle.tree_core.proofs.entries.child_at.Reads as reads
 use Rattle.tree_core.proofs.entries.child_at.Lts as lts
-use Rattle.tree_core.proofs.keys.filled.Reads as filled-reads
+use Rattle.pagestore.proofs.filled.Reads as filled-reads
 
 filled-requires : tie.Need-filled-requires
 filled-requires c κs = search needs

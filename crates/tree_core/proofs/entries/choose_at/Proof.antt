@@ -8,7 +8,6 @@ use Rattle.lists.specs.Leading.{leading, leading-step, leading-stop, leading-en
 use Rattle.pagestore.specs.Store.{innerAt, entriesIn}
 use Rattle.pagestore.specs.Store.PageLaws.{inner-counts, entries-slots}
 use Rattle.tree_model.specs.Inserting.{choose}
-use Rattle.tree_core.specs.Entries.{noEntry}
 use Rattle.tree_core.proofs.EntryLaws.{lowFirst, choose-start, length-filled}
 use borrow.Author.Needs.{needs}
 use Rattle.tree_core.proofs.entries.choose_at.Statement.{statement}
@@ -18,6 +17,7 @@ use Rattle.tree_core.proofs.entries.choose_at.Lts as lts
 use Rattle.geometry.proofs.keys.key_number.Reads as key-number-reads
 use Rattle.pagestore.proofs.entry_at.Reads as entry-at-reads
 use Rattle.tree_core.proofs.keys.filled_at.Reads as filled-at-reads
+use Rattle.pagestore_page.specs.Layout.{noEntry}
 
 abbrev Inv-loop : tie.InvT-loop
 Inv-loop index page rank n at₀ i₀ at i = (n ≡ min 16 (innerAt index page .count)) × (at + 1 ≡ i) × (at ≤ 15) × (at ≤ n)

@@ -1,6 +1,5 @@
 use mathlib.Core.Path.{_≡_, _∙_}
 use lib.ListN.{length}
-use Rattle.tree_core.specs.Entries.{noEntry}
 use Rattle.tree_core.proofs.EntryLaws.{inner-bare, inner-some, head-filled, last-filled}
 use borrow.Author.Needs.{needs}
 use Rattle.lists.specs.Lengths.{unmapped}
@@ -9,7 +8,8 @@ use Rattle.tree_core.proofs.entries.inner_entry.Tie as tie
 use Rattle.tree_core.proofs.entries.inner_entry.Reads as reads
 use Rattle.tree_core.proofs.entries.inner_entry.Lts as lts
 use Rattle.tree_core.proofs.entries.bare_entry.Reads as bare-entry-reads
-use Rattle.tree_core.proofs.keys.filled.Reads as filled-reads
+use Rattle.pagestore.proofs.filled.Reads as filled-reads
+use Rattle.pagestore_page.specs.Layout.{noEntry}
 
 filled-requires : tie.Need-filled-requires
 filled-requires c κs = search needs

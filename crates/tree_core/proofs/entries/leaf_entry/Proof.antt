@@ -9,7 +9,7 @@ use Rattle.tree_core.proofs.entries.leaf_entry.Tie as tie
 use Rattle.tree_core.proofs.entries.leaf_entry.Reads as reads
 use Rattle.tree_core.proofs.entries.leaf_entry.Lts as lts
 use Rattle.tree_core.proofs.entries.bare_entry.Reads as bare-entry-reads
-use Rattle.tree_core.proofs.keys.filled.Reads as filled-reads
+use Rattle.pagestore.proofs.filled.Reads as filled-reads
 use Rattle.tree_core.proofs.keys.record_key.Reads as record-key-reads
 
 filled-requires : tie.Need-filled-requires

@@ -11,7 +11,7 @@ use Rattle.tree_core.proofs.keys.record_key.Reads as reads
 use Rattle.tree_core.proofs.keys.record_key.Lts as lts
 use Rattle.geometry.proofs.keys.key_of.Reads as key-of-reads
 use Rattle.geometry.proofs.points.pair_of.Reads as pair-of-reads
-use Rattle.tree_core.proofs.keys.filled.Reads as filled-reads
+use Rattle.pagestore.proofs.filled.Reads as filled-reads
 
 filled-requires : tie.Need-filled-requires
 filled-requires c κs = search needs

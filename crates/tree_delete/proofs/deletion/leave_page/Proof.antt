@@ -11,7 +11,7 @@ use Rattle.tree_delete.proofs.deletion.leave_page.Reads as reads
 use Rattle.tree_delete.proofs.deletion.leave_page.Lts as lts
 use Rattle.pagestore.proofs.set_inner.Reads as set-inner-reads
 use Rattle.tree_core.proofs.inner_entry.Reads as inner-entry-reads
-use Rattle.tree_core.proofs.filled.Reads as filled-reads
+use Rattle.pagestore.proofs.filled.Reads as filled-reads
 
 set-inner-requires : tie.Need-set-inner-requires
 set-inner-requires c κs = search needs

@@ -14,7 +14,7 @@ use Rattle.tree_partner.proofs.left_of.Reads as left-of-reads
 use Rattle.tree_delete.proofs.deletion.replace_pair.Reads as replace-pair-reads
 use Rattle.tree_core.proofs.child_at.Reads as child-at-reads
 use Rattle.tree_rebalance.proofs.rebalance_pages.Reads as rebalance-pages-reads
-use Rattle.tree_core.proofs.filled.Reads as filled-reads
+use Rattle.pagestore.proofs.filled.Reads as filled-reads
 
 filled-requires : tie.Need-filled-requires
 filled-requires c κs = search needs

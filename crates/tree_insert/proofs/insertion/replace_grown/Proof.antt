@@ -16,7 +16,7 @@ use Rattle.tree_insert.proofs.insertion.replace_grown.Lts as lts
 use Rattle.tree_items.proofs.push_grown.Reads as push-grown-reads
 use Rattle.tree_items.proofs.append_entries.Reads as append-entries-reads
 use Rattle.tree_items.proofs.no_entries.Reads as no-entries-reads
-use Rattle.tree_core.proofs.filled.Reads as filled-reads
+use Rattle.pagestore.proofs.filled.Reads as filled-reads
 
 filled-requires : tie.Need-filled-requires
 filled-requires c κs = search needs

@@ -16,7 +16,7 @@ use Rattle.tree_insert_leaf.proofs.leaves.place_of.Reads as place-of-re
 use Rattle.tree_items.proofs.append_records.Reads as append-records-reads
 use Rattle.tree_items.proofs.no_records.Reads as no-records-reads
 use Rattle.tree_items.proofs.push_record.Reads as push-record-reads
-use Rattle.tree_core.proofs.filled.Reads as filled-reads
+use Rattle.pagestore.proofs.filled.Reads as filled-reads
 
 filled-requires : tie.Need-filled-requires
 filled-requires c κs = search needs

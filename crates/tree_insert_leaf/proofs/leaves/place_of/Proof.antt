@@ -14,7 +14,7 @@ use Rattle.tree_insert_leaf.proofs.leaves.place_of.Statement.{statement
 use Rattle.tree_insert_leaf.proofs.leaves.place_of.Tie as tie
 use Rattle.tree_insert_leaf.proofs.leaves.place_of.Reads as reads
 use Rattle.tree_insert_leaf.proofs.leaves.place_of.Lts as lts
-use Rattle.tree_core.proofs.filled.Reads as filled-reads
+use Rattle.pagestore.proofs.filled.Reads as filled-reads
 use Rattle.tree_core.proofs.record_rank.Reads as record-rank-reads
 
 abbrev Inv-loop : tie.InvT-loop

@@ -9,7 +9,7 @@ use Rattle.tree_keyed.proofs.keyed.same_point.Statement.{statement}
 use Rattle.tree_keyed.proofs.keyed.same_point.Tie as tie
 use Rattle.tree_keyed.proofs.keyed.same_point.Reads as reads
 use Rattle.tree_keyed.proofs.keyed.same_point.Lts as lts
-use Rattle.tree_core.proofs.filled.Reads as filled-reads
+use Rattle.pagestore.proofs.filled.Reads as filled-reads
 
 abbrev Inv-loop : tie.InvT-loop
 Inv-loop d n xs ys m₀ m = (n ≡ min 16 d) × (length xs ≡ 16) × (length ys ≡ 16) × (m ≤ n) × Rests d xs ys m

@@ -17,7 +17,7 @@ use Rattle.tree_rebalance.proofs.rebalancing.beyond.Reads as beyond-rea
 use Rattle.tree_items.proofs.add_records.Reads as add-records-reads
 use Rattle.tree_items.proofs.leaf_of.Reads as leaf-of-reads
 use Rattle.tree_items.proofs.no_records.Reads as no-records-reads
-use Rattle.tree_core.proofs.filled.Reads as filled-reads
+use Rattle.pagestore.proofs.filled.Reads as filled-reads
 
 filled-requires : tie.Need-filled-requires
 filled-requires c κs = search needs

@@ -16,7 +16,7 @@ use Rattle.tree_rebalance.proofs.rebalancing.first_entries.Reads as fir
 use Rattle.tree_rebalance.proofs.rebalancing.last_entries.Reads as last-entries-reads
 use Rattle.tree_rebalance.proofs.rebalancing.put_merged_inner.Reads as put-merged-inner-reads
 use Rattle.tree_rebalance.proofs.rebalancing.put_redistributed_inner.Reads as put-redistributed-inner-reads
-use Rattle.tree_core.proofs.filled.Reads as filled-reads
+use Rattle.pagestore.proofs.filled.Reads as filled-reads
 
 inner-at-requires : tie.Need-inner-at-requires
 inner-at-requires c κs = search needs

@@ -16,7 +16,7 @@ use Rattle.tree_rebalance.proofs.rebalancing.first_records.Reads as fir
 use Rattle.tree_rebalance.proofs.rebalancing.last_records.Reads as last-records-reads
 use Rattle.tree_rebalance.proofs.rebalancing.put_merged_leaf.Reads as put-merged-leaf-reads
 use Rattle.tree_rebalance.proofs.rebalancing.put_redistributed_leaf.Reads as put-redistributed-leaf-reads
-use Rattle.tree_core.proofs.filled.Reads as filled-reads
+use Rattle.pagestore.proofs.filled.Reads as filled-reads
 
 leaf-at-requires : tie.Need-leaf-at-requires
 leaf-at-requires c κs = search needs
