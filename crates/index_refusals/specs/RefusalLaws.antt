@@ -34,7 +34,7 @@ unfolding count
 none-new ys none = refl
 none-new ys (also {x = q} h a) = let z = none-new ys a in rw (ne-eqb (mult q ys) 0 (λ e. omega (arith, h, e))) (omega arith)
 
--- rebalancing out two leaves takes no page: on a sound index each page that a delete leaves in the tree was in it before
+-- evening out two leaves takes no page: on a sound index each page that a delete leaves in the tree was in it before
 pub rebalancing-takes-none : (b : List ℕ) (i : ℕ) → SoundIndex b → 0 < liveTimes b i → pagesToRebalance b i ≡ 0
 unfolding pagesToRebalance
 rebalancing-takes-none b i s h = none-new _ (all-of-mult _ (λ q g. omega (arith, pages-given b i s h q)))

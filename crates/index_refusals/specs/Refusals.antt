@@ -38,7 +38,7 @@ recordOf i p = record { id = i; coords = slotsOf p }
 abbrev pub liveTimes : List ℕ → ℕ → ℕ
 liveTimes b i = mult i (map identOf (live (viewOf b)))
 
--- how many pages the delete of identifier i takes for rebalancing out: those in the tree afterwards that are not in it before
+-- how many pages the delete of identifier i takes for evening out: those in the tree afterwards that are not in it before
 unfoldable pub pagesToRebalance : List ℕ → ℕ → ℕ
 pagesToRebalance b i = count (λ p. eqb (mult p (treePages b)) 0) (treePages (deleteIdent b i))
 
