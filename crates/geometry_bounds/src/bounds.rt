@@ -40,8 +40,8 @@ pub fn prepare(asked: &[u16], near: &mut [u16], whole: &mut [u64])
     fill_whole(asked, near, whole);
 }
 
-// The least distance to pyramid i at heights lo ..= hi, or at lo where hi is below it. Where its nearest height is one of them, it is that to
-// the whole pyramid.
+// The least distance to pyramid i at heights lo ..= hi, or at lo where hi is below it. Where its nearest height is one of them, it is that
+// to the whole pyramid.
 fn least_in(asked: &[u16], near: &[u16], whole: &[u64], i: usize, lo: u16, hi: u16) -> u64
     requires { ⌜ Ready (now asked) (now near) (now whole)
         × (i < sizeOf (now asked) + sizeOf (now asked)) × (lo ≤ maxCoordinate) × (hi ≤ maxCoordinate) ⌝ }

@@ -23,7 +23,8 @@ use geometry_slices::WEIGHTS_FROM;
 
 // The tables of the lanes, and the bisection over them.
 fn search_lanes(asked: &[u16], falls: &mut [u16], weights: &mut [u16], heights: &mut [u16])
-    requires { ⌜ Bounded (now asked) × Blank tablePlaces (now falls) × (length (now weights) ≡ tablePlaces) × Blank maxLanes (now heights) ⌝ }
+    requires { ⌜ Bounded (now asked) × Blank tablePlaces (now falls) × (length (now weights) ≡ tablePlaces)
+        × Blank maxLanes (now heights) ⌝ }
     ensures { λ _. ⌜ Nearest (askedOf (now (asked .entry))) (now (heights .exit)) × (length (now (heights .exit)) ≡ maxLanes) ⌝ }
 {
     let d = asked.len() - REACHES_FROM;

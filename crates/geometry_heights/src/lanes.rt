@@ -55,7 +55,8 @@ fn side_fall(m: u16, j: u16, before: u16, after: u16) -> u16
 
 // What coordinate m falls by in each lane, but for its own axis.
 fn fill_lanes(falls: &mut [u16], axes: &[u16], m: usize, n: usize, reach: u16)
-    requires { ⌜ (m < maxFeatures) × (n ≤ maxLanes) × (reach ≤ 1001) × (length (now falls) ≡ tablePlaces) × (length (now axes) ≡ maxLanes) ⌝ }
+    requires { ⌜ (m < maxFeatures) × (n ≤ maxLanes) × (reach ≤ 1001) × (length (now falls) ≡ tablePlaces)
+        × (length (now axes) ≡ maxLanes) ⌝ }
     ensures { λ _. ⌜ Filled (sideIn (now (axes .entry)) m reach) (maxLanes * m) n (now (falls .entry)) (now (falls .exit)) ⌝ }
 {
     let before = odd(reach);
