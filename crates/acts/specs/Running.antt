@@ -74,7 +74,8 @@ pub data Ends (b held out i : List ℕ) (s : Progress) (index out' : List ℕ) (
   -- by its first line
   early : {held' left : List ℕ} → Hands b held out i s index held' out' left r w → r .going ≡ false → Ends b held out i s index out' r w
   -- with the input, whose end ends a last line
-  late : {m held' out₁ : List ℕ} {t : Progress} → Hands b held out i s m held' out₁ [] t w → t .going ≡ true → Closes m held' out₁ t index out' r → Ends b held out i s index out' r w
+  late : {m held' out₁ : List ℕ} {t : Progress} → Hands b held out i s m held' out₁ [] t w → t .going ≡ true
+      → Closes m held' out₁ t index out' r → Ends b held out i s index out' r w
 
 -- then what was handed over, and what stands in the buffer, is the text that i calls for
 pub record Printed (b held out i : List ℕ) (s : Progress) (index out' : List ℕ) (r : Progress) : Type 0 where

@@ -33,8 +33,10 @@ pub record Answers (b : List ℕ) (w : Question) (f : Found) : Type 0 where
   pub grid : (x : List ℤ) → distTo (sought w .features) x ≡ distance (w .point) x
   -- the number of leaves in demand 3's set
   pub leaves : f .leaves ≡ count (toRead (viewOf b) (sought w)) (leavesOf (viewOf b))
-  -- these are the leaves holding records whose span has a grid point in range no farther from the point than the last row, or all of them when fewer than k candidates live
-  pub set : All (λ t. (toRead (viewOf b) (sought w) t ≡ true → Called (viewOf b) (sought w) t) × (Called (viewOf b) (sought w) t → toRead (viewOf b) (sought w) t ≡ true)) (leavesOf (viewOf b))
+  -- these are the leaves holding records whose span has a grid point in range no farther from the point than the last row, or all of
+  -- them when fewer than k candidates live
+  pub set : All (λ t. (toRead (viewOf b) (sought w) t ≡ true → Called (viewOf b) (sought w) t)
+      × (Called (viewOf b) (sought w) t → toRead (viewOf b) (sought w) t ≡ true)) (leavesOf (viewOf b))
 
 -- where nothing is known of the index: it does if the index is sound
 abbrev pub AnswersIfSound : List ℕ → Question → Found → Type 0

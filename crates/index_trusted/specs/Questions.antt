@@ -21,7 +21,8 @@ written rows lent = rows ++ drop (length rows) lent
 
 -- What the question w on index b returns and leaves, by its rules. lent, tally: the rows lent and the caller's tally before it;
 -- answers: what is promised of the rows returned and of the count where it is carried out.
-pub record QuestionedBy (rules : List Rule) (answers : Found → Type 0) (b : List ℕ) (w : Question) (lent : List Row) (tally : Tally) (r : Answer) (lent' : List Row) (tally' : Tally) : Type 0 where
+pub record QuestionedBy (rules : List Rule) (answers : Found → Type 0) (b : List ℕ) (w : Question) (lent : List Row) (tally : Tally)
+    (r : Answer) (lent' : List Row) (tally' : Tally) : Type 0 where
   pub first : First rules (r .code)
   pub count : r .count ≡ length (foundWith (r .code) b w .rows)
   pub leaves : r .leaves ≡ foundWith (r .code) b w .leaves

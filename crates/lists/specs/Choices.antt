@@ -1,4 +1,4 @@
--- What holds in both cases of a test holds of a choice; ticks.
+-- What holds in both cases of a test holds of a choice, and of its indicator.
 use mathlib.Core.Path.{_≡_, refl}
 use mathlib.Core.Bool.{Bool, true, false}
 use Prim.Native.Nat.{_≤_, _<_}

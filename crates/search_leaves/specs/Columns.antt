@@ -57,7 +57,8 @@ costSpan page q m (suc n) r = gapSquare (getD q m 0) (getD (coordsAt page r) m 0
 unfoldable pub quartersLeft : List ℕ → List ℕ → ℕ → ℕ → ℕ → ℕ
 unfolding costSpan costFrom
 quartersLeft page q s m r =
-    ((costSpan page q m (s - m) r + costSpan page q (m + s) (s - m) r) + (costSpan page q (m + s + s) (s - m) r + costSpan page q (m + s + s + s) (s - m) r)) + costFrom page q (4 * s) r
+    ((costSpan page q m (s - m) r + costSpan page q (m + s) (s - m) r)
+    + (costSpan page q (m + s + s) (s - m) r + costSpan page q (m + s + s + s) (s - m) r)) + costFrom page q (4 * s) r
 
 -- the sums hold what those cost
 pub record Quarters (page q : List ℕ) (s m n : ℕ) (sums : List ℕ) : Type 0 where
