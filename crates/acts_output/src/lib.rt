@@ -18,7 +18,6 @@ pub use rows::put_rows;
 
 // The most bytes of a line of output: five numbers of 64 bits, each with a byte behind it.
 pub const MAX_LINE: usize = 105;
-// The rows lent to a question.
 // The most bytes that a line of input prints.
 pub const MAX_PRINTED: usize = MAX_ROWS * MAX_LINE;
 

@@ -156,11 +156,6 @@ filled-more g at n xs ys v f l e =
 pub filled-on : (g : ℕ → ℕ → ℕ) (n : ℕ) (xs ys : List ℕ) (v : ℕ) → Filled g 0 n xs ys → n < length ys → v ≡ g n (getD ys n 0) → Filled g 0 (n + 1) xs (set ys n v)
 filled-on g n xs ys v f l e = let z : 0 + n ≡ n = omega arith in rw z at (filled-more g 0 n xs ys v f (omega arith) (rw z e))
 
-pub zero-at : (n x : ℕ) → getD {A = ℕ} (replicate n 0) x 0 ≡ 0
-zero-at zero x = refl
-zero-at (suc n) zero = refl
-zero-at (suc n) (suc x) = zero-at n x
-
 -- the tests of the code
 pub width-0 : (d : ℕ) → d ≤ 1 → 0 ≡ widthOf d
 width-0 d l = rw (le-leb d 1 l)

@@ -84,11 +84,11 @@ unfoldable pub rowAt : List ℕ → ℕ → ℕ → ℕ
 rowAt a j m = if (eqb m j) 0 (getD a (reachesFrom + m) 0 - indicator (ltb j m))
 
 -- where the rows stand in near, after the heights, where that of axis j does, and how many of its places are summed
-abbrev pub rowsFrom : ℕ
-rowsFrom = 2 * maxFeatures
+abbrev pub rowsPlace : ℕ
+rowsPlace = 2 * maxFeatures
 
 abbrev pub rowFrom : ℕ → ℕ
-rowFrom j = rowsFrom + maxFeatures * j
+rowFrom j = rowsPlace + maxFeatures * j
 
 abbrev pub widthOf : ℕ → ℕ
 widthOf d = if (leb d 1) 0 (if (leb d 4) 4 (if (leb d 8) 8 maxFeatures))

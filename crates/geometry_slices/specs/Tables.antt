@@ -6,7 +6,7 @@ use lib.Dec.{ltb, eqb}
 use lib.ListN.{length, getD}
 use Rattle.lists.specs.Basics.{if, indicator}
 use Rattle.geometry.specs.Numbers.{maxFeatures}
-use Rattle.geometry_slices.specs.Questions.{reachesFrom, rowsFrom, rowFrom, nearPlaces, Rows}
+use Rattle.geometry_slices.specs.Questions.{reachesFrom, rowsPlace, rowFrom, nearPlaces, Rows}
 
 -- what is stored at place x of near for the row of axis j, from the reaches
 abbrev pub rowIn : List ℕ → ℕ → ℕ → ℕ → ℕ
@@ -32,10 +32,10 @@ pub record RowRoom (reach places : List ℕ) (n : ℕ) (near : List ℕ) : Type 
 -- ys has the rows of d axes, and before them what xs has
 pub record Rowed (reach : List ℕ) (d n : ℕ) (xs ys : List ℕ) : Type 0 where
   pub long : length ys ≡ length xs
-  pub before : (x : ℕ) → x < rowsFrom → getD ys x 0 ≡ getD xs x 0
+  pub before : (x : ℕ) → x < rowsPlace → getD ys x 0 ≡ getD xs x 0
   pub row : (j m : ℕ) → j < d → m < n → getD ys (rowFrom j + m) 0 ≡ rowIn reach j (rowFrom j + m) 0
 
 -- ys has the rows of the question in a, and before them what xs has
 pub record RowsOver (a xs ys : List ℕ) : Type 0 where
   pub rows : Rows a ys
-  pub before : (x : ℕ) → x < rowsFrom → getD ys x 0 ≡ getD xs x 0
+  pub before : (x : ℕ) → x < rowsPlace → getD ys x 0 ≡ getD xs x 0

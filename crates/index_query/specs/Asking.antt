@@ -14,8 +14,7 @@ use Rattle.search_model.specs.Asked.{Asked, plainly, distanceTo, Seekable}
 use Rattle.search.specs.Steps.{asks}
 use Rattle.index_query.specs.declared.Criteria.{Criteria}
 
--- the most coordinates of a point, and the most rows that a question may ask for
-
+-- the most rows that a question may ask for
 abbrev pub maxRows : ℕ
 maxRows = 64
 

@@ -8,7 +8,6 @@ use geometry::points::slots_of;
 use geometry_slices::asked::ask;
 use search::Query;
 
-// The most rows that a question may ask for.
 // What is asked of a point.
 pub struct Criteria {
     pub k: usize, // how many of its nearest

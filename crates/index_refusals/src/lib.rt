@@ -14,6 +14,7 @@ ghost use Rattle.index_refusals.specs.Trusted.{trustedPoint, pairRules, 
 use geometry::MAX_FEATURES;
 use geometry::points::slots_of;
 use index_query::Criteria;
+use pagestore::MAX_PAGES;
 use pagestore::MAX_POINTS;
 use pagestore::PAGE_SIZE;
 use pagestore::Record;
@@ -56,7 +57,7 @@ pub const FEW_ROWS: u32 = 11; // fewer than k rows are lent
 // The fewest and the most bytes of an index.
 const MIN_BYTES: usize = 2 * PAGE_SIZE;
 
-const MAX_BYTES: usize = 16384 * PAGE_SIZE;
+const MAX_BYTES: usize = MAX_PAGES as usize * PAGE_SIZE;
 
 // Whether this many bytes are 2 to 16,384 whole pages.
 pub fn permitted(bytes: usize) -> bool

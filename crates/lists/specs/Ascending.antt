@@ -37,11 +37,6 @@ module _ {A : Type 0} where
   last-any d e [] l = absurd (omega arith)
   last-any d e (x ∷ xs) l = refl
 
-  pub head-any : (d e : A) (xs : List A) → 0 < length xs → headOr d xs ≡ headOr e xs
-  unfolding headOr
-  head-any d e [] l = absurd (omega arith)
-  head-any d e (x ∷ xs) l = refl
-
   pub last-map : {B : Type 0} (f : A → B) (d : A) (xs : List A) → lastOr (f d) (map f xs) ≡ f (lastOr d xs)
   unfolding lastOr
   last-map f d [] = refl

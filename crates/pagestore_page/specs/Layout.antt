@@ -9,6 +9,7 @@ use Rattle.pagestore_page.specs.declared.Record.{Record}
 use Rattle.pagestore_page.specs.declared.Leaf.{Leaf}
 use Rattle.pagestore_page.specs.declared.Entry.{Entry}
 use Rattle.pagestore_page.specs.declared.Inner.{Inner}
+use Rattle.geometry.specs.Numbers.{maxFeatures}
 
 -- the bytes of a page, and the items, records or entries, that it has room for
 abbrev pub pageSize : ℕ
@@ -54,7 +55,7 @@ identAt i = idents + 4 * i
 
 -- record i of a leaf, and the leaf
 unfoldable pub recordAt : List ℕ → ℕ → Record
-recordAt s i = record { id = leAt 4 s (identAt i); coords = tabulate 16 (λ m. leAt 2 s (coordAt m i) % coordRoom) }
+recordAt s i = record { id = leAt 4 s (identAt i); coords = tabulate maxFeatures (λ m. leAt 2 s (coordAt m i) % coordRoom) }
 
 unfoldable pub leafOf : List ℕ → Leaf
 leafOf s = record { count = byteAt s 1; records = tabulate maxItems (recordAt s) }
@@ -65,7 +66,7 @@ putCoords zero s i cs = s
 putCoords (suc m) s i cs = put (putCoords m s i cs) (coordAt m i) (leBytes 2 (getD cs m 0 % coordRoom))
 
 unfoldable pub putRecord : List ℕ → ℕ → Record → List ℕ
-putRecord s i r = putCoords 16 (put s (identAt i) (leBytes 4 (r .id))) i (r .coords)
+putRecord s i r = putCoords maxFeatures (put s (identAt i) (leBytes 4 (r .id))) i (r .coords)
 
 unfoldable pub putRecords : List ℕ → ℕ → List Record → List ℕ
 putRecords s i [] = s

@@ -29,19 +29,19 @@ use Rattle.search_rows.specs.Rows.{rowOrder}
 use Rattle.search_rows.specs.Held.{rowsIn, behindAll, Held}
 use Rattle.search_rows.proofs.HeldLaws.{behind-exceeds}
 use Rattle.search_model.specs.Asked.{Asked, asking}
-use Rattle.search_model.specs.Branches.{Branch, boundOf, before, isLeaf, branches, opened, kids, rootBranch, rowsAmong, rowsAt, pageIn}
+use Rattle.search_model.specs.Branches.{Branch, branchBound, before, isLeaf, branches, opened, kids, rootBranch, rowsAmong, rowsAt, pageIn}
 use Rattle.search_frontier.specs.Keys.{keyOf, boundIn, placeIn, levelIn, numberIn, branchIn, frontier}
 use Rattle.search_model.specs.Visit.{ranking, Answer, answerOf, room, visited}
 use Rattle.search_frontier.specs.Opening.{Tabled, Opens, Opened}
 use Rattle.search_leaves.specs.Offering.{OfferedAll}
-use Rattle.search.specs.Steps.{Visits, Visited, Turns, firstKey, widened, Goes, Ends, spent, empty, far, full, GoesOn}
+use Rattle.search.specs.Steps.{Visits, Visited, Turns, firstSlot, widened, Goes, Ends, spent, empty, far, full, GoesOn}
 use Rattle.tree.proofs.CountLaws.{items-length}
 use Rattle.search_frontier.proofs.KeyLaws.{page-small, key-back}
 use Rattle.search_model.proofs.RoomLaws.{room-some, room-most}
 
 -- the search from a frontier and rows on, n steps at most
 abbrev seekOn : List ℕ → Asked → ℕ → List Branch → List Row → Outcome Row Branch
-seekOn index q n f s = seek ranking boundOf (rowsAt index q) before isLeaf (kids index q) (q .k) (room index) n f s
+seekOn index q n f s = seek ranking branchBound (rowsAt index q) before isLeaf (kids index q) (q .k) (room index) n f s
 
 -- an outcome where m leaves have been read before
 abbrev after : ℕ → Outcome Row Branch → Answer
@@ -104,14 +104,14 @@ module _ (index slots : List ℕ) (n : ℕ) (distances : List ℕ) (rows k steps
   pub goes-empty : n ≡ 0 → GoesOn index slots n distances rows k steps false
   goes-empty z = record { goes = λ e. false-true e; ends = λ e. empty z }
 
-  module _ (more : steps ≢ 0) (some : n ≢ 0) (b : ℕ) (bound : b ≡ boundIn (firstKey slots)) (t : Bool) (test : t ≡ behindAll distances rows k b) where
-    stops : (r : Bool) → t ≡ r → behindAll distances rows k (boundIn (firstKey slots)) ≡ r
+  module _ (more : steps ≢ 0) (some : n ≢ 0) (b : ℕ) (bound : b ≡ boundIn (firstSlot slots)) (t : Bool) (test : t ≡ behindAll distances rows k b) where
+    stops : (r : Bool) → t ≡ r → behindAll distances rows k (boundIn (firstSlot slots)) ≡ r
     stops r e = rw (← bound) (sym test ∙ e)
 
     pub goes-far : t ≡ true → GoesOn index slots n distances rows k steps false
     goes-far e = record { goes = λ f. false-true f; ends = λ f. far (omega (arith, more)) (omega (arith, some)) (stops true e) }
 
-    module _ (e : t ≡ false) (l : ℕ) (level : l ≡ levelIn (firstKey slots)) where
+    module _ (e : t ≡ false) (l : ℕ) (level : l ≡ levelIn (firstSlot slots)) where
       pub goes-leaf : l ≡ 0 → GoesOn index slots n distances rows k steps true
       goes-leaf z =
           record {
@@ -119,7 +119,7 @@ module _ (index slots : List ℕ) (n : ℕ) (distances : List ℕ) (rows k steps
             ends = λ f. false-true (sym f);
           }
 
-      pub goes-inner : l ≢ 0 → (g m : ℕ) → g ≡ numberIn (firstKey slots) → m ≡ length (entriesIn (innerAt index g)) → GoesOn index slots n distances rows k steps (leb (m + (n - 1)) (length slots))
+      pub goes-inner : l ≢ 0 → (g m : ℕ) → g ≡ numberIn (firstSlot slots) → m ≡ length (entriesIn (innerAt index g)) → GoesOn index slots n distances rows k steps (leb (m + (n - 1)) (length slots))
       goes-inner i g m page entries =
           let w : m + (n - 1) ≡ widened index slots n = rw (← page, ← entries) refl in
           record {
@@ -166,7 +166,7 @@ module _ (index asked table whole : List ℕ) (k : ℕ) (slots₀ distances₀ t
     unfolding branchIn
     visiting-stop x =
         ended index q distances tags rows leaves (seekOn index q (suc (steps - 1)) (branchIn key ∷ others) here)
-        (seek-stop ranking boundOf (rowsAt index q) before isLeaf (kids index q) (q .k) (room index) (steps - 1) (branchIn key) others here x) (v .holds) taken
+        (seek-stop ranking branchBound (rowsAt index q) before isLeaf (kids index q) (q .k) (room index) (steps - 1) (branchIn key) others here x) (v .holds) taken
 
     others-length : length others ≡ n - 1
     others-length = let a = length-map rest branchIn in let b = ap length is in let c = length-held n slots (v .heap) in let e = length-map (held n slots) branchIn in omega arith
@@ -194,20 +194,20 @@ module _ (index asked table whole : List ℕ) (k : ℕ) (slots₀ distances₀ t
         unfolding branchIn
         visiting-full h =
             ended index q distances tags rows leaves (seekOn index q (suc (steps - 1)) (branchIn key ∷ others) here)
-            (seek-full ranking boundOf (rowsAt index q) before isLeaf (kids index q) (q .k) (room index) (steps - 1) (branchIn key) others here goes not-leaf
+            (seek-full ranking branchBound (rowsAt index q) before isLeaf (kids index q) (q .k) (room index) (steps - 1) (branchIn key) others here goes not-leaf
             (let r = kids-room in let w = v .size in omega arith)) (v .holds) taken
 
-  stop-test : (r : Bool) → behindAll distances rows k (boundIn (firstKey slots)) ≡ r → exceeds ranking k (boundIn (firstKey slots)) here ≡ r
-  stop-test r e = sym (behind-exceeds (λ x. true) distances tags rows k (boundIn (firstKey slots)) (v .one) (v .holds .few) (v .holds .room) (v .holds .roomTags)) ∙ e
+  stop-test : (r : Bool) → behindAll distances rows k (boundIn (firstSlot slots)) ≡ r → exceeds ranking k (boundIn (firstSlot slots)) here ≡ r
+  stop-test r e = sym (behind-exceeds (λ x. true) distances tags rows k (boundIn (firstSlot slots)) (v .one) (v .holds .few) (v .holds .room) (v .holds .roomTags)) ∙ e
 
   pub visiting-ends : Ends index slots n distances rows k steps → Visited index q distances tags (record { rows = rows; leaves = leaves })
   unfolding seek sort
   visiting-ends (spent z) = ended index q distances tags rows leaves (seekOn index q steps (frontier n slots) here) (rw z) (v .holds) (v .answer)
   visiting-ends (empty z) =
       ended index q distances tags rows leaves (seekOn index q steps (frontier n slots) here)
-      (rw z (seek-end ranking boundOf (rowsAt index q) before isLeaf (kids index q) (q .k) (room index) steps here)) (v .holds) (v .answer)
-  visiting-ends (far more some s) = let t = held-top n slots (v .heap) some in visiting-stop (firstKey slots) (t .rest) (t .is) more (stop-test true s)
-  visiting-ends (full more some s inner h) = let t = held-top n slots (v .heap) some in visiting-full (firstKey slots) (t .rest) (t .is) more (stop-test false s) inner h
+      (rw z (seek-end ranking branchBound (rowsAt index q) before isLeaf (kids index q) (q .k) (room index) steps here)) (v .holds) (v .answer)
+  visiting-ends (far more some s) = let t = held-top n slots (v .heap) some in visiting-stop (firstSlot slots) (t .rest) (t .is) more (stop-test true s)
+  visiting-ends (full more some s inner h) = let t = held-top n slots (v .heap) some in visiting-full (firstSlot slots) (t .rest) (t .is) more (stop-test false s) inner h
 
   pub visiting-turns : Turns slots n distances rows k
   visiting-turns =
@@ -229,9 +229,9 @@ module _ (index asked table whole : List ℕ) (k : ℕ) (slots₀ distances₀ t
         let rest : List Branch = frontier (n - 1) slots' in
         let o = rw (sp, sg) at offers in
         let t : isLeaf x ≡ true = eq-eqb (levelIn key) 0 (sym sl ∙ z) in
-        let e = seek-read ranking boundOf (rowsAt index q) before isLeaf (kids index q) (q .k) (room index) (steps - 1) x rest here near t in
+        let e = seek-read ranking branchBound (rowsAt index q) before isLeaf (kids index q) (q .k) (room index) (steps - 1) x rest here near t in
         let a : filter (λ y. true) (rowsAt index q x) ≡ rowsAt index q x = filter-all (λ y. true) (rowsAt index q x) (all-every (λ y. refl) (rowsAt index q x)) in
-        let w : offered ranking boundOf (rowsAt index q) (q .k) x here ≡ rowsIn distances' tags' r = ap (λ (ys : List Row). offerAll rowOrder k ys here) a ∙ sym (o .rows) in
+        let w : offered ranking branchBound (rowsAt index q) (q .k) x here ≡ rowsIn distances' tags' r = ap (λ (ys : List Row). offerAll rowOrder k ys here) a ∙ sym (o .rows) in
         let out = seekOn index q (steps - 1) rest (rowsIn distances' tags' r) in
         let c : leaves + length (x ∷ out .read) ≡ leaves + 1 + length (out .read) = omega arith in
         record {
@@ -271,7 +271,7 @@ module _ (index asked table whole : List ℕ) (k : ℕ) (slots₀ distances₀ t
           ∙ (λ i. branches index q (sym sl i - 1) (sym sp i) (entriesIn (innerAt index (sym sg i)))) in
           let fits : length (kids index q (branchIn key)) + length rest ≤ room index =
           rw (← v .size, ← kept) (let a = kids-room key (held (n - 1) slots') (p .least) (g .left) near inner-key in let b = rw sg at open-room in omega arith) in
-          let e = seek-open ranking boundOf (rowsAt index q) before isLeaf (kids index q) (q .k) (room index) (steps - 1) (branchIn key) rest here near (not-leaf key (held (n - 1) slots') (p .least) (g .left) near inner-key) fits in
+          let e = seek-open ranking branchBound (rowsAt index q) before isLeaf (kids index q) (q .k) (room index) (steps - 1) (branchIn key) rest here near (not-leaf key (held (n - 1) slots') (p .least) (g .left) near inner-key) fits in
           record {
             tables = v .tables;
             one = v .one;

@@ -36,26 +36,26 @@ pub record Turns (slots : List ℕ) (n : ℕ) (distances : List ℕ) (rows k : �
   pub room : k ≤ length distances
 
 -- the key of the first branch
-abbrev pub firstKey : List ℕ → ℕ
-firstKey slots = getD slots 0 0
+abbrev pub firstSlot : List ℕ → ℕ
+firstSlot slots = getD slots 0 0
 
 -- how many branches it gives, with those behind it, if it is an inner page
 abbrev pub widened : List ℕ → List ℕ → ℕ → ℕ
-widened index slots n = length (entriesIn (innerAt index (numberIn (firstKey slots)))) + (n - 1)
+widened index slots n = length (entriesIn (innerAt index (numberIn (firstSlot slots)))) + (n - 1)
 
 -- the first branch is taken
 pub record Goes (index slots : List ℕ) (n : ℕ) (distances : List ℕ) (rows k steps : ℕ) : Type 0 where
   pub left : 0 < steps
   pub some : 0 < n
-  pub near : behindAll distances rows k (boundIn (firstKey slots)) ≡ false
-  pub room : levelIn (firstKey slots) ≢ 0 → widened index slots n ≤ length slots
+  pub near : behindAll distances rows k (boundIn (firstSlot slots)) ≡ false
+  pub room : levelIn (firstSlot slots) ≢ 0 → widened index slots n ≤ length slots
 
 -- or the visit ends: no step is left, no branch, the bound of the first exceeds the k-th distance, or there is no room for what it gives
 pub data Ends (index slots : List ℕ) (n : ℕ) (distances : List ℕ) (rows k steps : ℕ) : Type 0 where
   spent : steps ≡ 0 → Ends index slots n distances rows k steps
   empty : n ≡ 0 → Ends index slots n distances rows k steps
-  far : 0 < steps → 0 < n → behindAll distances rows k (boundIn (firstKey slots)) ≡ true → Ends index slots n distances rows k steps
-  full : 0 < steps → 0 < n → behindAll distances rows k (boundIn (firstKey slots)) ≡ false → levelIn (firstKey slots) ≢ 0
+  far : 0 < steps → 0 < n → behindAll distances rows k (boundIn (firstSlot slots)) ≡ true → Ends index slots n distances rows k steps
+  full : 0 < steps → 0 < n → behindAll distances rows k (boundIn (firstSlot slots)) ≡ false → levelIn (firstSlot slots) ≢ 0
       → length slots < widened index slots n → Ends index slots n distances rows k steps
 
 -- r says which

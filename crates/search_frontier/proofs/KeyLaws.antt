@@ -10,7 +10,7 @@ use Rattle.lists.specs.Tests.{three, by-cases}
 use Rattle.lists.specs.Sorting.{insertBy}
 use Rattle.lists.specs.Orders.{lower, higher, by-lower, by-equal, by-higher, lex-first, lex-second, lex-last}
 use Rattle.search_model.specs.Numbers.{maxLevel}
-use Rattle.search_model.specs.Branches.{Branch, lastPlace, boundOf, placeOf, levelOf, pageOf, higherFirst, tied, before, pageIn}
+use Rattle.search_model.specs.Branches.{Branch, lastPlace, branchBound, branchPlace, branchLevel, branchPage, higherFirst, tied, before, pageIn}
 use Rattle.search_frontier.specs.Keys.{levels, places, keyOf, boundIn, placeIn, levelIn, numberIn, branchIn}
 use Rattle.pagestore.specs.Store.{inRange, maxPages}
 use Rattle.pagestore.specs.Store.RangeLaws.{range-fits}
@@ -82,22 +82,22 @@ key-order a b =
     let na : numberIn a < maxPages = omega arith in
     let nb : numberIn b < maxPages = omega arith in
     three (boundIn a) (boundIn b)
-    (λ h. lt-ltb a b (omega arith) ∙ sym (by-lower boundOf tied x y h))
+    (λ h. lt-ltb a b (omega arith) ∙ sym (by-lower branchBound tied x y h))
     (λ h. three (placeIn a) (placeIn b)
-    (λ g. lt-ltb a b (omega arith) ∙ sym (by-equal boundOf tied x y h ∙ by-lower placeOf higherFirst x y g))
+    (λ g. lt-ltb a b (omega arith) ∙ sym (by-equal branchBound tied x y h ∙ by-lower branchPlace higherFirst x y g))
     (λ g. three (a / maxPages % levels) (b / maxPages % levels)
-    (λ e. lt-ltb a b (omega arith) ∙ sym (by-equal boundOf tied x y h ∙ by-equal placeOf higherFirst x y g ∙ lex-first (higher levelOf) (lower pageOf) x y (lt-ltb (levelIn b) (levelIn a) (omega arith))))
+    (λ e. lt-ltb a b (omega arith) ∙ sym (by-equal branchBound tied x y h ∙ by-equal branchPlace higherFirst x y g ∙ lex-first (higher branchLevel) (lower branchPage) x y (lt-ltb (levelIn b) (levelIn a) (omega arith))))
     (λ e. three (numberIn a) (numberIn b)
-    (λ f. lt-ltb a b (omega arith) ∙ sym (by-equal boundOf tied x y h ∙ by-equal placeOf higherFirst x y g
-    ∙ lex-second (higher levelOf) (lower pageOf) x y (le-ltb (levelIn b) (levelIn a) (omega arith)) (le-ltb (levelIn a) (levelIn b) (omega arith)) ∙ lt-ltb (numberIn a) (numberIn b) f))
-    (λ f. le-ltb a b (omega arith) ∙ sym (by-equal boundOf tied x y h ∙ by-equal placeOf higherFirst x y g
-    ∙ lex-second (higher levelOf) (lower pageOf) x y (le-ltb (levelIn b) (levelIn a) (omega arith)) (le-ltb (levelIn a) (levelIn b) (omega arith)) ∙ le-ltb (numberIn a) (numberIn b) (omega arith)))
-    (λ f. le-ltb a b (omega arith) ∙ sym (by-equal boundOf tied x y h ∙ by-equal placeOf higherFirst x y g
-    ∙ lex-second (higher levelOf) (lower pageOf) x y (le-ltb (levelIn b) (levelIn a) (omega arith)) (le-ltb (levelIn a) (levelIn b) (omega arith)) ∙ le-ltb (numberIn a) (numberIn b) (omega arith))))
-    (λ e. le-ltb a b (omega arith) ∙ sym (by-equal boundOf tied x y h ∙ by-equal placeOf higherFirst x y g
-    ∙ lex-last (higher levelOf) (lower pageOf) x y (le-ltb (levelIn b) (levelIn a) (omega arith)) (lt-ltb (levelIn a) (levelIn b) (omega arith)))))
-    (λ g. le-ltb a b (omega arith) ∙ sym (by-equal boundOf tied x y h ∙ by-higher placeOf higherFirst x y g)))
-    (λ h. le-ltb a b (omega arith) ∙ sym (by-higher boundOf tied x y h))
+    (λ f. lt-ltb a b (omega arith) ∙ sym (by-equal branchBound tied x y h ∙ by-equal branchPlace higherFirst x y g
+    ∙ lex-second (higher branchLevel) (lower branchPage) x y (le-ltb (levelIn b) (levelIn a) (omega arith)) (le-ltb (levelIn a) (levelIn b) (omega arith)) ∙ lt-ltb (numberIn a) (numberIn b) f))
+    (λ f. le-ltb a b (omega arith) ∙ sym (by-equal branchBound tied x y h ∙ by-equal branchPlace higherFirst x y g
+    ∙ lex-second (higher branchLevel) (lower branchPage) x y (le-ltb (levelIn b) (levelIn a) (omega arith)) (le-ltb (levelIn a) (levelIn b) (omega arith)) ∙ le-ltb (numberIn a) (numberIn b) (omega arith)))
+    (λ f. le-ltb a b (omega arith) ∙ sym (by-equal branchBound tied x y h ∙ by-equal branchPlace higherFirst x y g
+    ∙ lex-second (higher branchLevel) (lower branchPage) x y (le-ltb (levelIn b) (levelIn a) (omega arith)) (le-ltb (levelIn a) (levelIn b) (omega arith)) ∙ le-ltb (numberIn a) (numberIn b) (omega arith))))
+    (λ e. le-ltb a b (omega arith) ∙ sym (by-equal branchBound tied x y h ∙ by-equal branchPlace higherFirst x y g
+    ∙ lex-last (higher branchLevel) (lower branchPage) x y (le-ltb (levelIn b) (levelIn a) (omega arith)) (lt-ltb (levelIn a) (levelIn b) (omega arith)))))
+    (λ g. le-ltb a b (omega arith) ∙ sym (by-equal branchBound tied x y h ∙ by-higher branchPlace higherFirst x y g)))
+    (λ h. le-ltb a b (omega arith) ∙ sym (by-higher branchBound tied x y h))
 
 -- a key put in is its branch put in
 pub branches-ins : (x : ℕ) (s : List ℕ) → map branchIn (insertBy ltb x s) ≡ insertBy before (branchIn x) (map branchIn s)

@@ -10,6 +10,7 @@ use geometry::Key;
 use geometry::Pair;
 use geometry_bounds::bounds::bound;
 use pagestore::Entry;
+use pagestore::MAX_PAGES;
 use pagestore::count_at;
 use pagestore::entry_at;
 use pagestore::in_range;
@@ -20,7 +21,7 @@ use search_model::MAX_LEVEL;
 use tree::leaf_count;
 
 // A key holds so many pages, levels and positions; the highest level comes first.
-const PAGES: u64 = 16384;
+const PAGES: u64 = MAX_PAGES as u64;
 
 const TOP: u64 = MAX_LEVEL as u64;
 

@@ -19,34 +19,34 @@ use Rattle.search_theory.specs.VisitLaws.{visit-read}
 use Rattle.search_rows.specs.declared.Row.{Row}
 use Rattle.tree_model.specs.Trees.{Item, leaves}
 use Rattle.search_model.specs.Asked.{Asked, Askable}
-use Rattle.search_model.specs.Branches.{Branch, boundOf, placeOf, levelOf, pageOf, higherFirst, lastPlace, tied, before, isLeaf, kids, rowsAt}
+use Rattle.search_model.specs.Branches.{Branch, branchBound, branchPlace, branchLevel, branchPage, higherFirst, lastPlace, tied, before, isLeaf, kids, rowsAt}
 use Rattle.search_model.specs.Visit.{ranking, answerOf, placed}
 use Rattle.search_model.specs.Questions.{leafBound, leafBranch}
 use Rattle.search_model.proofs.FrameLaws.{Frame, Branching, inner, itemBranch, itemBranches, leafBranches, opened-is, under-inner, Ordered, ordered-kids, leaves-floor}
 
 pub branch-order : Order before
 branch-order =
-    weak-order (by-weak boundOf tied (by-weak placeOf higherFirst (byHigher-weak levelOf (lower pageOf) (lower-weak pageOf))))
+    weak-order (by-weak branchBound tied (by-weak branchPlace higherFirst (byHigher-weak branchLevel (lower branchPage) (lower-weak branchPage))))
     (λ a b e f.
-    let s = by-same boundOf tied a b e f in
-    let t = by-same placeOf higherFirst a b (s .1) (s .2) in
-    let u = byHigher-same levelOf (lower pageOf) a b (t .1) (t .2) in
-    let w = lower-same pageOf a b (u .1) (u .2) in
+    let s = by-same branchBound tied a b e f in
+    let t = by-same branchPlace higherFirst a b (s .1) (s .2) in
+    let u = byHigher-same branchLevel (lower branchPage) a b (t .1) (t .2) in
+    let w = lower-same branchPage a b (u .1) (u .2) in
     λ i. record { bound = s .0 i; place = t .0 i; level = u .0 i; page = w i })
 
 pub branch-floor : (x y : Branch) → before y x ≡ false → x .bound ≤ y .bound
-branch-floor x y e = three (y .bound) (x .bound) (λ h. false-true (sym e ∙ by-lower boundOf tied y x h)) (λ h. omega arith) (λ h. omega arith)
+branch-floor x y e = three (y .bound) (x .bound) (λ h. false-true (sym e ∙ by-lower branchBound tied y x h)) (λ h. omega arith) (λ h. omega arith)
 
 -- an inner branch comes before the leaves under it
 behind : (x y : Branch) → x .bound ≤ y .bound → x .place ≤ y .place → y .level < x .level → before y x ≡ false
 behind x y b p l =
     three (y .bound) (x .bound)
     (λ h. absurd (omega arith))
-    (λ h. by-equal boundOf tied y x h ∙ three (y .place) (x .place)
+    (λ h. by-equal branchBound tied y x h ∙ three (y .place) (x .place)
     (λ g. absurd (omega arith))
-    (λ g. by-equal placeOf higherFirst y x g ∙ lex-last (higher levelOf) (lower pageOf) y x (le-ltb (x .level) (y .level) (omega arith)) (lt-ltb (y .level) (x .level) l))
-    (λ g. by-higher placeOf higherFirst y x g))
-    (λ h. by-higher boundOf tied y x h)
+    (λ g. by-equal branchPlace higherFirst y x g ∙ lex-last (higher branchLevel) (lower branchPage) y x (le-ltb (x .level) (y .level) (omega arith)) (lt-ltb (y .level) (x .level) l))
+    (λ g. by-higher branchPlace higherFirst y x g))
+    (λ h. by-higher branchBound tied y x h)
 
 leaves-behind : (q : Asked) (d : ℕ) (x : Branch) (n : ℕ) (ts : List (Item 1)) → x .place ≤ n → 0 < x .level → All (λ u. x .bound ≤ leafBound d q u) ts
     → All (λ y. before y x ≡ false) (leafBranches q d n ts)
@@ -102,10 +102,10 @@ module _ (c : List ℕ) (q : Asked) (d : ℕ) (low : 1 ≤ d) (high : d ≤ maxF
 
   module _ (k room n : ℕ) (one : 1 ≤ k) where
     abbrev seekFrom : Branch → Outcome Row Branch
-    seekFrom x = seek ranking boundOf (rowsAt c q) before isLeaf (kids c q) k room n (x ∷ []) []
+    seekFrom x = seek ranking branchBound (rowsAt c q) before isLeaf (kids c q) k room n (x ∷ []) []
 
     abbrev visitAll : List (Item 1) → Outcome Row Branch
-    visitAll ts = bestFirst ranking boundOf (rowsAt c q) k tied (leafBranches q d 0 ts)
+    visitAll ts = bestFirst ranking branchBound (rowsAt c q) k tied (leafBranches q d 0 ts)
 
     inner-root : (l : ℕ) (t : Item (suc (suc l))) → length (leaves (suc l) t) ≤ lastPlace → Frame c d (suc l) t → Ordered d (suc l) t → length (leaves (suc l) t) ≤ room → 2 * length (leaves (suc l) t) ≤ n
         → seekFrom (inner 0 0 l t) ≡ visitAll (leaves (suc l) t)
@@ -113,9 +113,9 @@ module _ (c : List ℕ) (q : Asked) (d : ℕ) (low : 1 ≤ d) (high : d ≤ maxF
     inner-root l t m f o r s =
         let e = under-inner c q d l 0 0 t (omega arith) f in
         let g : length (leavesUnder isLeaf (kids c q) (suc l) (inner 0 0 l t)) ≡ length (leaves (suc l) t) = ap length e ∙ length-leaves 0 (leaves (suc l) t) in
-        seek-root ranking boundOf (rowsAt c q) before isLeaf (kids c q) k room branch-order branch-floor (suc l) n (inner 0 0 l t) one
+        seek-root ranking branchBound (rowsAt c q) before isLeaf (kids c q) k room branch-order branch-floor (suc l) n (inner 0 0 l t) one
         (down-inner l 0 0 t (omega arith) (down l) f o (zeros (leaves (suc l) t))) (omega arith) (omega arith)
-        ∙ ap (λ (ls : List Branch). visit ranking boundOf (rowsAt c q) k (sort before ls) []) e
+        ∙ ap (λ (ls : List Branch). visit ranking branchBound (rowsAt c q) k (sort before ls) []) e
       where
         zeros : (ts : List (Item 1)) → All (λ u. 0 ≤ leafBound d q u) ts
         zeros [] = none
@@ -137,9 +137,9 @@ module _ (c : List ℕ) (q : Asked) (d : ℕ) (low : 1 ≤ d) (high : d ≤ maxF
   leaf-root k room m one t =
       let x : Branch = record { bound = 0; place = 0; level = 0; page = t .0 } in
       let y : Branch = leafBranch q d 0 t in
-      ap shown (seek-read ranking boundOf (rowsAt c q) before isLeaf (kids c q) k room m x [] [] (none-exceeds k 0 one) refl
-      ∙ ap (reading x) (seek-end ranking boundOf (rowsAt c q) before isLeaf (kids c q) k room m (offered ranking boundOf (rowsAt c q) k x [])))
-      ∙ sym (ap shown (visit-read ranking boundOf (rowsAt c q) k y [] [] (none-exceeds k (leafBound d q t) one)))
+      ap shown (seek-read ranking branchBound (rowsAt c q) before isLeaf (kids c q) k room m x [] [] (none-exceeds k 0 one) refl
+      ∙ ap (reading x) (seek-end ranking branchBound (rowsAt c q) before isLeaf (kids c q) k room m (offered ranking branchBound (rowsAt c q) k x [])))
+      ∙ sym (ap shown (visit-read ranking branchBound (rowsAt c q) k y [] [] (none-exceeds k (leafBound d q t) one)))
 
   -- the search from the root of a tree gives what the visit of its leaves gives
   pub seek-is : (k room n : ℕ) (one : 1 ≤ k) (l : ℕ) (t : Item (suc l)) → length (leaves l t) ≤ lastPlace → Frame c d l t → Ordered d l t → length (leaves l t) ≤ room → 2 * length (leaves l t) ≤ n

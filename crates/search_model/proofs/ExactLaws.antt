@@ -23,7 +23,7 @@ use Rattle.pagestore.specs.Store.{level, total, View, viewOf, fieldAt}
 use Rattle.tree_model.specs.Trees.{Item, leaves, treeOf, leavesOf, identOf, live}
 use Rattle.tree_model.specs.Sound.{SoundIndex}
 use Rattle.search_model.specs.Asked.{Asked, candidate, Askable}
-use Rattle.search_model.specs.Branches.{Branch, boundOf, tied, before, rowOf, rowsAmong, rowsAt}
+use Rattle.search_model.specs.Branches.{Branch, branchBound, tied, before, rowOf, rowsAmong, rowsAt}
 use Rattle.search_model.specs.Visit.{ranking, Answer, visited, readsNone, found, placed, leavesRead}
 use Rattle.search_model.specs.Questions.{answerDue, rowsFrom, rowsOf, leafBranch, toRead, setFrom, readingOrder}
 use Rattle.search_model.proofs.FrameLaws.{leafBranches}
@@ -58,10 +58,10 @@ module _ (b : List ℕ) (s : SoundIndex b) (q : Asked) (suits : Askable (viewOf 
 
   exact-some : 0 < v .total → found b q ≡ answerDue v q
   exact-some t =
-      let o : Outcome Row Branch = bestFirst ranking boundOf (rowsAt b q) (q .k) tied (indexLeaves b q) in
-      let r : o .rows ≡ nearest ranking (q .k) (rowsOf v q) = flatly.rows-nearest ranking row-order boundOf tied branch-order (indexLeaves b q) (rowsAt b q) (floors b s q suits one) (q .k) one ∙ ap (nearest ranking (q .k)) (rows-all b s q suits one) in
+      let o : Outcome Row Branch = bestFirst ranking branchBound (rowsAt b q) (q .k) tied (indexLeaves b q) in
+      let r : o .rows ≡ nearest ranking (q .k) (rowsOf v q) = flatly.rows-nearest ranking row-order branchBound tied branch-order (indexLeaves b q) (rowsAt b q) (floors b s q suits one) (q .k) one ∙ ap (nearest ranking (q .k)) (rows-all b s q suits one) in
       let n : length (o .read) ≡ count (toRead v q) (leavesOf v) =
-      flatly.leaves-count ranking row-order boundOf tied branch-order (indexLeaves b q) (rowsAt b q) (floors b s q suits one) (q .k) one
+      flatly.leaves-count ranking row-order branchBound tied branch-order (indexLeaves b q) (rowsAt b q) (floors b s q suits one) (q .k) one
       ∙ ap (λ (xs : List Row). count (λ x. inSet ranking (q .k) xs (x .bound)) (indexLeaves b q)) (rows-all b s q suits one) ∙ count-set v q 0 (leavesOf v) (leaves-some b s q suits one t) in
       found-like b s q suits one b (like-self b s q suits one) t ∙ (λ i. record { rows = r i; leaves = n i })
 
@@ -96,7 +96,7 @@ module _ (b : List ℕ) (s : SoundIndex b) (q : Asked) (suits : Askable (viewOf 
       rw (reads-some b s q suits one b (like-self b s q suits one) t)
       (ap (λ (x : List Row × List (ℕ × ℕ)). x .1) (visited-like b s q suits one b (like-self b s q suits one) t)
       ∙ ap (map placed)
-      (flatly.leaves-exact ranking row-order boundOf tied branch-order (indexLeaves b q) (rowsAt b q) (floors b s q suits one) (q .k) one
+      (flatly.leaves-exact ranking row-order branchBound tied branch-order (indexLeaves b q) (rowsAt b q) (floors b s q suits one) (q .k) one
       ∙ ap (λ (xs : List Row). filter (λ x. inSet ranking (q .k) xs (x .bound)) (sort before (indexLeaves b q))) (rows-all b s q suits one)
       ∙ filter-sort before branch-order (λ x. inSet ranking (q .k) (rowsOf v q) (x .bound)) (indexLeaves b q)
       ∙ ap (sort before) (set-branches 0 (leavesOf v) (leaves-some b s q suits one t))))

@@ -24,7 +24,7 @@ use Rattle.pagestore.specs.Store.RangeLaws.{pages-same, range-same}
 use Rattle.tree_model.specs.Trees.{Item, leaves, pages, treeOf, leavesOf}
 use Rattle.tree_model.specs.Sound.{SoundIndex}
 use Rattle.search_model.specs.Asked.{Asked, Askable}
-use Rattle.search_model.specs.Branches.{boundOf, tied, rowsAmong, rowsAt}
+use Rattle.search_model.specs.Branches.{branchBound, tied, rowsAmong, rowsAt}
 use Rattle.search_model.specs.Visit.{ranking, answerOf, found}
 use Rattle.search_model.specs.Questions.{rowsOf, leafBranch, toRead, unreadPages, AgreeBut}
 use Rattle.search_model.proofs.FrameLaws.{Frame, parts-right, leafBranches}
@@ -138,7 +138,7 @@ module _ (b : List ℕ) (s : SoundIndex b) (q : Asked) (suits : Askable (viewOf 
         by-cases (ltb 0 (viewOf b .total))
         (λ e. let t : 0 < viewOf b .total = ltb-true 0 (viewOf b .total) e in
         found-like b s q suits one c like-rest t
-        ∙ ap answerOf (flatly.unread-anything ranking row-order boundOf tied branch-order (indexLeaves b q) (rowsAt b q) (floors b s q suits one) (q .k) one (rowsAt c q)
+        ∙ ap answerOf (flatly.unread-anything ranking row-order branchBound tied branch-order (indexLeaves b q) (rowsAt b q) (floors b s q suits one) (q .k) one (rowsAt c q)
         (rw (rows-all b s q suits one) (rows-same 0 (leavesOf (viewOf b)) unread-read (leaves-some b s q suits one t))))
         ∙ sym (found-like b s q suits one b (like-self b s q suits one) t))
         (λ e. let z : viewOf b .total ≡ 0 = omega (arith, ltb-false 0 (viewOf b .total) e) in

@@ -22,7 +22,7 @@ use Rattle.tree_model.specs.Trees.{Item, leaves, pages, treeOf, leavesOf}
 use Rattle.tree_model.specs.Sound.{SoundIndex}
 use Rattle.search_model.specs.Numbers.{maxLevel}
 use Rattle.search_model.specs.Asked.{Asked, distanceTo, candidate, Askable}
-use Rattle.search_model.specs.Branches.{Branch, boundOf, lastPlace, tied, before, isLeaf, pageIn, kids, rootBranch, rowOf, rowsAmong, rowsAt}
+use Rattle.search_model.specs.Branches.{Branch, branchBound, lastPlace, tied, before, isLeaf, pageIn, kids, rootBranch, rowOf, rowsAmong, rowsAt}
 use Rattle.search_model.specs.Visit.{ranking, answerOf, room, visited, readsNone, found}
 use Rattle.search_model.specs.Questions.{rowsFrom, rowsOf, leafBound, leafBranch}
 use Rattle.search_model.proofs.RecordLaws.{span-floor}
@@ -48,7 +48,7 @@ module _ (b : List ℕ) (q : Asked) (d : ℕ) where
   concatMap-rows p [] none = refl
   concatMap-rows p (u ∷ us) (also e a) = ap₂ (λ (x y : List Row). x ++ y) (ap (rowsAmong q p) e) (concatMap-rows (suc p) us a)
 
-  row-floors : (p : ℕ) (us : List (Item 1)) → All (λ u. recordsIn (leafAt b (u .0)) ≡ u .1) us → All (LeafFloor d q) us → All (Floor ranking boundOf (rowsAt b q)) (leafBranches q d p us)
+  row-floors : (p : ℕ) (us : List (Item 1)) → All (λ u. recordsIn (leafAt b (u .0)) ≡ u .1) us → All (LeafFloor d q) us → All (Floor ranking branchBound (rowsAt b q)) (leafBranches q d p us)
   unfolding leafBranches leafBranch
   row-floors p [] none none = none
   row-floors p (u ∷ us) (also e a) (also f h) = also {x = leafBranch q d p u} (rw e (among-floor q (leafBound d q u) p (u .1) f)) (row-floors (suc p) us a h)
@@ -83,7 +83,7 @@ module _ (b : List ℕ) (s : SoundIndex b) (q : Asked) (suits : Askable (viewOf 
       let w : ltb maxLevel (fieldAt level c) ≡ false = le-ltb maxLevel (fieldAt level c) (omega (arith, h .level, tree-level b s)) in rw (z, w)
 
   -- the visit from the root is that of all leaves by (bound, position)
-  pub visited-like : (c : List ℕ) → Like c → 0 < v .total → shown (visited c q) ≡ shown (bestFirst ranking boundOf (rowsAt c q) (q .k) tied (indexLeaves b q))
+  pub visited-like : (c : List ℕ) → Like c → 0 < v .total → shown (visited c q) ≡ shown (bestFirst ranking branchBound (rowsAt c q) (q .k) tied (indexLeaves b q))
   unfolding visited leavesOf pageIn
   visited-like c h t =
       let g : fieldAt root c ≡ treeOf v .0 = h .root ∙ sym (tree-root b s) in
@@ -93,12 +93,12 @@ module _ (b : List ℕ) (s : SoundIndex b) (q : Asked) (suits : Askable (viewOf 
       let enough : length (leaves (v .level) (treeOf v)) ≤ pagesIn b = tree-pages b s in
       let n : pagesIn c ≡ pagesIn b = h .pages in
       let places : length (leaves (v .level) (treeOf v)) ≤ lastPlace = omega (arith, tree-leaves b s 65535 (omega arith) (s .most)) in
-      ap (λ (x : Branch). shown (seek ranking boundOf (rowsAt c q) before isLeaf (kids c q) (q .k) (room c) (2 * pagesIn c) (x ∷ []) [])) r
+      ap (λ (x : Branch). shown (seek ranking branchBound (rowsAt c q) before isLeaf (kids c q) (q .k) (room c) (2 * pagesIn c) (x ∷ []) [])) r
       ∙ seek-is c q (v .d) (s .d .0) (s .d .1) suits (q .k) (room c) (2 * pagesIn c) one (v .level) (treeOf v) places (h .frame) (tree-ordered b s t) few (omega arith)
 
-  pub found-like : (c : List ℕ) → Like c → 0 < v .total → found c q ≡ answerOf (bestFirst ranking boundOf (rowsAt c q) (q .k) tied (indexLeaves b q))
+  pub found-like : (c : List ℕ) → Like c → 0 < v .total → found c q ≡ answerOf (bestFirst ranking branchBound (rowsAt c q) (q .k) tied (indexLeaves b q))
   unfolding found
-  found-like c h t = rw (reads-some c h t) (shown-answer (visited c q) (bestFirst ranking boundOf (rowsAt c q) (q .k) tied (indexLeaves b q)) (visited-like c h t))
+  found-like c h t = rw (reads-some c h t) (shown-answer (visited c q) (bestFirst ranking branchBound (rowsAt c q) (q .k) tied (indexLeaves b q)) (visited-like c h t))
 
   -- ---- THE ROWS AND THE LEAVES
 
@@ -121,7 +121,7 @@ module _ (b : List ℕ) (s : SoundIndex b) (q : Asked) (suits : Askable (viewOf 
   unfolding rowsOf
   rows-all = concatMap-rows b q (v .d) 0 (leavesOf v) (tree-hold b s)
 
-  pub floors : All (Floor ranking boundOf (rowsAt b q)) (indexLeaves b q)
+  pub floors : All (Floor ranking branchBound (rowsAt b q)) (indexLeaves b q)
   floors = row-floors b q (v .d) 0 (leavesOf v) (tree-hold b s) leaf-floors
 
   pub found-none : (c : List ℕ) → fieldAt total c ≡ 0 → found c q ≡ record { rows = []; leaves = 0 }

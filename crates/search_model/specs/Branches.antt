@@ -21,27 +21,27 @@ pub record Branch : Type 0 where
   pub level : ℕ
   pub page : ℕ
 
-abbrev pub boundOf : Branch → ℕ
-boundOf x = x .bound
+abbrev pub branchBound : Branch → ℕ
+branchBound x = x .bound
 
-abbrev pub placeOf : Branch → ℕ
-placeOf x = x .place
+abbrev pub branchPlace : Branch → ℕ
+branchPlace x = x .place
 
-abbrev pub levelOf : Branch → ℕ
-levelOf x = x .level
+abbrev pub branchLevel : Branch → ℕ
+branchLevel x = x .level
 
-abbrev pub pageOf : Branch → ℕ
-pageOf x = x .page
+abbrev pub branchPage : Branch → ℕ
+branchPage x = x .page
 
 -- Branches of equal bound are taken by position (01). A page comes before the first page under it, whose position is the same.
 abbrev pub higherFirst : Branch → Branch → Bool
-higherFirst = byHigher levelOf (lower pageOf)
+higherFirst = byHigher branchLevel (lower branchPage)
 
 abbrev pub tied : Branch → Branch → Bool
-tied = by placeOf higherFirst
+tied = by branchPlace higherFirst
 
 abbrev pub before : Branch → Branch → Bool
-before = by boundOf tied
+before = by branchBound tied
 
 abbrev pub isLeaf : Branch → Bool
 isLeaf x = eqb (x .level) 0

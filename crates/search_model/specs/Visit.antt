@@ -13,7 +13,7 @@ use Rattle.search_rows.specs.declared.Row.{Row}
 use Rattle.search_rows.specs.Rows.{byDistance}
 use Rattle.search_model.specs.Numbers.{maxLevel}
 use Rattle.search_model.specs.Asked.{Asked, spanBound}
-use Rattle.search_model.specs.Branches.{Branch, boundOf, before, isLeaf, pageIn, branches, opened, kids, rootBranch, rowsAmong, rowsAt}
+use Rattle.search_model.specs.Branches.{Branch, branchBound, before, isLeaf, pageIn, branches, opened, kids, rootBranch, rowsAmong, rowsAt}
 
 -- rows go by distance, then by identifier; all rows are candidates'
 abbrev pub ranking : Ranking Row
@@ -50,7 +50,7 @@ room b = if (ltb manyRecords (fieldAt total b)) largeRoom (if (ltb fewRecords (f
 -- The visit from the root on. As many steps are taken at most as twice the pages: in a sound index they and the room are enough.
 unfoldable pub visited : List ℕ → Asked → Outcome Row Branch
 unfolding seek exceeds filter insertAll offerAll spanBound pageIn branches opened rowsAmong room
-visited b q = seek ranking boundOf (rowsAt b q) before isLeaf (kids b q) (q .k) (room b) (2 * pagesIn b) (rootBranch b ∷ []) []
+visited b q = seek ranking branchBound (rowsAt b q) before isLeaf (kids b q) (q .k) (room b) (2 * pagesIn b) (rootBranch b ∷ []) []
 
 -- nothing is read where the header's total is 0 (01), or where the root's level is above the highest: no sound index has such a root
 unfoldable pub readsNone : List ℕ → Bool

@@ -20,6 +20,7 @@ use Rattle.sound_links.proofs.MarkLaws.{clear-marks, marks-are}
 use Rattle.sound_faults.specs.ViewLaws.{few-entries}
 use Rattle.sound_links.proofs.MarkedLaws.{marked-followed}
 use Rattle.sound_visit.proofs.CollectLaws.{pairs-sum}
+use Rattle.lists.specs.Lengths.{zero-at}
 
 -- ---- THE ROOT
 
@@ -110,13 +111,8 @@ module _ (b : List ℕ) {m f i h : List ℕ} {n : ℕ} (w : Whole (viewOf b) m f
 
 -- ---- RUNS OF ZEROS
 
-nought : (n q : ℕ) → getD {A = ℕ} (replicate n 0) q 0 ≡ 0
-nought zero q = refl
-nought (suc n) zero = refl
-nought (suc n) (suc q) = nought n q
-
 pub clear-zeros : (v : View) (n : ℕ) → v .count ≤ n → Clear v (replicate n 0)
-clear-zeros v n h = record { size = omega (arith, length-replicate {A = ℕ} n 0); none = nought n }
+clear-zeros v n h = record { size = omega (arith, length-replicate {A = ℕ} n 0); none = zero-at n }
 
 pub lent-zeros : (v : View) (k n : ℕ) → v .count ≤ k → (v .total ≤ 65535 → v .total ≤ n) → Lent v (replicate k 0) (replicate k 0) (replicate k 0) (replicate n 0) (replicate n 0)
 lent-zeros v k n h f =

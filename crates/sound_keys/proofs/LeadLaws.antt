@@ -23,6 +23,7 @@ use Rattle.pagestore_page.specs.Layout.{leafOf, noRecord}
 use Rattle.pagestore_page.specs.LayoutLaws.{leaf-fits, leaf-slots}
 use Rattle.tree_model.specs.Trees.{keyOf}
 use Rattle.sound_keys.specs.Leads.{leadOf, leadTo, Leads}
+use Rattle.lists.specs.Lengths.{zero-at}
 
 -- ---- ONE LEAD
 
@@ -71,14 +72,9 @@ module _ (x : Leaf) (m k n : ℕ) where
   pub leading-done : {tops : List ℕ} {i : ℕ} → Leading x m k n i tops → n ≤ i → Leads x k n tops
   leading-done s h = record { size = s .size; top = λ j b. s .done j (omega arith) }
 
-nought : (n q : ℕ) → getD {A = ℕ} (replicate n 0) q 0 ≡ 0
-nought zero q = refl
-nought (suc n) zero = refl
-nought (suc n) (suc q) = nought n q
-
 pub leads-start : (x : Leaf) (n k : ℕ) → n ≤ k → Leads x 0 n (replicate k 0)
 unfolding leadTo
-leads-start x n k h = record { size = omega (arith, length-replicate {A = ℕ} k 0); top = λ i b. nought k i }
+leads-start x n k h = record { size = omega (arith, length-replicate {A = ℕ} k 0); top = λ i b. zero-at k i }
 
 pub leads-fewer : {x : Leaf} {m n k : ℕ} {tops : List ℕ} → Leads x m n tops → k ≤ n → Leads x m k tops
 leads-fewer s h = record { size = omega (arith, s .size); top = λ i b. s .top i (omega arith) }

@@ -14,8 +14,6 @@ use test_parts::show::text;
 // The bytes of the shortest index: 2 pages.
 const SHORTEST: usize = 2048;
 
-const TOO_SHORT: usize = 2047;
-
 // 1 if a length is not permitted.
 fn refused_length(bytes: usize) -> u64 {
     if index_refusals::permitted(bytes) {

@@ -15,7 +15,6 @@ pub use keys::filled_at;
 pub use keys::record_rank;
 pub use places::ident_place;
 
-// The greatest and the least number of records or entries of a page; a root may have fewer.
 // What the items of a page or two have become: one page, or two neighbours.
 pub enum Grown {
     One(Entry),

@@ -73,12 +73,12 @@ rank-is : (n : ℕ) → rankOf 1 (numbered n) ≡ (65536 + n) * 4294967296 + n
 unfolding rankOf keyOf keyNumber
 rank-is n = rw (point-is n, pair-is n .0, pair-is n .1)
 
-rangeFrom-below : (n m : ℕ) → n ≤ m → All (λ x. rankOf 1 x < rankOf 1 (numbered (suc m))) (upTo n)
+upTo-below : (n m : ℕ) → n ≤ m → All (λ x. rankOf 1 x < rankOf 1 (numbered (suc m))) (upTo n)
 unfolding tabulate
-rangeFrom-below zero m h = none
-rangeFrom-below (suc n) m h =
+upTo-below zero m h = none
+upTo-below (suc n) m h =
     let l : rankOf 1 (numbered (suc n)) < rankOf 1 (numbered (suc m)) = rw (rank-is (suc n), rank-is (suc m)) (omega arith) in
-    all-append (rangeFrom-below n m (omega arith)) (also l none)
+    all-append (upTo-below n m (omega arith)) (also l none)
 
 up-new : (n m : ℕ) → n ≤ m → mult (suc m) (map identOf (upTo n)) ≡ 0
 unfolding tabulate mult
@@ -90,7 +90,7 @@ up-new (suc n) m h =
 -- the next one goes behind all of them
 up-next : (n : ℕ) → insertRecord 1 (numbered (suc n)) (upTo n) ≡ upTo (suc n)
 unfolding tabulate insertBy
-up-next n = ap (insertRecord 1 (numbered (suc n))) (sym (append-nil (upTo n))) ∙ ins-left (rankOf 1) (numbered (suc n)) [] (rangeFrom-below n n (omega arith))
+up-next n = ap (insertRecord 1 (numbered (suc n))) (sym (append-nil (upTo n))) ∙ ins-left (rankOf 1) (numbered (suc n)) [] (upTo-below n n (omega arith))
 
 -- UP TO 16: ONE LEAF
 

@@ -3,3 +3,4 @@ pub mod Sound
 pub mod Inserting
 pub mod Deleting
 pub mod TreeLaws
+pub mod ModelExamples

@@ -11,7 +11,8 @@ use Rattle.lists.specs.Ascending.{Ascending}
 use Rattle.pagestore_page.specs.declared.Record.{Record}
 use Rattle.pagestore.specs.Store.{View, viewOf}
 use Rattle.tree_model.specs.Trees.{minItems, Item, pages, rankOf, identOf, Rep, treeOf, live}
-use Rattle.pagestore_page.specs.Layout.{maxItems}
+use Rattle.pagestore_page.specs.Layout.{maxItems, pageSize}
+use Rattle.geometry.specs.Numbers.{maxFeatures}
 
 -- the most records of an index
 abbrev pub maxPoints : ℕ
@@ -48,8 +49,8 @@ pub record RecordOk (d : ℕ) (r : Record) : Type 0 where
 
 pub record Sound (v : View) : Type 0 where
   pub lent : Permitted (v .lent)
-  pub size : v .size * 1024 ≡ v .lent
-  pub d : (1 ≤ v .d) × (v .d ≤ 16)
+  pub size : v .size * pageSize ≡ v .lent
+  pub d : (1 ≤ v .d) × (v .d ≤ maxFeatures)
   -- levels and entries, by the tree that the pages hold
   pub rep : Rep (suc (v .level)) v (treeOf v)
   pub rootFill : RootFilled (v .level) (treeOf v)

@@ -1,9 +1,9 @@
 -- `heights::nearest_lanes` meets its contract: what is lent is blank.
 use native.Mathlib.Omega.{arith}
 use borrow.Author.Needs.{needs}
-use Rattle.geometry_slices.proofs.TableLaws.{zero-at}
 use Rattle.geometry_heights.proofs.heights.nearest_lanes.Statement.{statement}
 use Rattle.geometry_heights.proofs.heights.nearest_lanes.Tie as tie
+use Rattle.lists.specs.Lengths.{zero-at}
 
 slice-aggregate-search-lanes : tie.Need-slice-aggregate-search-lanes
 slice-aggregate-search-lanes c = search needs

@@ -8,9 +8,10 @@ use lib.Seq.{getD-set-other}
 use Rattle.lists.specs.Basics.{below-stored}
 use Rattle.geometry_slices.specs.Questions.{sizeOf}
 use Rattle.geometry_slices.proofs.PackedLaws.{asked-few}
-use Rattle.geometry_slices.proofs.TableLaws.{zero-at, reaches-end}
+use Rattle.geometry_slices.proofs.TableLaws.{reaches-end}
 use Rattle.geometry_slices.proofs.tables.reaches.Statement.{statement}
 use Rattle.geometry_slices.proofs.tables.reaches.Tie as tie
+use Rattle.lists.specs.Lengths.{zero-at}
 
 abbrev Inv-loop : tie.InvT-loop
 Inv-loop asked d reach₀ m₀ reach m = (m ≤ d) × (d ≡ sizeOf asked) × (length reach ≡ 16) × ((k : ℕ) → k < m → getD reach k 0 ≡ getD asked (48 + k) 0) × ((k : ℕ) → m ≤ k → getD reach k 0 ≡ 0)
