@@ -1,5 +1,6 @@
 pub mod QuestionLaws
 pub mod PackedLaws
+pub mod PlainLaws
 pub mod AskLaws
 pub mod RowLaws
 pub mod TableLaws

@@ -66,6 +66,13 @@ pub record LaidOut (low high weight r : List ℕ) : Type 0 where
   pub packed : Packed (take (reachesFrom + length low) r)
   pub same : askedOf (take (reachesFrom + length low) r) ≡ featuresOf low high weight
 
+-- a question without weights: each is 1. Reaches below 2,048 (those of coordinates in range are at most 1,001) let its sums fit narrower words
+abbrev pub plainReach : ℕ
+plainReach = 2048
+
+abbrev pub Plain : List ℕ → Type 0
+Plain a = (m : ℕ) → m < sizeOf a → (getD a (weightsFrom + m) 0 ≡ 1) × (getD a (reachesFrom + m) 0 < plainReach)
+
 -- the places of a question's tables: what is kept of its pyramids' heights, and of whole pyramids
 abbrev pub nearPlaces : ℕ
 nearPlaces = 2 * maxFeatures + maxFeatures * maxFeatures

@@ -1,9 +1,12 @@
 // A question as one list.
 ghost use mathlib.Core.Path.{_≡_};
-ghost use Prim.Native.Nat.{_≤_};
+ghost use mathlib.Core.Bool.{true, false};
+ghost use Prim.Native.Nat.{_≤_, _<_};
+ghost use lib.Dec.{ltb, eqb};
 ghost use lib.ListN.{length};
+ghost use Rattle.lists.specs.Basics.{if};
 ghost use Rattle.geometry.specs.Numbers.{maxFeatures};
-ghost use Rattle.geometry_slices.specs.Questions.{reachAt, LaidOut};
+ghost use Rattle.geometry_slices.specs.Questions.{reachAt, plainReach, LaidOut, Packed, Plain};
 use crate::ASKED_PLACES;
 use crate::HIGHS_FROM;
 use crate::REACHES_FROM;
@@ -33,4 +36,34 @@ pub fn ask(low: &[u16], high: &[u16], weight: &[u16]) -> [u16; ASKED_PLACES]
         m += 1;
     }
     asked
+}
+
+// Reaches below this have squares of 22 bits.
+const PLAIN_REACH: u16 = 2048;
+
+// Whether a coordinate has no weight, and a reach below that one.
+fn plain_at(weight: u16, reach: u16) -> bool
+    ensures { λ r. ⌜ r ≡ if (eqb weight 1) (ltb reach plainReach) false ⌝ }
+{
+    if weight == 1 {
+        reach < PLAIN_REACH
+    } else {
+        false
+    }
+}
+
+// Whether a question is one without weights.
+pub fn is_plain(asked: &[u16]) -> bool
+    requires { ⌜ Packed (now asked) ⌝ }
+    ensures { λ r. ⌜ (r ≡ true → Plain (now (asked .entry))) × (Plain (now (asked .entry)) → r ≡ true) ⌝ }
+{
+    let d = asked.len() - REACHES_FROM;
+    let mut m = 0;
+    while m < d {
+        if !plain_at(asked[WEIGHTS_FROM + m], asked[REACHES_FROM + m]) {
+            return false;
+        }
+        m += 1;
+    }
+    true
 }
