@@ -73,10 +73,7 @@ plainReach = 2048
 abbrev pub Plain : List ℕ → Type 0
 Plain a = (m : ℕ) → m < sizeOf a → (getD a (weightsFrom + m) 0 ≡ 1) × (getD a (reachesFrom + m) 0 < plainReach)
 
--- the places of a question's tables: what is kept of its pyramids' heights, and of whole pyramids
-abbrev pub nearPlaces : ℕ
-nearPlaces = 2 * maxFeatures + maxFeatures * maxFeatures
-
+-- the places of the table of whole pyramids
 abbrev pub wholePlaces : ℕ
 wholePlaces = 2 * maxFeatures
 
@@ -100,9 +97,20 @@ rowFrom j = rowsPlace + maxFeatures * j
 abbrev pub widthOf : ℕ → ℕ
 widthOf d = if (leb d 1) 0 (if (leb d 4) 4 (if (leb d 8) 8 maxFeatures))
 
+-- behind the rows near has a mark: 1 says that the question is plain; so many places it has
+abbrev pub plainPlace : ℕ
+plainPlace = rowsPlace + maxFeatures * maxFeatures
+
+abbrev pub nearPlaces : ℕ
+nearPlaces = plainPlace + 1
+
 -- what place m of a row that stands at a place of near costs at height h
 abbrev pub rowCost : List ℕ → List ℕ → ℕ → ℕ → ℕ → ℕ
 rowCost a near at h m = getD a (weightsFrom + m) 0 * ((getD near (at + m) 0 - h) * (getD near (at + m) 0 - h))
+
+-- and without a weight
+abbrev pub rowSquare : List ℕ → ℕ → ℕ → ℕ → ℕ
+rowSquare near at h m = (getD near (at + m) 0 - h) * (getD near (at + m) 0 - h)
 
 -- ys is xs with g of each place and of what was there stored in n places, from a place on
 pub record Filled (g : ℕ → ℕ → ℕ) (at n : ℕ) (xs ys : List ℕ) : Type 0 where
@@ -111,11 +119,12 @@ pub record Filled (g : ℕ → ℕ → ℕ) (at n : ℕ) (xs ys : List ℕ) : Ty
   pub before : (x : ℕ) → x < at → getD ys x 0 ≡ getD xs x 0
   pub after : (x : ℕ) → at + n ≤ x → getD ys x 0 ≡ getD xs x 0
 
--- a question, and in near the row of each axis
+-- a question, and in near the row of each axis and the mark
 pub record Rows (a near : List ℕ) : Type 0 where
   pub packed : Packed a
   pub places : length near ≡ nearPlaces
   pub row : (j m : ℕ) → j < sizeOf a → m < widthOf (sizeOf a) → getD near (rowFrom j + m) 0 ≡ rowAt a j m
+  pub plain : getD near plainPlace 0 ≡ 1 → Plain a
 
 -- and, from place 0 of near on, the nearest height of each of its pyramids
 pub record Heights (a near : List ℕ) : Type 0 where

@@ -9,6 +9,7 @@ ghost use Rattle.geometry.specs.Numbers.{maxFeatures};
 ghost use Rattle.geometry_slices.specs.Questions.{reachAt, plainReach, LaidOut, Packed, Plain};
 use crate::ASKED_PLACES;
 use crate::HIGHS_FROM;
+use crate::PLAIN_REACH;
 use crate::REACHES_FROM;
 use crate::WEIGHTS_FROM;
 use geometry::MAX_COORDINATE;
@@ -38,10 +39,7 @@ pub fn ask(low: &[u16], high: &[u16], weight: &[u16]) -> [u16; ASKED_PLACES]
     asked
 }
 
-// Reaches below this have squares of 22 bits.
-const PLAIN_REACH: u16 = 2048;
-
-// Whether a coordinate has no weight, and a reach below that one.
+// Whether a coordinate has weight 1 and a small reach.
 fn plain_at(weight: u16, reach: u16) -> bool
     ensures { λ r. ⌜ r ≡ if (eqb weight 1) (ltb reach plainReach) false ⌝ }
 {

@@ -16,3 +16,11 @@ pub const ASKED_PLACES: usize = 4 * MAX_FEATURES;
 
 // Its table near has the nearest height of each pyramid from place 0 on, and from this one a row for each axis.
 pub const ROWS_FROM: usize = 2 * MAX_FEATURES;
+
+// Behind the rows stands a mark, 1 for a question without weights.
+pub const PLAIN_AT: usize = ROWS_FROM + MAX_FEATURES * MAX_FEATURES;
+
+pub const NEAR_PLACES: usize = PLAIN_AT + 1;
+
+// Reaches below this have squares of 22 bits.
+const PLAIN_REACH: u16 = 2048;

@@ -7,8 +7,11 @@ ghost use Rattle.geometry.specs.Numbers.{maxFeatures, maxCoordinate};
 ghost use Rattle.geometry.specs.Features.{gapOf};
 ghost use Rattle.geometry.specs.Stored.{coordOf};
 ghost use Rattle.geometry.specs.Slices.{onAxis, axisNo, sliceAt, lowestOf};
-ghost use Rattle.geometry_slices.specs.Questions.{reachesFrom, sizeOf, askedOf, sumTo, widthOf, rowCost, Rows};
+ghost use Rattle.geometry_slices.specs.Questions.{reachesFrom, sizeOf, askedOf, plainReach, sumTo, rowFrom, widthOf, rowCost, rowSquare, Rows};
+ghost use Rattle.geometry_slices.specs.Tables.{Squares};
 use crate::HIGHS_FROM;
+use crate::PLAIN_AT;
+use crate::PLAIN_REACH;
 use crate::REACHES_FROM;
 use crate::ROWS_FROM;
 use crate::WEIGHTS_FROM;
@@ -45,6 +48,43 @@ fn row_sum(asked: &[u16], near: &[u16], at: usize, n: usize, h: u16) -> u64
     sum
 }
 
+// The square of a number below 2,048: the remainder tells the compiler so, and it multiplies 16 bits in a lane.
+fn square(x: u16) -> u32
+    requires { ⌜ x < plainReach ⌝ }
+    ensures { λ r. ⌜ (r ≡ x * x) × (r ≤ 4194304) ⌝ }
+{
+    let g = (x % PLAIN_REACH) as u32;
+    g * g
+}
+
+// What they cost without weights.
+fn row_squares(near: &[u16], at: usize, n: usize, h: u16) -> u32
+    requires { ⌜ Squares (now near) at n ⌝ }
+    ensures { λ r. ⌜ (r ≡ sumTo n (rowSquare (now (near .entry)) at h)) × (r ≤ 4194304 * n) ⌝ }
+{
+    let mut sum: u32 = 0;
+    let mut m = 0;
+    while m < n {
+        sum += square(above(near[at + m], h));
+        m += 1;
+    }
+    sum
+}
+
+// What the row of axis j costs at height h.
+fn row_cost(asked: &[u16], near: &[u16], j: usize, h: u16) -> u64
+    requires { ⌜ Rows (now asked) (now near) × (j < sizeOf (now asked)) ⌝ }
+    ensures { λ r. ⌜ (r ≡ sumTo (widthOf (sizeOf (now (asked .entry)))) (rowCost (now (asked .entry)) (now (near .entry)) (rowFrom j) h))
+        × (r ≤ 4503599627370496) ⌝ }
+{
+    let at = ROWS_FROM + MAX_FEATURES * j;
+    let n = width(asked.len() - REACHES_FROM);
+    if near[PLAIN_AT] == 1 {
+        return row_squares(near, at, n, h) as u64;
+    }
+    row_sum(asked, near, at, n, h)
+}
+
 // The gap of height h on an axis, on the side below 0 or not, from a stored range.
 fn axis_gap(low: u16, high: u16, below: bool, h: u16) -> u16
     requires { ⌜ h ≤ maxCoordinate ⌝ }
@@ -76,7 +116,7 @@ pub fn slice_in(asked: &[u16], near: &[u16], i: usize, h: u16) -> u64
         asked[WEIGHTS_FROM + j],
         axis_gap(asked[j], asked[HIGHS_FROM + j], i < d, h),
     );
-    on + row_sum(asked, near, ROWS_FROM + MAX_FEATURES * j, width(d), h)
+    on + row_cost(asked, near, j, h)
 }
 
 // The least height of pyramid i that has grid points: 0 is the centre's, in pyramid d.

@@ -10,8 +10,8 @@ use crate::visit::reads_none;
 use geometry::MAX_FEATURES;
 use geometry_bounds::bounds::prepare;
 use geometry_slices::ASKED_PLACES;
+use geometry_slices::NEAR_PLACES;
 use geometry_slices::REACHES_FROM;
-use geometry_slices::ROWS_FROM;
 use pagestore::total_records;
 use search_model::FEW_RECORDS;
 use search_model::LARGE_ROOM;
@@ -21,9 +21,7 @@ use search_model::SMALL_ROOM;
 
 mod visit;
 
-// The sizes of the tables that `prepare` fills.
-const NEAR_PLACES: usize = ROWS_FROM + MAX_FEATURES * MAX_FEATURES;
-
+// The size of the table of whole pyramids that `prepare` fills.
 const WHOLE_PLACES: usize = 2 * MAX_FEATURES;
 
 // What is asked: the features, laid out in one list as `geometry_slices::asked::ask` does it, their number, and how many rows.

@@ -2,11 +2,8 @@
 use native.Mathlib.Omega.{arith}
 use borrow.Author.Needs.{needs}
 use mathlib.Core.Path.{refl, ap, _∙_}
-use Prim.Native.Nat.{ℕ, _+_, _≤_}
-use Rattle.geometry_slices.proofs.PackedLaws.{asked-few}
-use Rattle.geometry_slices.proofs.TableLaws.{width-le}
+use Prim.Native.Nat.{ℕ, _+_}
 use Rattle.geometry_slices.proofs.WholeLaws.{slice-of}
-use Rattle.geometry_slices.specs.Questions.{sizeOf}
 use Rattle.geometry_slices.proofs.slices.slice_in.Statement.{statement}
 use Rattle.geometry_slices.proofs.slices.slice_in.Tie as tie
 
@@ -46,33 +43,18 @@ axis-gap-requires c κs = search needs
 weigh-requires : tie.Need-weigh-requires
 weigh-requires c κs = search needs
 
-mul-row-sum : tie.Need-mul-row-sum
-mul-row-sum c = omega (arith, c .before .before .before .before .before .axis-no .ensures .1, asked-few (c .before .before .before .before .before .before .before .before .args .asked .now) (c .before .before .before .before .before .before .before .before .pre .0 .packed))
-
-add-row-sum : tie.Need-add-row-sum
-add-row-sum c = omega (arith, c .before .before .before .before .before .axis-no .ensures .1, asked-few (c .before .before .before .before .before .before .before .before .args .asked .now) (c .before .before .before .before .before .before .before .before .pre .0 .packed))
-
-width-requires : tie.Need-width-requires
-width-requires c κs = search needs
-
-row-sum-requires : tie.Need-row-sum-requires
-row-sum-requires c κs =
-    let a = c .before .before .before .before .before .before .before .before .before .args in let p = c .before .before .before .before .before .before .before .before .before .pre .0 in
-    let few = asked-few (a .asked .now) (p .packed) in
-    let w : c .width .result ≤ 16 = omega (arith, c .width .ensures, width-le (sizeOf (a .asked .now))) in
-    (omega (arith, p .packed .whole), w, omega (arith, w, few, c .before .before .before .before .before .before .axis-no .ensures .1, p .places))
+row-cost-requires : tie.Need-row-cost-requires
+row-cost-requires c κs = (c .before .before .before .before .before .before .before .before .pre .0, c .before .before .before .before .before .axis-no .ensures .1)
 
 add-result : tie.Need-add-result
-add-result c =
-    let w : c .before .width .result ≤ 16 = omega (arith, c .before .width .ensures, width-le (sizeOf (c .before .before .before .before .before .before .before .before .before .before .args .asked .now))) in
-    omega (arith, w, c .row-sum .ensures .1, c .before .before .weigh .ensures .1)
+add-result c = omega (arith, c .row-cost .ensures .1, c .before .weigh .ensures .1)
 
 returns : tie.Need-returns
 returns c =
-    let a = c .before .before .before .before .before .before .before .before .before .before .args in let j = c .before .before .before .before .before .before .before .axis-no in
-    let w = c .before .before .weigh .ensures .0 in
-    let s = slice-of (a .asked .now) (a .near .now) (a .i) (j .result) (a .h) _ _ _ _ (c .before .before .before .before .before .before .before .before .before .before .pre .0) (c .before .before .before .before .before .before .before .before .before .before .pre .1) (j .ensures .0) (c .before .width .ensures) refl (c .before .before .before .axis-gap .ensures) (c .row-sum .ensures .0) in
-    ap (λ (x : ℕ). x + c .row-sum .result) w ∙ s
+    let a = c .before .before .before .before .before .before .before .before .before .args in let j = c .before .before .before .before .before .before .axis-no in
+    let w = c .before .weigh .ensures .0 in
+    let s = slice-of (a .asked .now) (a .near .now) (a .i) (j .result) (a .h) _ _ _ _ (c .before .before .before .before .before .before .before .before .before .pre .0) (c .before .before .before .before .before .before .before .before .before .pre .1) (j .ensures .0) refl refl (c .before .before .axis-gap .ensures) (c .row-cost .ensures .0) in
+    ap (λ (x : ℕ). x + c .row-cost .result) w ∙ s
 
 pub slice-in-spec : {M : Type 1} → statement M
 slice-in-spec =
@@ -90,9 +72,6 @@ slice-in-spec =
     shared-slice-read-axis-gap-2
     axis-gap-requires
     weigh-requires
-    mul-row-sum
-    add-row-sum
-    width-requires
-    row-sum-requires
+    row-cost-requires
     add-result
     returns)

@@ -29,16 +29,29 @@ slice-aggregate-each-row-2 c = search needs
 
 each-row-requires : tie.Need-each-row-requires
 each-row-requires c κs =
-    let a = c .before .before .before .before .before .before .before .before .args in
-    (record { few = omega (arith, c .before .before .before .before .before .width .ensures, width-le (sizeOf (a .asked .now))); reaches = c .before .before .before .before .reaches .ensures .long; counted = c .before .before .before .places .ensures; room = c .before .before .before .before .before .before .before .before .pre .1 }, asked-few (a .asked .now) (c .before .before .before .before .before .before .before .before .pre .0))
+    let a = c .before .before .before .before .before .before .before .before .args in (
+      record {
+        few = omega (arith, c .before .before .before .before .before .width .ensures, width-le (sizeOf (a .asked .now)));
+        reaches = c .before .before .before .before .reaches .ensures .long;
+        counted = c .before .before .before .places .ensures;
+        room = c .before .before .before .before .before .before .before .before .pre .1;
+      },
+      asked-few (a .asked .now) (c .before .before .before .before .before .before .before .before .pre .0),
+    )
+
+mark-requires : tie.Need-mark-requires
+mark-requires c κs = c .before .before .before .before .before .before .before .before .before .before .before .pre .0
+
+slice-write-near : tie.Need-slice-write-near
+slice-write-near c = omega (arith, c .before .before .before .each-row .ensures .long, c .before .before .before .before .before .before .before .before .before .before .before .before .pre .1)
 
 same-length : tie.Need-same-length
 same-length c = search needs
 
 returns : tie.Need-returns
 returns c =
-    let a = c .before .before .before .before .before .before .before .before .before .before .before .args in
-    rows-over (a .asked .now) (c .before .before .before .before .before .before .before .reaches .result) (a .near .now) _ _ _ (c .before .before .before .before .before .before .before .before .before .before .before .pre .0) (c .before .before .before .before .before .before .before .before .before .before .before .pre .1) refl (c .before .before .before .before .before .before .before .before .width .ensures) (c .before .before .before .before .before .before .before .reaches .ensures) (c .before .before .each-row .ensures)
+    let a = c .before .before .before .before .before .before .before .before .before .before .before .before .args in let r = c .before .before .before .before .before .before .before .before .reaches in let p = c .before .before .before .before .before .before .before .before .before .before .before .before .pre in
+    rows-over (a .asked .now) (r .result) (a .near .now) _ _ _ _ (p .0) (p .1) refl (c .before .before .before .before .before .before .before .before .before .width .ensures) (r .ensures) (c .before .before .before .each-row .ensures) (c .mark .ensures)
 
 pub fill-rows-spec : {M : Type 1} → statement M
 fill-rows-spec =
@@ -51,5 +64,7 @@ fill-rows-spec =
     slice-aggregate-each-row
     slice-aggregate-each-row-2
     each-row-requires
+    mark-requires
+    slice-write-near
     same-length
     returns)
