@@ -12,7 +12,7 @@ use Rattle.lists.specs.Sorting.{filter}
 use Rattle.lists.specs.SortingLaws.{filter-all}
 use Rattle.geometry.specs.Points.{InRange}
 use Rattle.geometry.specs.Features.{Feature, plain}
-use Rattle.geometry_slices.specs.Questions.{featuresOf, sizeOf, partFrom, askedOf, Packed}
+use Rattle.geometry_slices.specs.Questions.{featuresOf, sizeOf, partFrom, askedOf, Packed, nearPlaces, wholePlaces}
 use Rattle.geometry_bounds.specs.Bounds.{Preparable}
 use Rattle.geometry.specs.Stored.{coordOf, pointOf}
 use Rattle.geometry.proofs.StoredLaws.{coord-magnitude, length-point}
@@ -73,7 +73,7 @@ module _ (asked : List ℕ) (p : List ℤ) (packed : Packed asked) (e : askedOf 
         is = e ∙ ap plain (sym ends);
       }
 
-pub preparable : (asked near whole : List ℕ) → Seekable asked → length near ≡ 288 → length whole ≡ 32 → Preparable asked near whole
+pub preparable : (asked near whole : List ℕ) → Seekable asked → length near ≡ nearPlaces → length whole ≡ wholePlaces → Preparable asked near whole
 preparable asked near whole s n w =
     record {
       some = omega (arith, s .point .some, length-take (sizeOf asked) asked);
