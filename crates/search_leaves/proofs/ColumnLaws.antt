@@ -26,6 +26,7 @@ use Rattle.search_leaves.specs.Columns.{coordsAt, costFrom, gapSquare, m
 
 -- the square of a gap below 2,048
 pub square-most : (x y : ℕ) → x < 2048 → y < 2048 → gapSquare x y ≤ mostCost
+unfolding gapSquare
 square-most x y h g =
     let l : (x - y) + (y - x) ≤ 2047 = omega arith in mul-le-mul l l
 
@@ -38,7 +39,7 @@ asked-low page q n m s h = all-at (s .ranges) m 0 h
 -- one coordinate more
 pub cost-more : (page q : List ℕ) (m r : ℕ) → m < length q → length q ≤ 16 → r < 16
     → costFrom page q m r ≡ gapSquare (getD q m 0) (getD (coordsAt page r) m 0) + costFrom page q (m + 1) r
-unfolding costFrom
+unfolding costFrom gapSquare
 cost-more page q m r h l g = dist-more q (coordsAt page r) m h (omega (arith, coords-slots page r g))
 
 -- a coordinate more of a run
@@ -126,6 +127,18 @@ module _ (page q : List ℕ) (s m n : ℕ) where
 
   pub four-start : (sums : List ℕ) → Quarters page q s m n sums → AddingFour 0 sums
   four-start sums w = adding-start (quartersLeft page q s m) (quartersLeft page q s (m + 1)) (costFrom page q 0) (4 * m) (4 * (m + 1)) n sums (w .slots) (w .each) (w .low)
+
+  -- c is added for record i
+  pub four-next : (i c : ℕ) (sums : List ℕ) → i < n → n ≤ 16 → quartersLeft page q s m i ≡ c + quartersLeft page q s (m + 1) i → c ≤ mostCost * 4
+      → AddingFour i sums → AddingFour (i + 1) (set sums i (getD sums i 0 + c))
+  four-next i c sums h f e l a =
+      let before = quartersLeft page q s m in let after = quartersLeft page q s (m + 1) in
+      adding-next before after (costFrom page q 0) (4 * m) (4 * (m + 1)) n i c sums h f e (omega arith) a
+
+  pub four-fits : (i : ℕ) (sums : List ℕ) → AddingFour i sums → i < n → 4 * m ≤ 16 → getD sums i 0 ≤ 67043344
+  four-fits i sums a h l =
+      let before = quartersLeft page q s m in let after = quartersLeft page q s (m + 1) in
+      adding-fits before after (costFrom page q 0) (4 * m) (4 * (m + 1)) n i sums a h l
 
   pub four-end : (i : ℕ) (sums : List ℕ) → n ≤ i → Sized page q n → 4 * s ≤ length q → m < s → AddingFour i sums → Quarters page q s (m + 1) n sums
   four-end i sums h z w l a =

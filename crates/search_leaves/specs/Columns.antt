@@ -27,7 +27,7 @@ unfolding distance pointOf
 costFrom page q m r = distance (drop m (pointOf q)) (drop m (pointOf (coordsAt page r)))
 
 -- the square of the gap of two stored coordinates; of two below 2,048 it is at most `mostCost`
-abbrev pub gapSquare : ℕ → ℕ → ℕ
+unfoldable pub gapSquare : ℕ → ℕ → ℕ
 gapSquare x y = ((x - y) + (y - x)) * ((x - y) + (y - x))
 
 abbrev pub mostCost : ℕ

@@ -9,6 +9,9 @@ ghost use Rattle.geometry.specs.Numbers.{maxFeatures};
 ghost use Rattle.pagestore_page.specs.Layout.{maxItems, pageSize};
 use pagestore::read_coord;
 
+// A power of two; two costs together are below it.
+const PAIR_ROOM: u32 = 8388608;
+
 // The gap of two stored coordinates, in 16 bits with its sign: so much a lane of the loops below holds.
 fn gap_of(x: u16, y: u16) -> i16
     requires { ⌜ (x < 2048) × (y < 2048) ⌝ }
@@ -27,12 +30,12 @@ fn squared(gap: i16) -> u32
     (g * g) as u32
 }
 
-// The square of the gap of two stored coordinates.
+// The square of the gap of two stored coordinates. The one of the page, y, comes first: from what was loaded the loops subtract without a copy.
 fn square_gap(x: u16, y: u16) -> u32
     requires { ⌜ (x < 2048) × (y < 2048) ⌝ }
     ensures { λ r. ⌜ (r ≡ gapSquare x y) × (r ≤ mostCost) ⌝ }
 {
-    squared(gap_of(x, y))
+    squared(gap_of(y, x))
 }
 
 // What coordinate m of record r costs, where that of the asked point is x.
@@ -41,6 +44,15 @@ fn cost_at(page: &[u8], m: usize, r: usize, x: u16) -> u32
     ensures { λ c. ⌜ (c ≡ gapSquare x (getD (coordsAt (now (page .entry)) r) m 0)) × (c ≤ mostCost) ⌝ }
 {
     square_gap(x, read_coord(page, m, r))
+}
+
+// The costs of two coordinates together. The remainder changes nothing: it keeps the two added first, so that one instruction squares both gaps
+// and adds the squares.
+fn pair_cost(a: u32, b: u32) -> u32
+    requires { ⌜ (a ≤ mostCost) × (b ≤ mostCost) ⌝ }
+    ensures { λ r. ⌜ r ≡ a + b ⌝ }
+{
+    (a + b) % PAIR_ROOM
 }
 
 // Adds what coordinate m costs to the sums of the first n records.
@@ -74,7 +86,7 @@ fn add_four(page: &[u8], q: &[u16], m: usize, apart: usize, n: usize, sums: &mut
         let b = cost_at(page, second, r, y);
         let c = cost_at(page, third, r, z);
         let e = cost_at(page, fourth, r, w);
-        sums[r] += (a + b) + (c + e);
+        sums[r] += pair_cost(a, b) + pair_cost(c, e);
         r += 1;
     }
 }

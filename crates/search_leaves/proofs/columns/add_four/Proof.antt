@@ -1,11 +1,11 @@
 -- `columns::add_four` meets its contract: the sums below r have the four columns, those from r on do not yet.
 use mathlib.Core.Path.{_≡_, refl}
-use Prim.Native.Nat.{_+_, _-_, _*_, _≤_, _<_}
+use Prim.Native.Nat.{ℕ, _+_, _-_, _*_, _≤_, _<_}
 use native.Mathlib.Omega.{arith}
 use lib.ListN.{length, length-set}
 use denote.Ref.{now}
-use Rattle.search_leaves.specs.Columns.{costFrom, quartersLeft, Sized}
-use Rattle.search_leaves.proofs.ColumnLaws.{AddingFour, asked-low, adding-next, adding-fits, four-start, four-end, quarters-more}
+use Rattle.search_leaves.specs.Columns.{mostCost, quartersLeft, Sized}
+use Rattle.search_leaves.proofs.ColumnLaws.{AddingFour, asked-low, four-start, four-next, four-fits, four-end, quarters-more}
 use Rattle.search_leaves.proofs.columns.add_four.Statement.{statement}
 use Rattle.search_leaves.proofs.columns.add_four.Tie as tie
 
@@ -75,49 +75,69 @@ cost-at-requires-4 c κs =
     let low = asked-low (now (a .page)) (now (a .q)) (a .n) (a .m + a .apart + a .apart + a .apart) s (omega (arith, L .inv .1, L .inv .2)) in
     (s .bytes, omega (arith, s .most, L .inv .1, L .inv .2), omega (arith, s .few, c .before .before .before .loop-test .taken), low)
 
+pair-cost-requires : tie.Need-pair-cost-requires Inv-loop μ-loop
+pair-cost-requires c κs = (c .before .before .before .cost-at .ensures .1, c .before .before .cost-at2 .ensures .1)
+
+pair-cost-requires-2 : tie.Need-pair-cost-requires-2 Inv-loop μ-loop
+pair-cost-requires-2 c κs = (c .before .before .cost-at3 .ensures .1, c .before .cost-at4 .ensures .1)
+
 add-sums : tie.Need-add-sums Inv-loop μ-loop
-add-sums c = omega (arith, c .before .before .before .cost-at .ensures .1, c .before .before .cost-at2 .ensures .1, c .before .cost-at3 .ensures .1, c .cost-at4 .ensures .1)
-
-add-sums-2 : tie.Need-add-sums-2 Inv-loop μ-loop
-add-sums-2 c = omega (arith, c .before .before .before .cost-at .ensures .1, c .before .before .cost-at2 .ensures .1, c .before .cost-at3 .ensures .1, c .cost-at4 .ensures .1)
-
-add-sums-3 : tie.Need-add-sums-3 Inv-loop μ-loop
-add-sums-3 c = omega (arith, c .before .before .before .cost-at .ensures .1, c .before .before .cost-at2 .ensures .1, c .before .cost-at3 .ensures .1, c .cost-at4 .ensures .1)
+add-sums c =
+    let P = c .before .pair-cost in let Q = c .pair-cost2 in let four = c .before .before in
+    let C = four .before .cost-at3 in let B = four .before .before .cost-at2 in let A = four .before .before .before .cost-at in
+    omega (arith, A .ensures .1, B .ensures .1, C .ensures .1, four .cost-at4 .ensures .1, P .ensures, Q .ensures)
 
 mul-sums : tie.Need-mul-sums Inv-loop μ-loop
-mul-sums c = let L = c .before .before .before .before .before .loop in omega (arith, L .inv .0 .few, c .before .before .before .before .loop-test .taken)
+mul-sums c =
+    let turn = c .before .before .before .before .before .before in
+    omega (arith, turn .before .loop .inv .0 .few, turn .loop-test .taken)
 
 slice-read-sums : tie.Need-slice-read-sums Inv-loop μ-loop
-slice-read-sums c = let L = c .before .before .before .before .before .before .loop in omega (arith, L .inv .5 .slots, L .inv .0 .few, c .before .before .before .before .before .loop-test .taken)
+slice-read-sums c =
+    let turn = c .before .before .before .before .before .before .before in let L = turn .before .loop in
+    omega (arith, L .inv .5 .slots, L .inv .0 .few, turn .loop-test .taken)
 
-add-sums-4 : tie.Need-add-sums-4 Inv-loop μ-loop
-add-sums-4 c =
-    let L = c .before .before .before .before .before .before .loop in let a = c .before .before .before .before .before .before .before .before .before .before .before .before .before .before .args in
+add-sums-2 : tie.Need-add-sums-2 Inv-loop μ-loop
+add-sums-2 c =
+    let P = c .before .before .pair-cost in let Q = c .before .pair-cost2 in let four = c .before .before .before in
+    let C = four .before .cost-at3 in let B = four .before .before .cost-at2 in let A = four .before .before .before .cost-at in
+    let turn = four .before .before .before .before in let L = turn .before .loop in
+    let a = turn .before .before .before .before .before .before .before .before .before .args in
     let m : 4 * a .m ≤ 16 = omega (arith, L .inv .0 .most, L .inv .1, L .inv .2) in
-    let w = adding-fits (quartersLeft (now (a .page)) (now (a .q)) (a .apart) (a .m)) (quartersLeft (now (a .page)) (now (a .q)) (a .apart) (a .m + 1)) (costFrom (now (a .page)) (now (a .q)) 0) (4 * a .m) (4 * (a .m + 1)) (a .n) (L .r) (L .sums) (L .inv .5) (c .before .before .before .before .before .loop-test .taken) m in
-    omega (arith, w, c .before .before .before .before .cost-at .ensures .1, c .before .before .before .cost-at2 .ensures .1, c .before .before .cost-at3 .ensures .1, c .before .cost-at4 .ensures .1)
+    let w = four-fits (now (a .page)) (now (a .q)) (a .apart) (a .m) (a .n) (L .r) (L .sums) (L .inv .5) (turn .loop-test .taken) m in
+    omega (arith, w, A .ensures .1, B .ensures .1, C .ensures .1, four .cost-at4 .ensures .1, P .ensures, Q .ensures)
 
 slice-write-sums : tie.Need-slice-write-sums Inv-loop μ-loop
-slice-write-sums c = let L = c .before .before .before .before .before .before .loop in omega (arith, L .inv .5 .slots, L .inv .0 .few, c .before .before .before .before .before .loop-test .taken)
+slice-write-sums c =
+    let turn = c .before .before .before .before .before .before .before in let L = turn .before .loop in
+    omega (arith, L .inv .5 .slots, L .inv .0 .few, turn .loop-test .taken)
 
 add-r : tie.Need-add-r Inv-loop μ-loop
-add-r c = let L = c .before .before .before .before .before .before .loop in omega (arith, L .inv .0 .few, c .before .before .before .before .before .loop-test .taken)
+add-r c =
+    let turn = c .before .before .before .before .before .before .before in
+    omega (arith, turn .before .loop .inv .0 .few, turn .loop-test .taken)
 
 loop-less : tie.Need-loop-less Inv-loop μ-loop
-loop-less c = omega (arith, c .before .before .before .before .before .loop-test .taken)
+loop-less c = omega (arith, c .before .before .before .before .before .before .before .loop-test .taken)
 
 loop-again : tie.Need-loop-again Inv-loop μ-loop
 loop-again c =
-    let L = c .before .before .before .before .before .before .loop in let a = c .before .before .before .before .before .before .before .before .before .before .before .before .before .before .args in let t = c .before .before .before .before .before .loop-test .taken in let s = L .inv .0 in
-    let A = c .before .before .before .before .cost-at in let B = c .before .before .before .cost-at2 in let C = c .before .before .cost-at3 in let E = c .before .cost-at4 in
+    let P = c .before .before .pair-cost in let Q = c .before .pair-cost2 in let four = c .before .before .before in let E = four .cost-at4 in
+    let C = four .before .cost-at3 in let B = four .before .before .cost-at2 in let A = four .before .before .before .cost-at in
+    let turn = four .before .before .before .before in let t = turn .loop-test .taken in let L = turn .before .loop in let s = L .inv .0 in
+    let a = turn .before .before .before .before .before .before .before .before .before .args in
     let more = quarters-more (now (a .page)) (now (a .q)) (a .apart) (a .m) (a .n) (L .r) (L .inv .2) in
-    let e : quartersLeft (now (a .page)) (now (a .q)) (a .apart) (a .m) (L .r) ≡ ((A .result + B .result) + (C .result + E .result)) + quartersLeft (now (a .page)) (now (a .q)) (a .apart) (a .m + 1) (L .r) = omega (arith, more, A .ensures .0, B .ensures .0, C .ensures .0, E .ensures .0) in (
+    let left : ℕ → ℕ = λ m. quartersLeft (now (a .page)) (now (a .q)) (a .apart) m (L .r) in
+    let e : left (a .m) ≡ (P .result + Q .result) + left (a .m + 1) =
+    omega (arith, more, A .ensures .0, B .ensures .0, C .ensures .0, E .ensures .0, P .ensures, Q .ensures) in
+    let l : P .result + Q .result ≤ mostCost * 4 =
+    omega (arith, A .ensures .1, B .ensures .1, C .ensures .1, E .ensures .1, P .ensures, Q .ensures) in (
       s,
       L .inv .1,
       L .inv .2,
       omega (arith, t),
       simp length-set (L .inv .4),
-      adding-next (quartersLeft (now (a .page)) (now (a .q)) (a .apart) (a .m)) (quartersLeft (now (a .page)) (now (a .q)) (a .apart) (a .m + 1)) (costFrom (now (a .page)) (now (a .q)) 0) (4 * a .m) (4 * (a .m + 1)) (a .n) (L .r) ((A .result + B .result) + (C .result + E .result)) (L .sums) t (s .few) e (omega (arith, A .ensures .1, B .ensures .1, C .ensures .1, E .ensures .1)) (L .inv .5),
+      four-next (now (a .page)) (now (a .q)) (a .apart) (a .m) (a .n) (L .r) (P .result + Q .result) (L .sums) t (s .few) e l (L .inv .5),
     )
 
 same-length : tie.Need-same-length Inv-loop μ-loop
@@ -148,12 +168,12 @@ add-four-spec =
     cost-at-requires-2
     cost-at-requires-3
     cost-at-requires-4
+    pair-cost-requires
+    pair-cost-requires-2
     add-sums
-    add-sums-2
-    add-sums-3
     mul-sums
     slice-read-sums
-    add-sums-4
+    add-sums-2
     slice-write-sums
     add-r
     loop-less
