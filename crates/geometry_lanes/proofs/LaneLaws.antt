@@ -17,7 +17,7 @@ use Rattle.geometry_slices.proofs.RowLaws.{sum-ext, sum-past}
 use Rattle.geometry_lanes.proofs.SlopeLaws.{slope}
 use Rattle.geometry.specs.Slices.{axisNo, sliceAt}
 use Rattle.geometry_slices.specs.Questions.{sizeOf, askedOf, sumTo}
-use Rattle.geometry_lanes.specs.Lanes.{fromAt, oddOf, endAt, Sides, endBelow, endAbove, weightOf, pullAt, halvedAt, summed, Lanes}
+use Rattle.geometry_lanes.specs.Lanes.{fromAt, oddOf, endAt, Sides, endBelow, endAbove, weightOf, pullAt, halvedAt, Lanes}
 
 -- one turn of a lane: the interval b .. b + s, looked at before its middle
 module _ (f : ℕ → ℕ) (conv : Convex f) where
@@ -71,10 +71,11 @@ module _ (a falls weights owns ends : List ℕ) (n : ℕ) (v : Lanes a falls wei
   unfolding endAt
   end-is i l = side-at (endBelow a) (endAbove a) (endBelow a) (sizeOf a) i ends (v .ending) l
 
-  pulls-are : (i t : ℕ) → i < sizeOf a + sizeOf a → sumTo (summed n) (pullAt falls weights i t) ≡ sumTo (sizeOf a) (λ (m : ℕ). getD a (32 + m) 0 * (oddOf (fromAt a i m) - t))
-  pulls-are i t l =
-      let e : sizeOf a + (summed n - sizeOf a) ≡ summed n = omega (arith, v .enough) in
-      let z = sum-past (summed n - sizeOf a) (sizeOf a) (pullAt falls weights i t)
+  pulls-are : (k i t : ℕ) → sizeOf a ≤ k → i < sizeOf a + sizeOf a
+      → sumTo k (pullAt falls weights i t) ≡ sumTo (sizeOf a) (λ (m : ℕ). getD a (32 + m) 0 * (oddOf (fromAt a i m) - t))
+  pulls-are k i t o l =
+      let e : sizeOf a + (k - sizeOf a) ≡ k = omega arith in
+      let z = sum-past (k - sizeOf a) (sizeOf a) (pullAt falls weights i t)
       (λ m u w. nothing (getD weights (i + 32 * m) 0) (getD falls (i + 32 * m) 0) t (v .falling .past (i + 32 * m) (omega arith))) in
       rw e at z
       ∙ sum-ext (sizeOf a) (pullAt falls weights i t) (λ (m : ℕ). getD a (32 + m) 0 * (oddOf (fromAt a i m) - t))
@@ -83,19 +84,21 @@ module _ (a falls weights owns ends : List ℕ) (n : ℕ) (v : Lanes a falls wei
       nothing : (w x t : ℕ) → x ≡ 0 → w * (x - t) ≡ 0
       nothing w x t e = let z : x - t ≡ 0 = omega arith in rw z (omega arith)
 
-  -- the lane of pyramid i
-  pub lane-halved : (i b s : ℕ) → i < sizeOf a + sizeOf a → 0 < s → Bisect (sliceAt (askedOf a) i) 0 1000 b (b + s)
-      → Bisect (sliceAt (askedOf a) i) 0 1000 (halvedAt falls weights owns ends (summed n) (s - s / 2) i b) (halvedAt falls weights owns ends (summed n) (s - s / 2) i b + s / 2)
-  lane-halved i b s l z k =
+  -- the lane of pyramid i, c coordinates being summed
+  pub lane-halved : (c i b s : ℕ) → sizeOf a ≤ c → i < sizeOf a + sizeOf a → 0 < s → Bisect (sliceAt (askedOf a) i) 0 1000 b (b + s)
+      → Bisect (sliceAt (askedOf a) i) 0 1000 (halvedAt falls weights owns ends c (s - s / 2) i b)
+      (halvedAt falls weights owns ends c (s - s / 2) i b + s / 2)
+  lane-halved c i b s few l z k =
       let fs = askedOf a in
       let m = b + (s - s / 2) - 1 in
       let e : m + 1 ≡ b + (s - s / 2) = omega arith in
       let t : 2 * b + (2 * (s - s / 2) - 2) ≡ 2 * m = omega arith in
       let top : suc m ≤ 1000 = omega (arith, k .high) in
       let g = slope a (v .asked) i (axisNo (sizeOf a) i) m l refl top in
-      let S = sumTo (summed n) (pullAt falls weights i (2 * b + (2 * (s - s / 2) - 2))) in
+      let S = sumTo c (pullAt falls weights i (2 * b + (2 * (s - s / 2) - 2))) in
       let R = getD owns i 0 * (2 * b + (2 * (s - s / 2) - 2) + 2001 - getD ends i 0) in
-      let x : S ≡ sumTo (sizeOf a) (λ (m′ : ℕ). getD a (32 + m′) 0 * (oddOf (fromAt a i m′) - 2 * m)) = ap (λ (y : ℕ). sumTo (summed n) (pullAt falls weights i y)) t ∙ pulls-are i (2 * m) l in
+      let x : S ≡ sumTo (sizeOf a) (λ (m′ : ℕ). getD a (32 + m′) 0 * (oddOf (fromAt a i m′) - 2 * m)) =
+      ap (λ (y : ℕ). sumTo c (pullAt falls weights i y)) t ∙ pulls-are c i (2 * m) few l in
       let y : R ≡ getD a (32 + axisNo (sizeOf a) i) 0 * ((2 * m + 2001) - endAt a i) = rw (t, own-is i l, end-is i l) in
       let o : m + 1 ≡ suc m = omega arith in
       let h : sliceAt fs i m + R ≡ sliceAt fs i (m + 1) + S = rw o (omega (arith, g, x, y)) in

@@ -1,3 +1,4 @@
 pub mod SlopeLaws
 pub mod LaneLaws
 pub mod TurnLaws
+pub mod FallLaws

@@ -32,15 +32,6 @@ lanes-enough d l = by (leb (lanesOf d) 8) refl (leb (lanesOf d) 16) refl
     by false e true f = omega (arith, leb-true (lanesOf d) 16 f)
     by false e false f = l
 
-pub summed-4 : (n : ℕ) → n ≤ 8 → 4 ≡ summed n
-summed-4 n l = rw (le-leb n 8 l)
-
-pub summed-8 : (n : ℕ) → 8 < n → n ≤ 16 → 8 ≡ summed n
-summed-8 n l k = rw (lt-leb n 8 l, le-leb n 16 k)
-
-pub summed-16 : (n : ℕ) → 8 < n → 16 < n → 16 ≡ summed n
-summed-16 n l k = rw (lt-leb n 8 l, lt-leb n 16 k)
-
 -- what four, eight and sixteen coordinates pull
 pub product-fits : (w x : ℕ) → w < 65536 → x < 65536 → w * x < 4294967296
 product-fits w x l k = let a : w ≤ 65535 = omega arith in let b : x ≤ 65535 = omega arith in let s : w * x ≤ 4294836225 = mul-le-mul a b in omega arith
@@ -92,14 +83,16 @@ halving-start a n heights b =
       found = λ i l. let e : 0 + 1000 ≡ 1000 = omega arith in rw (b .zeros i, e) (bisect-start (sliceAt (askedOf a) i) (at-convex (askedOf a) i) 0 1000 (omega arith));
     }
 
-pub halving-turn : (a falls weights owns ends xs ys : List ℕ) (n size : ℕ) → Lanes a falls weights owns ends n → 0 < size → Halving a n size xs
-    → Filled (halvedAt falls weights owns ends (summed n) (size - size / 2)) 0 n xs ys
+pub halving-turn : (a falls weights owns ends xs ys : List ℕ) (k n size : ℕ) → Lanes a falls weights owns ends n → sizeOf a ≤ k
+    → 0 < size → Halving a n size xs → Filled (halvedAt falls weights owns ends k (size - size / 2)) 0 n xs ys
     → Halving a n (size / 2) ys
-halving-turn a falls weights owns ends xs ys n size v z h f =
+halving-turn a falls weights owns ends xs ys k n size v o z h f =
     record {
       long = f .long ∙ h .long;
-      room = λ i l. rw (f .inside i (omega arith) (omega arith)) (halved-room falls weights owns ends (summed n) i (getD xs i 0) size (h .room i l));
-      found = λ i l. rw (f .inside i (omega arith) (omega (arith, v .cover))) (lane-halved a falls weights owns ends n v i (getD xs i 0) size l z (h .found i l));
+      room = λ i l. rw (f .inside i (omega arith) (omega arith)) (halved-room falls weights owns ends k i (getD xs i 0) size (h .room i l));
+      found = λ i l.
+          rw (f .inside i (omega arith) (omega (arith, v .cover)))
+          (lane-halved a falls weights owns ends n v k i (getD xs i 0) size o l z (h .found i l));
     }
 
 pub halving-end : (a : List ℕ) (n size : ℕ) (heights : List ℕ) → length (askedOf a) ≡ sizeOf a → size ≡ 0 → Halving a n size heights → Nearest (askedOf a) heights

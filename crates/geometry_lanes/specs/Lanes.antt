@@ -1,6 +1,7 @@
 -- The nearest heights of all pyramids at once: what stands in the lanes, one for each pyramid, and what a turn of the bisection does to
 -- them.
 use mathlib.Core.Path.{_≡_}
+use mathlib.Core.Bool.{Bool}
 use mathlib.Core.List.{List}
 use Prim.Native.Nat.{ℕ, _+_, _*_, _-_, _/_, _≤_, _<_}
 use lib.Dec.{leb, ltb, eqb}
@@ -94,6 +95,14 @@ same v x y = v
 abbrev pub pullAt : List ℕ → List ℕ → ℕ → ℕ → ℕ → ℕ
 pullAt falls weights i t m = getD weights (i + maxLanes * m) 0 * (getD falls (i + maxLanes * m) 0 - t)
 
+-- and what it falls by alone: what it pulls where its weight is 1
+abbrev pub fallAt : List ℕ → ℕ → ℕ → ℕ → ℕ
+fallAt falls i t m = getD falls (i + maxLanes * m) 0 - t
+
+-- n lanes without weights: each coordinate pulls what it falls by
+abbrev pub PlainLanes : List ℕ → List ℕ → ℕ → Type 0
+PlainLanes falls weights n = (i t m : ℕ) → i < n → pullAt falls weights i t m ≡ fallAt falls i t m
+
 -- a lane after a turn: it stays where the distance does not fall from height h + step - 1 on, summed over k coordinates
 abbrev pub settledAt : ℕ → ℕ → ℕ → ℕ → ℕ → ℕ → ℕ
 settledAt sum weight end t step h = if (leb sum (weight * (t + 2001 - end))) h (h + step)
@@ -108,6 +117,10 @@ Halved falls weights owns ends k step n xs ys = Filled (halvedAt falls weights o
 -- how many coordinates are summed for n lanes
 abbrev pub summed : ℕ → ℕ
 summed n = if (leb n 8) 4 (if (leb n 16) 8 16)
+
+-- and for lanes that may be without weights: more than 8 of these sum all sixteen
+abbrev pub summedIn : Bool → ℕ → ℕ
+summedIn plain n = if (leb n 8) 4 (if plain 16 (if (leb n 16) 8 16))
 
 -- lanes that a turn may move: tables as long as they are, what falls bounded, and no height above the greatest after the turn
 pub record Movable (falls weights owns ends : List ℕ) (n step : ℕ) (heights : List ℕ) : Type 0 where

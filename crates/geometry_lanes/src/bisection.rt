@@ -1,11 +1,13 @@
 // The bisection: a lane holds the lower end of its interval, and each turn halves all intervals.
 ghost use mathlib.Core.Path.{_≡_};
+ghost use mathlib.Core.Bool.{true};
 ghost use Prim.Native.Nat.{_+_, _*_, _≤_};
 ghost use lib.ListN.{length};
 ghost use Rattle.geometry.specs.Numbers.{maxFeatures, maxCoordinate};
 ghost use Rattle.geometry.specs.Slices.{Nearest};
 ghost use Rattle.geometry_slices.specs.Questions.{sizeOf, askedOf};
-ghost use Rattle.geometry_lanes.specs.Lanes.{maxLanes, settledAt, summed, lanesOf, Movable, Halved, Lanes, Blank};
+ghost use Rattle.geometry_lanes.specs.Lanes.{maxLanes, settledAt, summedIn, lanesOf, PlainLanes, Movable, Halved, Lanes, Blank};
+use crate::pulls::all_falls;
 use crate::pulls::all_pulls;
 use crate::pulls::eight_pulls;
 use crate::pulls::four_pulls;
@@ -13,6 +15,7 @@ use crate::pulls::pull;
 use geometry::MAX_COORDINATE;
 use geometry::points::above;
 use geometry_slices::REACHES_FROM;
+use geometry_slices::asked::is_plain;
 
 // How many lanes d coordinates take.
 pub fn lanes(d: usize) -> usize
@@ -106,8 +109,8 @@ fn halve_all(
     }
 }
 
-// One turn of the bisection, in all lanes.
-fn halve(
+// For all sixteen without weights: sums of 16 bits, of which twice as many stand in a register, and no products.
+fn halve_plain(
     falls: &[u16],
     weights: &[u16],
     owns: &[u16],
@@ -116,12 +119,42 @@ fn halve(
     step: u16,
     heights: &mut [u16],
 )
-    requires { ⌜ Movable (now falls) (now weights) (now owns) (now ends) n step (now heights) ⌝ }
-    ensures { λ _. ⌜ Halved (now (falls .entry)) (now (weights .entry)) (now (owns .entry)) (now (ends .entry)) (summed n) step n
+    requires { ⌜ Movable (now falls) (now weights) (now owns) (now ends) n step (now heights) × PlainLanes (now falls) (now weights) n ⌝ }
+    ensures { λ _. ⌜ Halved (now (falls .entry)) (now (weights .entry)) (now (owns .entry)) (now (ends .entry)) 16 step n
+        (now (heights .entry)) (now (heights .exit)) ⌝ }
+{
+    let twice = 2 * step - 2;
+    let mut i = 0;
+    while i < n {
+        let t = 2 * heights[i] + twice;
+        let sum = all_falls(falls, i, t);
+        heights[i] = settled(sum as u32, owns[i], ends[i], t, step, heights[i]);
+        i += 1;
+    }
+}
+
+// One turn of the bisection, in all lanes; plain says that they are without weights.
+fn halve(
+    falls: &[u16],
+    weights: &[u16],
+    owns: &[u16],
+    ends: &[u16],
+    n: usize,
+    plain: bool,
+    step: u16,
+    heights: &mut [u16],
+)
+    requires { ⌜ Movable (now falls) (now weights) (now owns) (now ends) n step (now heights)
+        × (plain ≡ true → PlainLanes (now falls) (now weights) n) ⌝ }
+    ensures { λ _. ⌜ Halved (now (falls .entry)) (now (weights .entry)) (now (owns .entry)) (now (ends .entry)) (summedIn plain n) step n
         (now (heights .entry)) (now (heights .exit)) ⌝ }
 {
     if n <= 8 {
         halve_four(falls, weights, owns, ends, n, step, heights);
+        return;
+    }
+    if plain {
+        halve_plain(falls, weights, owns, ends, n, step, heights);
         return;
     }
     if n <= 16 {
@@ -145,10 +178,11 @@ pub fn bisect(
     ensures { λ _. ⌜ Nearest (askedOf (now (asked .entry))) (now (heights .exit)) × (length (now (heights .exit)) ≡ maxLanes) ⌝ }
 {
     let n = lanes(asked.len() - REACHES_FROM);
+    let plain = is_plain(asked);
     let mut size = MAX_COORDINATE;
     while 0 < size {
         let half = size / 2;
-        halve(falls, weights, owns, ends, n, size - half, heights);
+        halve(falls, weights, owns, ends, n, plain, size - half, heights);
         size = half;
     }
 }
