@@ -10,24 +10,24 @@ use lib.Dec.{leb}
 use lib.ListN.{getD}
 use Rattle.lists.specs.Basics.{if}
 use Rattle.geometry_slices.proofs.RowLaws.{sum-ext, sum-parts}
-use Rattle.geometry_slices.specs.Questions.{sizeOf, sumTo, Plain}
-use Rattle.geometry_lanes.specs.Lanes.{pullAt, fallAt, summed, summedIn, PlainLanes, Falls, Weights}
+use Rattle.geometry_slices.specs.Questions.{sizeOf, sumTo, Unweighted}
+use Rattle.geometry_lanes.specs.Lanes.{pullAt, fallAt, summed, summedIn, UnweightedLanes, Falls, Weights}
 
 -- how many coordinates are summed
-pub in-4 : (plain : Bool) (n : ℕ) → n ≤ 8 → 4 ≡ summedIn plain n
-in-4 plain n l = rw (le-leb n 8 l)
+pub in-4 : (unweighted : Bool) (n : ℕ) → n ≤ 8 → 4 ≡ summedIn unweighted n
+in-4 unweighted n l = rw (le-leb n 8 l)
 
-pub in-plain : (plain : Bool) (n : ℕ) → 8 < n → plain ≡ true → 16 ≡ summedIn plain n
-in-plain plain n l e = rw (lt-leb n 8 l, e)
+pub in-unweighted : (unweighted : Bool) (n : ℕ) → 8 < n → unweighted ≡ true → 16 ≡ summedIn unweighted n
+in-unweighted unweighted n l e = rw (lt-leb n 8 l, e)
 
-pub in-8 : (plain : Bool) (n : ℕ) → 8 < n → plain ≡ false → n ≤ 16 → 8 ≡ summedIn plain n
-in-8 plain n l e k = rw (lt-leb n 8 l, e, le-leb n 16 k)
+pub in-8 : (unweighted : Bool) (n : ℕ) → 8 < n → unweighted ≡ false → n ≤ 16 → 8 ≡ summedIn unweighted n
+in-8 unweighted n l e k = rw (lt-leb n 8 l, e, le-leb n 16 k)
 
-pub in-16 : (plain : Bool) (n : ℕ) → 8 < n → plain ≡ false → 16 < n → 16 ≡ summedIn plain n
-in-16 plain n l e k = rw (lt-leb n 8 l, e, lt-leb n 16 k)
+pub in-16 : (unweighted : Bool) (n : ℕ) → 8 < n → unweighted ≡ false → 16 < n → 16 ≡ summedIn unweighted n
+in-16 unweighted n l e k = rw (lt-leb n 8 l, e, lt-leb n 16 k)
 
-pub in-enough : (plain : Bool) (d n : ℕ) → d ≤ 16 → d ≤ summed n → d ≤ summedIn plain n
-in-enough plain d n l = by (leb n 8) plain
+pub in-enough : (unweighted : Bool) (d n : ℕ) → d ≤ 16 → d ≤ summed n → d ≤ summedIn unweighted n
+in-enough unweighted d n l = by (leb n 8) unweighted
   where
     by : (x y : Bool) → d ≤ if x 4 (if (leb n 16) 8 16) → d ≤ if x 4 (if y 16 (if (leb n 16) 8 16))
     by true y k = k
@@ -60,7 +60,7 @@ module _ (falls : List ℕ) (t : ℕ) where
       omega (arith, f, g, s, sum-parts n q (fallAt falls at t))
 
 -- a lane's sum without weights
-pub falls-pull : (falls weights : List ℕ) (n k i t sum : ℕ) → PlainLanes falls weights n → i < n → sum ≡ sumTo k (fallAt falls i t)
+pub falls-pull : (falls weights : List ℕ) (n k i t sum : ℕ) → UnweightedLanes falls weights n → i < n → sum ≡ sumTo k (fallAt falls i t)
     → sum ≡ sumTo k (pullAt falls weights i t)
 falls-pull falls weights n k i t sum p l e = e ∙ sym (sum-ext k (pullAt falls weights i t) (fallAt falls i t) (λ m u. p i t m l))
 
@@ -71,9 +71,9 @@ times-one w x t e = rw e (omega arith)
 of-nothing : (w x t : ℕ) → x ≡ 0 → w * (x - t) ≡ x - t
 of-nothing w x t e = let z : x - t ≡ 0 = omega arith in rw z (omega arith)
 
-pub plain-lanes : (a falls weights : List ℕ) (n : ℕ) → Plain a → Falls a falls (sizeOf a) → Weights a weights n (sizeOf a)
-    → PlainLanes falls weights n
-plain-lanes a falls weights n p f w i t m l = by (decLe (sizeOf a) m)
+pub unweighted-lanes : (a falls weights : List ℕ) (n : ℕ) → Unweighted a → Falls a falls (sizeOf a) → Weights a weights n (sizeOf a)
+    → UnweightedLanes falls weights n
+unweighted-lanes a falls weights n p f w i t m l = by (decLe (sizeOf a) m)
   where
     by : Dec (sizeOf a ≤ m) → pullAt falls weights i t m ≡ fallAt falls i t m
     by (yes k) = of-nothing (getD weights (i + 32 * m) 0) (getD falls (i + 32 * m) 0) t (f .past (i + 32 * m) (omega arith))

@@ -100,8 +100,8 @@ abbrev pub fallAt : List ℕ → ℕ → ℕ → ℕ → ℕ
 fallAt falls i t m = getD falls (i + maxLanes * m) 0 - t
 
 -- n lanes without weights: each coordinate pulls what it falls by
-abbrev pub PlainLanes : List ℕ → List ℕ → ℕ → Type 0
-PlainLanes falls weights n = (i t m : ℕ) → i < n → pullAt falls weights i t m ≡ fallAt falls i t m
+abbrev pub UnweightedLanes : List ℕ → List ℕ → ℕ → Type 0
+UnweightedLanes falls weights n = (i t m : ℕ) → i < n → pullAt falls weights i t m ≡ fallAt falls i t m
 
 -- a lane after a turn: it stays where the distance does not fall from height h + step - 1 on, summed over k coordinates
 abbrev pub settledAt : ℕ → ℕ → ℕ → ℕ → ℕ → ℕ → ℕ
@@ -120,7 +120,7 @@ summed n = if (leb n 8) 4 (if (leb n 16) 8 16)
 
 -- and for lanes that may be without weights: more than 8 of these sum all sixteen
 abbrev pub summedIn : Bool → ℕ → ℕ
-summedIn plain n = if (leb n 8) 4 (if plain 16 (if (leb n 16) 8 16))
+summedIn unweighted n = if (leb n 8) 4 (if unweighted 16 (if (leb n 16) 8 16))
 
 -- lanes that a turn may move: tables as long as they are, what falls bounded, and no height above the greatest after the turn
 pub record Movable (falls weights owns ends : List ℕ) (n step : ℕ) (heights : List ℕ) : Type 0 where

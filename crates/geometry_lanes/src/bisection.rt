@@ -6,7 +6,7 @@ ghost use lib.ListN.{length};
 ghost use Rattle.geometry.specs.Numbers.{maxFeatures, maxCoordinate};
 ghost use Rattle.geometry.specs.Slices.{Nearest};
 ghost use Rattle.geometry_slices.specs.Questions.{sizeOf, askedOf};
-ghost use Rattle.geometry_lanes.specs.Lanes.{maxLanes, settledAt, summedIn, lanesOf, PlainLanes, Movable, Halved, Lanes, Blank};
+ghost use Rattle.geometry_lanes.specs.Lanes.{maxLanes, settledAt, summedIn, lanesOf, UnweightedLanes, Movable, Halved, Lanes, Blank};
 use crate::pulls::all_falls;
 use crate::pulls::all_pulls;
 use crate::pulls::eight_pulls;
@@ -15,7 +15,7 @@ use crate::pulls::pull;
 use geometry::MAX_COORDINATE;
 use geometry::points::above;
 use geometry_slices::REACHES_FROM;
-use geometry_slices::asked::is_plain;
+use geometry_slices::asked::is_unweighted;
 
 // How many lanes d coordinates take.
 pub fn lanes(d: usize) -> usize
@@ -110,7 +110,7 @@ fn halve_all(
 }
 
 // For all sixteen without weights: sums of 16 bits, of which twice as many stand in a register, and no products.
-fn halve_plain(
+fn halve_unweighted(
     falls: &[u16],
     weights: &[u16],
     owns: &[u16],
@@ -119,7 +119,8 @@ fn halve_plain(
     step: u16,
     heights: &mut [u16],
 )
-    requires { ⌜ Movable (now falls) (now weights) (now owns) (now ends) n step (now heights) × PlainLanes (now falls) (now weights) n ⌝ }
+    requires { ⌜ Movable (now falls) (now weights) (now owns) (now ends) n step (now heights)
+        × UnweightedLanes (now falls) (now weights) n ⌝ }
     ensures { λ _. ⌜ Halved (now (falls .entry)) (now (weights .entry)) (now (owns .entry)) (now (ends .entry)) 16 step n
         (now (heights .entry)) (now (heights .exit)) ⌝ }
 {
@@ -133,28 +134,28 @@ fn halve_plain(
     }
 }
 
-// One turn of the bisection, in all lanes; plain says that they are without weights.
+// One turn of the bisection, in all lanes, which may be without weights.
 fn halve(
     falls: &[u16],
     weights: &[u16],
     owns: &[u16],
     ends: &[u16],
     n: usize,
-    plain: bool,
+    unweighted: bool,
     step: u16,
     heights: &mut [u16],
 )
     requires { ⌜ Movable (now falls) (now weights) (now owns) (now ends) n step (now heights)
-        × (plain ≡ true → PlainLanes (now falls) (now weights) n) ⌝ }
-    ensures { λ _. ⌜ Halved (now (falls .entry)) (now (weights .entry)) (now (owns .entry)) (now (ends .entry)) (summedIn plain n) step n
+        × (unweighted ≡ true → UnweightedLanes (now falls) (now weights) n) ⌝ }
+    ensures { λ _. ⌜ Halved (now (falls .entry)) (now (weights .entry)) (now (owns .entry)) (now (ends .entry)) (summedIn unweighted n) step n
         (now (heights .entry)) (now (heights .exit)) ⌝ }
 {
     if n <= 8 {
         halve_four(falls, weights, owns, ends, n, step, heights);
         return;
     }
-    if plain {
-        halve_plain(falls, weights, owns, ends, n, step, heights);
+    if unweighted {
+        halve_unweighted(falls, weights, owns, ends, n, step, heights);
         return;
     }
     if n <= 16 {
@@ -178,11 +179,20 @@ pub fn bisect(
     ensures { λ _. ⌜ Nearest (askedOf (now (asked .entry))) (now (heights .exit)) × (length (now (heights .exit)) ≡ maxLanes) ⌝ }
 {
     let n = lanes(asked.len() - REACHES_FROM);
-    let plain = is_plain(asked);
+    let unweighted = is_unweighted(asked);
     let mut size = MAX_COORDINATE;
     while 0 < size {
         let half = size / 2;
-        halve(falls, weights, owns, ends, n, plain, size - half, heights);
+        halve(
+            falls,
+            weights,
+            owns,
+            ends,
+            n,
+            unweighted,
+            size - half,
+            heights,
+        );
         size = half;
     }
 }

@@ -3,5 +3,5 @@ pub mod PackedLaws
 pub mod AskLaws
 pub mod RowLaws
 pub mod TableLaws
-pub mod PlainLaws
+pub mod UnweightedLaws
 pub mod WholeLaws

@@ -14,7 +14,7 @@ use Rattle.geometry_slices.proofs.TableLaws.{slice-asked, axis-in, row-
 use Rattle.geometry.specs.Features.{Feature, gapOf}
 use Rattle.geometry.specs.Slices.{onAxis, axisNo, sliceAt, LeastAt, leastIn}
 use Rattle.geometry.specs.Stored.{coordOf}
-use Rattle.geometry_slices.specs.Questions.{sizeOf, askedOf, Packed, Plain, sumTo, rowAt, rowFrom, widthOf, rowCost, plainPlace, nearPlaces, Filled, Rows}
+use Rattle.geometry_slices.specs.Questions.{sizeOf, askedOf, Packed, Unweighted, sumTo, rowAt, rowFrom, widthOf, rowCost, unweightedPlace, nearPlaces, Filled, Rows}
 use Rattle.geometry_slices.specs.Tables.{rowIn, Reached, Rowed, RowsOver}
 
 -- a slice as the code sums it
@@ -48,22 +48,22 @@ row-in a reach j m r l =
 
 -- and behind them the mark
 pub rows-over : (a reach xs ys : List ℕ) (d n v : ℕ) → Packed a → length xs ≡ nearPlaces → d ≡ sizeOf a → n ≡ widthOf d → Reached a reach → Rowed reach d n xs ys
-    → (v ≡ 1 → Plain a) → RowsOver a xs (set ys plainPlace v)
+    → (v ≡ 1 → Unweighted a) → RowsOver a xs (set ys unweightedPlace v)
 rows-over a reach xs ys d n v p l e w r s q =
     record {
       rows = record {
         packed = p;
-        places = length-set ys plainPlace v ∙ (s .long ∙ l);
+        places = length-set ys unweightedPlace v ∙ (s .long ∙ l);
         row = λ j m u h.
             let t : m < n = rw (w, e) h in
             other (rowFrom j + m) (omega (arith, width-le d, w, asked-few a p)) ∙ (s .row j m (rw e u) t ∙ row-in a reach j m r (omega (arith, width-le d, w)));
-        plain = λ f. q (sym (getD-set-same ys plainPlace v 0 (omega (arith, s .long))) ∙ f);
+        unweighted = λ f. q (sym (getD-set-same ys unweightedPlace v 0 (omega (arith, s .long))) ∙ f);
       };
       before = λ x h. other x (omega arith) ∙ s .before x h;
     }
   where
-    other : (x : ℕ) → x < plainPlace → getD (set ys plainPlace v) x 0 ≡ getD ys x 0
-    other x h = getD-set-other ys plainPlace x v 0 (let o : x ≢ plainPlace = omega arith in o)
+    other : (x : ℕ) → x < unweightedPlace → getD (set ys unweightedPlace v) x 0 ≡ getD ys x 0
+    other x h = getD-set-other ys unweightedPlace x v 0 (let o : x ≢ unweightedPlace = omega arith in o)
 
 -- a whole pyramid, and a span of heights in which its nearest one lies
 pub whole-is : (fs : List Feature) (i lo r h v : ℕ) → LeastAt (sliceAt fs i) 0 1000 r → h ≡ max lo r → v ≡ sliceAt fs i h → v ≡ leastIn fs i lo 1000

@@ -67,11 +67,11 @@ pub record LaidOut (low high weight r : List ℕ) : Type 0 where
   pub same : askedOf (take (reachesFrom + length low) r) ≡ featuresOf low high weight
 
 -- a question without weights: each is 1. Reaches below 2,048 (those of coordinates in range are at most 1,001) let its sums fit narrower words
-abbrev pub plainReach : ℕ
-plainReach = 2048
+abbrev pub smallReach : ℕ
+smallReach = 2048
 
-abbrev pub Plain : List ℕ → Type 0
-Plain a = (m : ℕ) → m < sizeOf a → (getD a (weightsFrom + m) 0 ≡ 1) × (getD a (reachesFrom + m) 0 < plainReach)
+abbrev pub Unweighted : List ℕ → Type 0
+Unweighted a = (m : ℕ) → m < sizeOf a → (getD a (weightsFrom + m) 0 ≡ 1) × (getD a (reachesFrom + m) 0 < smallReach)
 
 -- the places of the table of whole pyramids
 abbrev pub wholePlaces : ℕ
@@ -97,12 +97,12 @@ rowFrom j = rowsPlace + maxFeatures * j
 abbrev pub widthOf : ℕ → ℕ
 widthOf d = if (leb d 1) 0 (if (leb d 4) 4 (if (leb d 8) 8 maxFeatures))
 
--- behind the rows near has a mark: 1 says that the question is plain; so many places it has
-abbrev pub plainPlace : ℕ
-plainPlace = rowsPlace + maxFeatures * maxFeatures
+-- behind the rows near has a mark: 1 says that the question is unweighted; so many places it has
+abbrev pub unweightedPlace : ℕ
+unweightedPlace = rowsPlace + maxFeatures * maxFeatures
 
 abbrev pub nearPlaces : ℕ
-nearPlaces = plainPlace + 1
+nearPlaces = unweightedPlace + 1
 
 -- what place m of a row that stands at a place of near costs at height h
 abbrev pub rowCost : List ℕ → List ℕ → ℕ → ℕ → ℕ → ℕ
@@ -124,7 +124,7 @@ pub record Rows (a near : List ℕ) : Type 0 where
   pub packed : Packed a
   pub places : length near ≡ nearPlaces
   pub row : (j m : ℕ) → j < sizeOf a → m < widthOf (sizeOf a) → getD near (rowFrom j + m) 0 ≡ rowAt a j m
-  pub plain : getD near plainPlace 0 ≡ 1 → Plain a
+  pub unweighted : getD near unweightedPlace 0 ≡ 1 → Unweighted a
 
 -- and, from place 0 of near on, the nearest height of each of its pyramids
 pub record Heights (a near : List ℕ) : Type 0 where

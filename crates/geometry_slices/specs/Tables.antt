@@ -6,7 +6,7 @@ use lib.Dec.{ltb, eqb}
 use lib.ListN.{length, getD}
 use Rattle.lists.specs.Basics.{if, indicator}
 use Rattle.geometry.specs.Numbers.{maxFeatures}
-use Rattle.geometry_slices.specs.Questions.{reachesFrom, rowsPlace, rowFrom, plainReach, nearPlaces, Rows}
+use Rattle.geometry_slices.specs.Questions.{reachesFrom, rowsPlace, rowFrom, smallReach, nearPlaces, Rows}
 
 -- what is stored at place x of near for the row of axis j, from the reaches
 abbrev pub rowIn : List ℕ → ℕ → ℕ → ℕ → ℕ
@@ -44,4 +44,4 @@ pub record RowsOver (a xs ys : List ℕ) : Type 0 where
 pub record Squares (near : List ℕ) (at n : ℕ) : Type 0 where
   pub few : n ≤ maxFeatures
   pub room : at + n ≤ length near
-  pub small : (m : ℕ) → m < n → getD near (at + m) 0 < plainReach
+  pub small : (m : ℕ) → m < n → getD near (at + m) 0 < smallReach

@@ -6,11 +6,11 @@ ghost use lib.Dec.{ltb, eqb};
 ghost use lib.ListN.{length};
 ghost use Rattle.lists.specs.Basics.{if};
 ghost use Rattle.geometry.specs.Numbers.{maxFeatures};
-ghost use Rattle.geometry_slices.specs.Questions.{reachAt, plainReach, LaidOut, Packed, Plain};
+ghost use Rattle.geometry_slices.specs.Questions.{reachAt, smallReach, LaidOut, Packed, Unweighted};
 use crate::ASKED_PLACES;
 use crate::HIGHS_FROM;
-use crate::PLAIN_REACH;
 use crate::REACHES_FROM;
+use crate::SMALL_REACH;
 use crate::WEIGHTS_FROM;
 use geometry::MAX_COORDINATE;
 use geometry::points::gap;
@@ -40,25 +40,25 @@ pub fn ask(low: &[u16], high: &[u16], weight: &[u16]) -> [u16; ASKED_PLACES]
 }
 
 // Whether a coordinate has weight 1 and a small reach.
-fn plain_at(weight: u16, reach: u16) -> bool
-    ensures { λ r. ⌜ r ≡ if (eqb weight 1) (ltb reach plainReach) false ⌝ }
+fn weighs_one(weight: u16, reach: u16) -> bool
+    ensures { λ r. ⌜ r ≡ if (eqb weight 1) (ltb reach smallReach) false ⌝ }
 {
     if weight == 1 {
-        reach < PLAIN_REACH
+        reach < SMALL_REACH
     } else {
         false
     }
 }
 
 // Whether a question is one without weights.
-pub fn is_plain(asked: &[u16]) -> bool
+pub fn is_unweighted(asked: &[u16]) -> bool
     requires { ⌜ Packed (now asked) ⌝ }
-    ensures { λ r. ⌜ (r ≡ true → Plain (now (asked .entry))) × (Plain (now (asked .entry)) → r ≡ true) ⌝ }
+    ensures { λ r. ⌜ (r ≡ true → Unweighted (now (asked .entry))) × (Unweighted (now (asked .entry)) → r ≡ true) ⌝ }
 {
     let d = asked.len() - REACHES_FROM;
     let mut m = 0;
     while m < d {
-        if !plain_at(asked[WEIGHTS_FROM + m], asked[REACHES_FROM + m]) {
+        if !weighs_one(asked[WEIGHTS_FROM + m], asked[REACHES_FROM + m]) {
             return false;
         }
         m += 1;

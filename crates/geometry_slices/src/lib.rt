@@ -18,9 +18,9 @@ pub const ASKED_PLACES: usize = 4 * MAX_FEATURES;
 pub const ROWS_FROM: usize = 2 * MAX_FEATURES;
 
 // Behind the rows stands a mark, 1 for a question without weights.
-pub const PLAIN_AT: usize = ROWS_FROM + MAX_FEATURES * MAX_FEATURES;
+pub const UNWEIGHTED_AT: usize = ROWS_FROM + MAX_FEATURES * MAX_FEATURES;
 
-pub const NEAR_PLACES: usize = PLAIN_AT + 1;
+pub const NEAR_PLACES: usize = UNWEIGHTED_AT + 1;
 
 // Reaches below this have squares of 22 bits.
-const PLAIN_REACH: u16 = 2048;
+const SMALL_REACH: u16 = 2048;

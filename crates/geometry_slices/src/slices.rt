@@ -7,13 +7,13 @@ ghost use Rattle.geometry.specs.Numbers.{maxFeatures, maxCoordinate};
 ghost use Rattle.geometry.specs.Features.{gapOf};
 ghost use Rattle.geometry.specs.Stored.{coordOf};
 ghost use Rattle.geometry.specs.Slices.{onAxis, axisNo, sliceAt, lowestOf};
-ghost use Rattle.geometry_slices.specs.Questions.{reachesFrom, sizeOf, askedOf, plainReach, sumTo, rowFrom, widthOf, rowCost, rowSquare, Rows};
+ghost use Rattle.geometry_slices.specs.Questions.{reachesFrom, sizeOf, askedOf, smallReach, sumTo, rowFrom, widthOf, rowCost, rowSquare, Rows};
 ghost use Rattle.geometry_slices.specs.Tables.{Squares};
 use crate::HIGHS_FROM;
-use crate::PLAIN_AT;
-use crate::PLAIN_REACH;
 use crate::REACHES_FROM;
 use crate::ROWS_FROM;
+use crate::SMALL_REACH;
+use crate::UNWEIGHTED_AT;
 use crate::WEIGHTS_FROM;
 use geometry::MAX_COORDINATE;
 use geometry::MAX_FEATURES;
@@ -50,14 +50,14 @@ fn row_sum(asked: &[u16], near: &[u16], at: usize, n: usize, h: u16) -> u64
 
 // The square of a number below 2,048: the remainder tells the compiler so, and it multiplies 16 bits in a lane.
 fn square(x: u16) -> u32
-    requires { ⌜ x < plainReach ⌝ }
+    requires { ⌜ x < smallReach ⌝ }
     ensures { λ r. ⌜ (r ≡ x * x) × (r ≤ 4194304) ⌝ }
 {
-    let g = (x % PLAIN_REACH) as u32;
+    let g = (x % SMALL_REACH) as u32;
     g * g
 }
 
-// What they cost without weights.
+// What n places of a row cost at height h without weights.
 fn row_squares(near: &[u16], at: usize, n: usize, h: u16) -> u32
     requires { ⌜ Squares (now near) at n ⌝ }
     ensures { λ r. ⌜ (r ≡ sumTo n (rowSquare (now (near .entry)) at h)) × (r ≤ 4194304 * n) ⌝ }
@@ -79,7 +79,7 @@ fn row_cost(asked: &[u16], near: &[u16], j: usize, h: u16) -> u64
 {
     let at = ROWS_FROM + MAX_FEATURES * j;
     let n = width(asked.len() - REACHES_FROM);
-    if near[PLAIN_AT] == 1 {
+    if near[UNWEIGHTED_AT] == 1 {
         return row_squares(near, at, n, h) as u64;
     }
     row_sum(asked, near, at, n, h)

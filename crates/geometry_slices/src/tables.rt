@@ -5,12 +5,12 @@ ghost use lib.Dec.{ltb, eqb};
 ghost use lib.ListN.{length};
 ghost use Rattle.lists.specs.Basics.{if, indicator};
 ghost use Rattle.geometry.specs.Numbers.{maxFeatures};
-ghost use Rattle.geometry_slices.specs.Questions.{Packed, Plain, nearPlaces, wholePlaces, rowFrom, Filled, Heights, Wholes};
+ghost use Rattle.geometry_slices.specs.Questions.{Packed, Unweighted, nearPlaces, wholePlaces, rowFrom, Filled, Heights, Wholes};
 ghost use Rattle.geometry_slices.specs.Tables.{rowIn, Counted, Reached, RowRoom, Rowed, RowsOver};
-use crate::PLAIN_AT;
 use crate::REACHES_FROM;
 use crate::ROWS_FROM;
-use crate::asked::is_plain;
+use crate::UNWEIGHTED_AT;
+use crate::asked::is_unweighted;
 use crate::slices::lowest;
 use crate::slices::slice_in;
 use crate::slices::width;
@@ -85,12 +85,12 @@ fn each_row(reach: &[u16], places: &[u16], d: usize, n: usize, near: &mut [u16])
 // The mark of a question: 1 where its rows are summed without weights. With up to four coordinates that is no gain.
 fn mark(asked: &[u16]) -> u16
     requires { ⌜ Packed (now asked) ⌝ }
-    ensures { λ r. ⌜ (r ≡ 1 → Plain (now (asked .entry))) ⌝ }
+    ensures { λ r. ⌜ (r ≡ 1 → Unweighted (now (asked .entry))) ⌝ }
 {
     if asked.len() - REACHES_FROM <= 4 {
         return 0;
     }
-    if is_plain(asked) { 1 } else { 0 }
+    if is_unweighted(asked) { 1 } else { 0 }
 }
 
 // The rows of a question, and its mark.
@@ -103,7 +103,7 @@ pub fn fill_rows(asked: &[u16], near: &mut [u16])
     let reach = reaches(asked);
     let places = places();
     each_row(&reach, &places, d, n, near);
-    near[PLAIN_AT] = mark(asked);
+    near[UNWEIGHTED_AT] = mark(asked);
 }
 
 // The least distance to each whole pyramid.

@@ -7,17 +7,17 @@ use lib.ListN.{length}
 use Rattle.geometry_slices.specs.Questions.{sizeOf}
 use Rattle.geometry_lanes.specs.Lanes.{Lanes, lanesOf}
 use Rattle.geometry_slices.proofs.PackedLaws.{asked-length, asked-few}
-use Rattle.geometry_lanes.proofs.FallLaws.{in-enough, plain-lanes}
+use Rattle.geometry_lanes.proofs.FallLaws.{in-enough, unweighted-lanes}
 use Rattle.geometry_lanes.proofs.TurnLaws.{Halving, halving-start, halving-turn, halving-end, movable}
 use Rattle.geometry_lanes.proofs.bisection.bisect.Statement.{statement}
 use Rattle.geometry_lanes.proofs.bisection.bisect.Tie as tie
 
 abbrev Inv-loop : tie.InvT-loop
-Inv-loop asked falls weights owns ends heights₀ n plain size₀ heights size =
+Inv-loop asked falls weights owns ends heights₀ n unweighted size₀ heights size =
     (size ≤ 1000) × (n ≡ lanesOf (sizeOf asked)) × (length heights₀ ≡ 32) × Lanes asked falls weights owns ends n × Halving asked n size heights
 
 abbrev μ-loop : tie.MeasureT-loop
-μ-loop asked falls weights owns ends heights₀ n plain size₀ heights size = size
+μ-loop asked falls weights owns ends heights₀ n unweighted size₀ heights size = size
 
 sub-lanes : tie.Need-sub-lanes Inv-loop μ-loop
 sub-lanes c = omega (arith, c .before .before .before .before .before .before .pre .0 .asked .packed .whole)
@@ -25,8 +25,8 @@ sub-lanes c = omega (arith, c .before .before .before .before .before .before .p
 lanes-requires : tie.Need-lanes-requires Inv-loop μ-loop
 lanes-requires c κs = let s = c .before .before .before .before .before .before in asked-few (s .args .asked .now) (s .pre .0 .asked .packed)
 
-is-plain-requires : tie.Need-is-plain-requires Inv-loop μ-loop
-is-plain-requires c κs = c .before .before .before .before .before .before .before .pre .0 .asked .packed
+is-unweighted-requires : tie.Need-is-unweighted-requires Inv-loop μ-loop
+is-unweighted-requires c κs = c .before .before .before .before .before .before .before .pre .0 .asked .packed
 
 loop-holds : tie.Need-loop-holds Inv-loop μ-loop
 loop-holds c =
@@ -42,8 +42,8 @@ halve-requires c κs =
     let u = c .before in let l = u .before .loop in let i = l .inv in let o = u .before .before in
     let a = o .before .before .before .before .before .before .before .before .args in
     let m = movable (a .asked .now) (a .falls .now) (a .weights .now) (a .owns .now) (a .ends .now) (l .heights) _ (l .size) (i .3) in
-    let p = plain-lanes (a .asked .now) (a .falls .now) (a .weights .now) in
-    (m (u .loop-test .taken) (i .0) (i .4), λ e. p _ (o .is-plain .ensures .0 e) (i .3 .falling) (i .3 .weighing))
+    let p = unweighted-lanes (a .asked .now) (a .falls .now) (a .weights .now) in
+    (m (u .loop-test .taken) (i .0) (i .4), λ e. p _ (o .is-unweighted .ensures .0 e) (i .3 .falling) (i .3 .weighing))
 
 loop-less : tie.Need-loop-less Inv-loop μ-loop
 loop-less c = search needs
@@ -53,7 +53,7 @@ loop-again c =
     let h = c .before .before in let u = h .before .before in let l = u .before .loop in let i = l .inv in
     let o = u .before .before in let n = o .before .lanes .result in
     let a = o .before .before .before .before .before .before .before .before .args in
-    let k = in-enough (o .is-plain .result) (sizeOf (a .asked .now)) n (asked-few (a .asked .now) (i .3 .asked .packed)) (i .3 .enough) in
+    let k = in-enough (o .is-unweighted .result) (sizeOf (a .asked .now)) n (asked-few (a .asked .now) (i .3 .asked .packed)) (i .3 .enough) in
     let z : l .size / 2 ≤ 1000 = omega (arith, i .0) in
     let t = halving-turn (a .asked .now) (a .falls .now) (a .weights .now) (a .owns .now) (a .ends .now) (l .heights) _ _ n (l .size) (i .3) k in
     (z, i .1, i .2, i .3, t (u .loop-test .taken) (i .4) (h .halve .ensures))
@@ -75,7 +75,7 @@ bisect-spec =
     μ-loop
     sub-lanes
     lanes-requires
-    is-plain-requires
+    is-unweighted-requires
     loop-holds
     sub-halve
     halve-requires

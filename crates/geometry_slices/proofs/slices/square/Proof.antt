@@ -3,7 +3,7 @@ use native.Mathlib.Omega.{arith}
 use borrow.Author.Needs.{needs}
 use mathlib.Core.Path.{_≡_, ap}
 use Prim.Native.Nat.{ℕ, _*_, _%_}
-use Rattle.geometry_slices.proofs.PlainLaws.{square-small}
+use Rattle.geometry_slices.proofs.UnweightedLaws.{square-small}
 use Rattle.geometry_slices.proofs.slices.square.Statement.{statement}
 use Rattle.geometry_slices.proofs.slices.square.Tie as tie
 

@@ -1,4 +1,4 @@
--- `tables::mark` meets its contract: 1 only where the question was found plain.
+-- `tables::mark` meets its contract: 1 only where the question was found unweighted.
 use borrow.Author.Needs.{needs}
 use Rattle.geometry_slices.proofs.tables.mark.Statement.{statement}
 use Rattle.geometry_slices.proofs.tables.mark.Tie as tie
@@ -9,14 +9,14 @@ sub-if1 c = search needs
 returns : tie.Need-returns
 returns c = search needs
 
-is-plain-requires : tie.Need-is-plain-requires
-is-plain-requires c κs = search needs
+is-unweighted-requires : tie.Need-is-unweighted-requires
+is-unweighted-requires c κs = search needs
 
 returns-2 : tie.Need-returns-2
-returns-2 c = λ e. c .before .is-plain .ensures .0 (c .if2 .taken)
+returns-2 c = λ e. c .before .is-unweighted .ensures .0 (c .if2 .taken)
 
 returns-3 : tie.Need-returns-3
 returns-3 c = search needs
 
 pub mark-spec : {M : Type 1} → statement M
-mark-spec = tie.close (tie.spec sub-if1 returns is-plain-requires returns-2 returns-3)
+mark-spec = tie.close (tie.spec sub-if1 returns is-unweighted-requires returns-2 returns-3)

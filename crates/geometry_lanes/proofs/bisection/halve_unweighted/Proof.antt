@@ -1,21 +1,21 @@
--- `bisection::halve_plain` meets its contract: the lanes below i have had their turn, and without weights they fall by what they pull.
+-- `bisection::halve_unweighted` meets its contract: the lanes below i have had their turn, and without weights they fall by what they pull.
 use native.Mathlib.Omega.{arith}
 use borrow.Author.Needs.{needs}
 use mathlib.Core.Path.{_≡_, refl, ap}
 use Prim.Native.Nat.{ℕ, _+_, _*_, _-_, _≤_}
 use lib.ListN.{length, getD}
 use Rattle.geometry_slices.specs.Questions.{Filled}
-use Rattle.geometry_lanes.specs.Lanes.{halvedAt, Movable, PlainLanes}
+use Rattle.geometry_lanes.specs.Lanes.{halvedAt, Movable, UnweightedLanes}
 use Rattle.geometry_slices.proofs.TableLaws.{filled-none, filled-on}
 use Rattle.geometry_lanes.proofs.TurnLaws.{lane-is, lane-room}
 use Rattle.geometry_lanes.proofs.FallLaws.{falls-pull}
-use Rattle.geometry_lanes.proofs.bisection.halve_plain.Statement.{statement}
-use Rattle.geometry_lanes.proofs.bisection.halve_plain.Tie as tie
+use Rattle.geometry_lanes.proofs.bisection.halve_unweighted.Statement.{statement}
+use Rattle.geometry_lanes.proofs.bisection.halve_unweighted.Tie as tie
 
 abbrev Inv-loop : tie.InvT-loop
 Inv-loop falls weights owns ends n step heights₀ twice i₀ heights i =
     (i ≤ n) × (twice ≡ 2 * step - 2) × (length heights₀ ≡ 32) × Movable falls weights owns ends n step heights₀
-    × Filled (halvedAt falls weights owns ends 16 step) 0 i heights₀ heights × PlainLanes falls weights n
+    × Filled (halvedAt falls weights owns ends 16 step) 0 i heights₀ heights × UnweightedLanes falls weights n
 
 abbrev μ-loop : tie.MeasureT-loop
 μ-loop falls weights owns ends n step heights₀ twice i₀ heights i = n - i
@@ -115,8 +115,8 @@ returns c =
     let e : l .i ≡ a .n = omega arith in
     rw e at (l .inv .4)
 
-pub halve-plain-spec : {M : Type 1} → statement M
-halve-plain-spec =
+pub halve-unweighted-spec : {M : Type 1} → statement M
+halve-unweighted-spec =
     tie.close
     (tie.spec
     Inv-loop

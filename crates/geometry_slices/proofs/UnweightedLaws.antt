@@ -14,44 +14,44 @@ use Rattle.lists.specs.Tests.{false-true}
 use Rattle.geometry_slices.proofs.PackedLaws.{asked-few}
 use Rattle.geometry_slices.proofs.RowLaws.{sum-ext}
 use Rattle.geometry_slices.proofs.TableLaws.{row-past, width-le}
-use Rattle.geometry_slices.specs.Questions.{sizeOf, weightsFrom, reachesFrom, plainReach, Plain, sumTo, rowAt, rowFrom, widthOf}
+use Rattle.geometry_slices.specs.Questions.{sizeOf, weightsFrom, reachesFrom, smallReach, Unweighted, sumTo, rowAt, rowFrom, widthOf}
 use Rattle.geometry_slices.specs.Questions.{nearPlaces, rowCost, rowSquare, Rows}
 use Rattle.geometry_slices.specs.Tables.{Squares}
 
 -- what the code asks of a coordinate
-abbrev pub plainTest : ℕ → ℕ → Bool
-plainTest w r = if (eqb w 1) (ltb r plainReach) false
+abbrev pub weighsOne : ℕ → ℕ → Bool
+weighsOne w r = if (eqb w 1) (ltb r smallReach) false
 
--- the first n coordinates are plain
-abbrev pub PlainTo : List ℕ → ℕ → Type 0
-PlainTo a n = (m : ℕ) → m < n → (getD a (weightsFrom + m) 0 ≡ 1) × (getD a (reachesFrom + m) 0 < plainReach)
+-- the first n coordinates are unweighted
+abbrev pub UnweightedTo : List ℕ → ℕ → Type 0
+UnweightedTo a n = (m : ℕ) → m < n → (getD a (weightsFrom + m) 0 ≡ 1) × (getD a (reachesFrom + m) 0 < smallReach)
 
-passed : (w r : ℕ) → plainTest w r ≡ true → (w ≡ 1) × (r < plainReach)
+passed : (w r : ℕ) → weighsOne w r ≡ true → (w ≡ 1) × (r < smallReach)
 passed w r = by (eqb w 1) refl
   where
-    by : (b : Bool) → eqb w 1 ≡ b → if b (ltb r plainReach) false ≡ true → (w ≡ 1) × (r < plainReach)
-    by true e h = (eqb-true w 1 e, ltb-true r plainReach h)
+    by : (b : Bool) → eqb w 1 ≡ b → if b (ltb r smallReach) false ≡ true → (w ≡ 1) × (r < smallReach)
+    by true e h = (eqb-true w 1 e, ltb-true r smallReach h)
     by false e h = false-true h
 
-passes : (w r : ℕ) → w ≡ 1 → r < plainReach → plainTest w r ≡ true
-passes w r e l = rw (eq-eqb w 1 e, lt-ltb r plainReach l)
+passes : (w r : ℕ) → w ≡ 1 → r < smallReach → weighsOne w r ≡ true
+passes w r e l = rw (eq-eqb w 1 e, lt-ltb r smallReach l)
 
 -- one coordinate more
-pub plain-more : (a : List ℕ) (n : ℕ) (t : Bool) → PlainTo a n → t ≡ plainTest (getD a (weightsFrom + n) 0) (getD a (reachesFrom + n) 0)
-    → t ≡ true → PlainTo a (n + 1)
-plain-more a n t f e h m l = by (ℕ-discrete m n)
+pub unweighted-more : (a : List ℕ) (n : ℕ) (t : Bool) → UnweightedTo a n → t ≡ weighsOne (getD a (weightsFrom + n) 0) (getD a (reachesFrom + n) 0)
+    → t ≡ true → UnweightedTo a (n + 1)
+unweighted-more a n t f e h m l = by (ℕ-discrete m n)
   where
-    by : Dec (m ≡ n) → (getD a (weightsFrom + m) 0 ≡ 1) × (getD a (reachesFrom + m) 0 < plainReach)
+    by : Dec (m ≡ n) → (getD a (weightsFrom + m) 0 ≡ 1) × (getD a (reachesFrom + m) 0 < smallReach)
     by (yes o) = rw o (passed (getD a (weightsFrom + n) 0) (getD a (reachesFrom + n) 0) (sym e ∙ h))
     by (no o) = f m (omega arith)
 
 -- a coordinate that does not pass
-pub not-plain : (a : List ℕ) (n : ℕ) (t : Bool) → n < sizeOf a → t ≡ plainTest (getD a (weightsFrom + n) 0) (getD a (reachesFrom + n) 0)
-    → t ≡ false → Plain a → false ≡ true
-not-plain a n t l e h p = sym h ∙ (e ∙ passes (getD a (weightsFrom + n) 0) (getD a (reachesFrom + n) 0) (p n l .0) (p n l .1))
+pub weighted : (a : List ℕ) (n : ℕ) (t : Bool) → n < sizeOf a → t ≡ weighsOne (getD a (weightsFrom + n) 0) (getD a (reachesFrom + n) 0)
+    → t ≡ false → Unweighted a → false ≡ true
+weighted a n t l e h p = sym h ∙ (e ∙ passes (getD a (weightsFrom + n) 0) (getD a (reachesFrom + n) 0) (p n l .0) (p n l .1))
 
 -- a number below 2,048 squared
-pub square-small : (x : ℕ) → x < plainReach → x * x ≤ 4194304
+pub square-small : (x : ℕ) → x < smallReach → x * x ≤ 4194304
 square-small x l = let k : x ≤ 2047 = omega arith in let s : x * x ≤ 4190209 = mul-le-mul k k in omega arith
 
 -- no place of a row is above the coordinate's reach
@@ -67,12 +67,12 @@ pub row-room : (a near : List ℕ) (j n : ℕ) → Rows a near → j < sizeOf a 
 row-room a near j n r l e =
     let w : n ≤ 16 = omega (arith, e, width-le (sizeOf a)) in (w, omega (arith, w, asked-few a (r .packed), r .places))
 
--- of a plain question the places of a row are small, and cost the same with their weights and without
-module _ (a near : List ℕ) (j : ℕ) (r : Rows a near) (p : Plain a) (l : j < sizeOf a) where
-  row-small : (m : ℕ) → rowAt a j m < plainReach
+-- of an unweighted question the places of a row are small, and cost the same with their weights and without
+module _ (a near : List ℕ) (j : ℕ) (r : Rows a near) (p : Unweighted a) (l : j < sizeOf a) where
+  row-small : (m : ℕ) → rowAt a j m < smallReach
   row-small m = by (decLt m (sizeOf a))
     where
-      by : Dec (m < sizeOf a) → rowAt a j m < plainReach
+      by : Dec (m < sizeOf a) → rowAt a j m < smallReach
       by (yes h) = omega (arith, row-below a j m, p m h .1)
       by (no h) = omega (arith, row-past a j m (omega arith))
 
@@ -98,7 +98,7 @@ module _ (a near : List ℕ) (j : ℕ) (r : Rows a near) (p : Plain a) (l : j < 
       by (yes v) = one (getD a (weightsFrom + m) 0) (getD near (rowFrom j + m) 0 - h) (p m v .0)
       by (no v) = none (getD a (weightsFrom + m) 0) (getD near (rowFrom j + m) 0) h (e ∙ row-past a j m (omega arith))
 
-  pub plain-sum : (h n : ℕ) → n ≡ widthOf (sizeOf a) → sumTo n (rowSquare near (rowFrom j) h) ≡ sumTo n (rowCost a near (rowFrom j) h)
-  plain-sum h n e =
+  pub unweighted-sum : (h n : ℕ) → n ≡ widthOf (sizeOf a) → sumTo n (rowSquare near (rowFrom j) h) ≡ sumTo n (rowCost a near (rowFrom j) h)
+  unweighted-sum h n e =
       sum-ext n (rowSquare near (rowFrom j) h) (rowCost a near (rowFrom j) h)
       (λ m u. let v : m < widthOf (sizeOf a) = omega (arith, e) in place h m (r .row j m l v))
