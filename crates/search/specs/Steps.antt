@@ -14,7 +14,7 @@ use Rattle.search_frontier.specs.Keys.{boundIn, levelIn, numberIn}
 use Rattle.search_frontier.specs.Opening.{Tabled}
 use Rattle.search_model.specs.Numbers.{maxLevel}
 use Rattle.search_model.specs.Asked.{Seekable, Asked, Askable, asking}
-use Rattle.search_model.specs.Visit.{largeRoom, Answer, answerOf, room, visited, readsNone, found}
+use Rattle.search_model.specs.Visit.{fullRoom, Answer, answerOf, room, visited, readsNone, found}
 use Rattle.search_model.specs.Questions.{answerDue, unreadPages, AgreeBut}
 use Rattle.geometry.specs.Numbers.{maxFeatures}
 
@@ -30,7 +30,7 @@ pub record Visits (index asked near whole : List ℕ) (k : ℕ) (slots distances
 -- a turn of the visit: n branches in the frontier, and rows, of which k are kept
 pub record Turns (slots : List ℕ) (n : ℕ) (distances : List ℕ) (rows k : ℕ) : Type 0 where
   pub fits : n ≤ length slots
-  pub size : length slots ≤ largeRoom
+  pub size : length slots ≤ fullRoom
   pub one : 1 ≤ k
   pub few : rows ≤ k
   pub room : k ≤ length distances

@@ -14,10 +14,12 @@ use geometry_slices::NEAR_PLACES;
 use geometry_slices::REACHES_FROM;
 use pagestore::total_records;
 use search_model::FEW_RECORDS;
+use search_model::FULL_ROOM;
 use search_model::LARGE_ROOM;
 use search_model::MANY_RECORDS;
 use search_model::MIDDLE_ROOM;
 use search_model::SMALL_ROOM;
+use search_model::SOME_RECORDS;
 
 mod visit;
 
@@ -70,17 +72,20 @@ fn search_for(
         return Seen { rows: 0, leaves: 0 };
     }
     let total = total_records(index);
-    if MANY_RECORDS < total {
+    if total <= FEW_RECORDS {
+        let mut slots = [0u64; SMALL_ROOM];
+        return search_with(index, asked, k, &mut slots, distances, tags);
+    }
+    if total <= SOME_RECORDS {
+        let mut slots = [0u64; MIDDLE_ROOM];
+        return search_with(index, asked, k, &mut slots, distances, tags);
+    }
+    if total <= MANY_RECORDS {
         let mut slots = [0u64; LARGE_ROOM];
         return search_with(index, asked, k, &mut slots, distances, tags);
     }
-    if FEW_RECORDS < total {
-        let mut slots = [0u64; MIDDLE_ROOM];
-        search_with(index, asked, k, &mut slots, distances, tags)
-    } else {
-        let mut slots = [0u64; SMALL_ROOM];
-        search_with(index, asked, k, &mut slots, distances, tags)
-    }
+    let mut slots = [0u64; FULL_ROOM];
+    search_with(index, asked, k, &mut slots, distances, tags)
 }
 
 // The nearest of the index's records to what is asked, as distances and tags in the arrays lent: how many there are, and the number

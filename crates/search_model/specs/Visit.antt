@@ -2,7 +2,7 @@
 use mathlib.Core.Bool.{Bool, true, _||_}
 use mathlib.Core.List.{List, [], _∷_, map}
 use Prim.Native.Nat.{ℕ, _*_}
-use lib.Dec.{eqb, ltb}
+use lib.Dec.{eqb, leb, ltb}
 use lib.ListN.{length}
 use Rattle.lists.specs.Basics.{if}
 use Rattle.lists.specs.Sorting.{filter, insertAll, offerAll}
@@ -27,25 +27,34 @@ pub record Answer : Type 0 where
 abbrev pub answerOf : Outcome Row Branch → Answer
 answerOf o = record { rows = o .rows; leaves = length (o .read) }
 
--- many records, and few
-abbrev pub manyRecords : ℕ
-manyRecords = 4096
-
+-- numbers of records, and the room that so many call for
 abbrev pub fewRecords : ℕ
 fewRecords = 1024
 
-abbrev pub largeRoom : ℕ
-largeRoom = 8192
+abbrev pub someRecords : ℕ
+someRecords = 4096
 
-abbrev pub middleRoom : ℕ
-middleRoom = 512
+abbrev pub manyRecords : ℕ
+manyRecords = 16384
 
 abbrev pub smallRoom : ℕ
 smallRoom = 128
 
+abbrev pub middleRoom : ℕ
+middleRoom = 512
+
+abbrev pub largeRoom : ℕ
+largeRoom = 2048
+
+abbrev pub fullRoom : ℕ
+fullRoom = 8192
+
 -- How many branches the frontier has room for: no more than there are leaves, and a leaf but the root has 8 records or more.
+abbrev pub roomFor : ℕ → ℕ
+roomFor n = if (leb n fewRecords) smallRoom (if (leb n someRecords) middleRoom (if (leb n manyRecords) largeRoom fullRoom))
+
 unfoldable pub room : List ℕ → ℕ
-room b = if (ltb manyRecords (fieldAt total b)) largeRoom (if (ltb fewRecords (fieldAt total b)) middleRoom smallRoom)
+room b = roomFor (fieldAt total b)
 
 -- The visit from the root on. As many steps are taken at most as twice the pages: in a sound index they and the room are enough.
 unfoldable pub visited : List ℕ → Asked → Outcome Row Branch

@@ -10,10 +10,14 @@ pub const LAST_PLACE: usize = 8191;
 // How many branches the frontier has room for, by the number of records.
 pub const FEW_RECORDS: u32 = 1024;
 
-pub const MANY_RECORDS: u32 = 4096;
+pub const SOME_RECORDS: u32 = 4096;
+
+pub const MANY_RECORDS: u32 = 16384;
 
 pub const SMALL_ROOM: usize = 128;
 
 pub const MIDDLE_ROOM: usize = 512;
 
-pub const LARGE_ROOM: usize = 8192;
+pub const LARGE_ROOM: usize = 2048;
+
+pub const FULL_ROOM: usize = 8192;
