@@ -30,8 +30,8 @@ fn fill_near(asked: &[u16], near: &mut [u16])
     fill_rows(asked, near);
 }
 
-// The tables of a question: in near the height at which each of the 2d pyramids is nearest and the row of each axis, in whole the least
-// distance to each pyramid.
+// The tables of a question: in near the height at which each of the 2d pyramids is nearest, the row of each axis and a flag, in whole the
+// least distance to each pyramid.
 pub fn prepare(asked: &[u16], near: &mut [u16], whole: &mut [u64])
     requires { ⌜ Preparable (now asked) (now near) (now whole) ⌝ }
     ensures { λ _. ⌜ Ready (now (asked .entry)) (now (near .exit)) (now (whole .exit)) ⌝ }

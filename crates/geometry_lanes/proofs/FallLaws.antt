@@ -29,7 +29,7 @@ in-16 unweighted n l e k = rw (lt-leb n 8 l, e, lt-leb n 16 k)
 pub in-enough : (unweighted : Bool) (d n : ℕ) → d ≤ 16 → d ≤ summed n → d ≤ summedIn unweighted n
 in-enough unweighted d n l = by (leb n 8) unweighted
   where
-    by : (x y : Bool) → d ≤ if x 4 (if (leb n 16) 8 16) → d ≤ if x 4 (if y 16 (if (leb n 16) 8 16))
+    by : (x y : Bool) → d ≤ if x 4 (if (leb n 16) 8 16) → d ≤ if x 4 (if y 16 (if x 4 (if (leb n 16) 8 16)))
     by true y k = k
     by false true k = l
     by false false k = k

@@ -114,13 +114,13 @@ halvedAt falls weights owns ends k step i h =
 abbrev pub Halved : List ℕ → List ℕ → List ℕ → List ℕ → ℕ → ℕ → ℕ → List ℕ → List ℕ → Type 0
 Halved falls weights owns ends k step n xs ys = Filled (halvedAt falls weights owns ends k step) 0 n xs ys
 
--- how many coordinates are summed for n lanes
+-- how many coordinates are summed for n lanes with weights
 abbrev pub summed : ℕ → ℕ
 summed n = if (leb n 8) 4 (if (leb n 16) 8 16)
 
--- and for lanes that may be without weights: more than 8 of these sum all sixteen
+-- and for lanes that may have none: more than 8 of these sum all sixteen
 abbrev pub summedIn : Bool → ℕ → ℕ
-summedIn unweighted n = if (leb n 8) 4 (if unweighted 16 (if (leb n 16) 8 16))
+summedIn unweighted n = if (leb n 8) 4 (if unweighted 16 (summed n))
 
 -- lanes that a turn may move: tables as long as they are, what falls bounded, and no height above the greatest after the turn
 pub record Movable (falls weights owns ends : List ℕ) (n step : ℕ) (heights : List ℕ) : Type 0 where

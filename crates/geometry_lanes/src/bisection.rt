@@ -109,7 +109,7 @@ fn halve_all(
     }
 }
 
-// For all sixteen without weights: sums of 16 bits, of which twice as many stand in a register, and no products.
+// For all sixteen without weights: sums of 16 bits, of which twice as many stand in a register. The axis keeps its product.
 fn halve_unweighted(
     falls: &[u16],
     weights: &[u16],

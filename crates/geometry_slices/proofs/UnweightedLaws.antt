@@ -1,54 +1,29 @@
 -- A question without weights, coordinate by coordinate.
-use mathlib.Core.Path.{_≡_, refl, sym, ap, _∙_}
+use mathlib.Core.Path.{_≡_, _∙_}
 use mathlib.Core.Bool.{Bool, true, false}
 use mathlib.Core.List.{List}
 use Prim.Native.Nat.{ℕ, _+_, _*_, _-_, _≤_, _<_}
 use native.Mathlib.Omega.{arith}
 use native.Mathlib.Nat.{mul-le-mul}
 use native.Mathlib.Decide.{ℕ-discrete, decLt}
-use borrow.Author.Tests.{eqb-true, ltb-true, eq-eqb, lt-ltb}
 use lib.Dec.{ltb, eqb}
 use lib.ListN.{length, getD}
 use Rattle.lists.specs.Basics.{if, indicator}
-use Rattle.lists.specs.Tests.{false-true}
 use Rattle.geometry_slices.proofs.PackedLaws.{asked-few}
 use Rattle.geometry_slices.proofs.RowLaws.{sum-ext}
 use Rattle.geometry_slices.proofs.TableLaws.{row-past, width-le}
-use Rattle.geometry_slices.specs.Questions.{sizeOf, weightsFrom, reachesFrom, smallReach, Unweighted, sumTo, rowAt, rowFrom, widthOf}
-use Rattle.geometry_slices.specs.Questions.{nearPlaces, rowCost, rowSquare, Rows}
+use Rattle.geometry_slices.specs.Questions.{sizeOf, weightsFrom, reachesFrom, smallReach, NoWeight, UnweightedTo, Unweighted, sumTo}
+use Rattle.geometry_slices.specs.Questions.{rowAt, rowFrom, widthOf, rowCost, rowSquare, Rows}
 use Rattle.geometry_slices.specs.Tables.{Squares}
 
--- what the code asks of a coordinate
-abbrev pub weighsOne : ℕ → ℕ → Bool
-weighsOne w r = if (eqb w 1) (ltb r smallReach) false
-
--- the first n coordinates are unweighted
-abbrev pub UnweightedTo : List ℕ → ℕ → Type 0
-UnweightedTo a n = (m : ℕ) → m < n → (getD a (weightsFrom + m) 0 ≡ 1) × (getD a (reachesFrom + m) 0 < smallReach)
-
-passed : (w r : ℕ) → weighsOne w r ≡ true → (w ≡ 1) × (r < smallReach)
-passed w r = by (eqb w 1) refl
-  where
-    by : (b : Bool) → eqb w 1 ≡ b → if b (ltb r smallReach) false ≡ true → (w ≡ 1) × (r < smallReach)
-    by true e h = (eqb-true w 1 e, ltb-true r smallReach h)
-    by false e h = false-true h
-
-passes : (w r : ℕ) → w ≡ 1 → r < smallReach → weighsOne w r ≡ true
-passes w r e l = rw (eq-eqb w 1 e, lt-ltb r smallReach l)
-
 -- one coordinate more
-pub unweighted-more : (a : List ℕ) (n : ℕ) (t : Bool) → UnweightedTo a n → t ≡ weighsOne (getD a (weightsFrom + n) 0) (getD a (reachesFrom + n) 0)
-    → t ≡ true → UnweightedTo a (n + 1)
-unweighted-more a n t f e h m l = by (ℕ-discrete m n)
+pub unweighted-more : (a : List ℕ) (n : ℕ) → UnweightedTo a n → NoWeight (getD a (weightsFrom + n) 0) (getD a (reachesFrom + n) 0)
+    → UnweightedTo a (n + 1)
+unweighted-more a n f e m l = by (ℕ-discrete m n)
   where
-    by : Dec (m ≡ n) → (getD a (weightsFrom + m) 0 ≡ 1) × (getD a (reachesFrom + m) 0 < smallReach)
-    by (yes o) = rw o (passed (getD a (weightsFrom + n) 0) (getD a (reachesFrom + n) 0) (sym e ∙ h))
+    by : Dec (m ≡ n) → NoWeight (getD a (weightsFrom + m) 0) (getD a (reachesFrom + m) 0)
+    by (yes o) = rw o e
     by (no o) = f m (omega arith)
-
--- a coordinate that does not pass
-pub weighted : (a : List ℕ) (n : ℕ) (t : Bool) → n < sizeOf a → t ≡ weighsOne (getD a (weightsFrom + n) 0) (getD a (reachesFrom + n) 0)
-    → t ≡ false → Unweighted a → false ≡ true
-weighted a n t l e h p = sym h ∙ (e ∙ passes (getD a (weightsFrom + n) 0) (getD a (reachesFrom + n) 0) (p n l .0) (p n l .1))
 
 -- a number below 2,048 squared
 pub square-small : (x : ℕ) → x < smallReach → x * x ≤ 4194304

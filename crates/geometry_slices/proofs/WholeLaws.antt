@@ -46,7 +46,7 @@ row-in a reach j m r l =
     let z : rowFrom j + m - rowFrom j ≡ m = omega arith in
     rw (z, r .each m l)
 
--- and behind them the mark
+-- and behind them the flag
 pub rows-over : (a reach xs ys : List ℕ) (d n v : ℕ) → Packed a → length xs ≡ nearPlaces → d ≡ sizeOf a → n ≡ widthOf d → Reached a reach → Rowed reach d n xs ys
     → (v ≡ 1 → Unweighted a) → RowsOver a xs (set ys unweightedPlace v)
 rows-over a reach xs ys d n v p l e w r s q =

@@ -66,12 +66,19 @@ pub record LaidOut (low high weight r : List ℕ) : Type 0 where
   pub packed : Packed (take (reachesFrom + length low) r)
   pub same : askedOf (take (reachesFrom + length low) r) ≡ featuresOf low high weight
 
--- a question without weights: each is 1. Reaches below 2,048 (those of coordinates in range are at most 1,001) let its sums fit narrower words
+-- a coordinate without weight: it is 1. A reach below 2,048 (those of coordinates in range are at most 1,001) lets sums fit narrower words
 abbrev pub smallReach : ℕ
 smallReach = 2048
 
+abbrev pub NoWeight : ℕ → ℕ → Type 0
+NoWeight weight reach = (weight ≡ 1) × (reach < smallReach)
+
+-- the first n coordinates of a question, or all, are so
+abbrev pub UnweightedTo : List ℕ → ℕ → Type 0
+UnweightedTo a n = (m : ℕ) → m < n → NoWeight (getD a (weightsFrom + m) 0) (getD a (reachesFrom + m) 0)
+
 abbrev pub Unweighted : List ℕ → Type 0
-Unweighted a = (m : ℕ) → m < sizeOf a → (getD a (weightsFrom + m) 0 ≡ 1) × (getD a (reachesFrom + m) 0 < smallReach)
+Unweighted a = UnweightedTo a (sizeOf a)
 
 -- the places of the table of whole pyramids
 abbrev pub wholePlaces : ℕ
@@ -97,7 +104,7 @@ rowFrom j = rowsPlace + maxFeatures * j
 abbrev pub widthOf : ℕ → ℕ
 widthOf d = if (leb d 1) 0 (if (leb d 4) 4 (if (leb d 8) 8 maxFeatures))
 
--- behind the rows near has a mark: 1 says that the question is unweighted; so many places it has
+-- behind the rows near has a flag: 1 says that the question is unweighted, another number nothing; so many places near has
 abbrev pub unweightedPlace : ℕ
 unweightedPlace = rowsPlace + maxFeatures * maxFeatures
 
@@ -119,7 +126,7 @@ pub record Filled (g : ℕ → ℕ → ℕ) (at n : ℕ) (xs ys : List ℕ) : Ty
   pub before : (x : ℕ) → x < at → getD ys x 0 ≡ getD xs x 0
   pub after : (x : ℕ) → at + n ≤ x → getD ys x 0 ≡ getD xs x 0
 
--- a question, and in near the row of each axis and the mark
+-- a question, and in near the row of each axis and the flag
 pub record Rows (a near : List ℕ) : Type 0 where
   pub packed : Packed a
   pub places : length near ≡ nearPlaces

@@ -35,7 +35,7 @@ pub record Rowed (reach : List ℕ) (d n : ℕ) (xs ys : List ℕ) : Type 0 wher
   pub before : (x : ℕ) → x < rowsPlace → getD ys x 0 ≡ getD xs x 0
   pub row : (j m : ℕ) → j < d → m < n → getD ys (rowFrom j + m) 0 ≡ rowIn reach j (rowFrom j + m) 0
 
--- ys has the rows of the question in a, and before them what xs has
+-- ys has the rows and the flag of the question in a, and before them what xs has
 pub record RowsOver (a xs ys : List ℕ) : Type 0 where
   pub rows : Rows a ys
   pub before : (x : ℕ) → x < rowsPlace → getD ys x 0 ≡ getD xs x 0

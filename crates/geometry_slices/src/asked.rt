@@ -1,12 +1,10 @@
 // A question as one list.
 ghost use mathlib.Core.Path.{_≡_};
-ghost use mathlib.Core.Bool.{true, false};
-ghost use Prim.Native.Nat.{_≤_, _<_};
-ghost use lib.Dec.{ltb, eqb};
+ghost use mathlib.Core.Bool.{true};
+ghost use Prim.Native.Nat.{_≤_};
 ghost use lib.ListN.{length};
-ghost use Rattle.lists.specs.Basics.{if};
 ghost use Rattle.geometry.specs.Numbers.{maxFeatures};
-ghost use Rattle.geometry_slices.specs.Questions.{reachAt, smallReach, LaidOut, Packed, Unweighted};
+ghost use Rattle.geometry_slices.specs.Questions.{reachAt, LaidOut, Packed, NoWeight, Unweighted};
 use crate::ASKED_PLACES;
 use crate::HIGHS_FROM;
 use crate::REACHES_FROM;
@@ -39,9 +37,9 @@ pub fn ask(low: &[u16], high: &[u16], weight: &[u16]) -> [u16; ASKED_PLACES]
     asked
 }
 
-// Whether a coordinate has weight 1 and a small reach.
-fn weighs_one(weight: u16, reach: u16) -> bool
-    ensures { λ r. ⌜ r ≡ if (eqb weight 1) (ltb reach smallReach) false ⌝ }
+// Whether a coordinate has no weight.
+fn no_weight(weight: u16, reach: u16) -> bool
+    ensures { λ r. ⌜ (r ≡ true → NoWeight weight reach) × (NoWeight weight reach → r ≡ true) ⌝ }
 {
     if weight == 1 {
         reach < SMALL_REACH
@@ -50,7 +48,7 @@ fn weighs_one(weight: u16, reach: u16) -> bool
     }
 }
 
-// Whether a question is one without weights.
+// Whether a question has none.
 pub fn is_unweighted(asked: &[u16]) -> bool
     requires { ⌜ Packed (now asked) ⌝ }
     ensures { λ r. ⌜ (r ≡ true → Unweighted (now (asked .entry))) × (Unweighted (now (asked .entry)) → r ≡ true) ⌝ }
@@ -58,7 +56,7 @@ pub fn is_unweighted(asked: &[u16]) -> bool
     let d = asked.len() - REACHES_FROM;
     let mut m = 0;
     while m < d {
-        if !weighs_one(asked[WEIGHTS_FROM + m], asked[REACHES_FROM + m]) {
+        if !no_weight(asked[WEIGHTS_FROM + m], asked[REACHES_FROM + m]) {
             return false;
         }
         m += 1;

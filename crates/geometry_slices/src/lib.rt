@@ -15,12 +15,15 @@ pub const REACHES_FROM: usize = 3 * MAX_FEATURES;
 pub const ASKED_PLACES: usize = 4 * MAX_FEATURES;
 
 // Its table near has the nearest height of each pyramid from place 0 on, and from this one a row for each axis.
-pub const ROWS_FROM: usize = 2 * MAX_FEATURES;
+const ROWS_FROM: usize = 2 * MAX_FEATURES;
 
-// Behind the rows stands a mark, 1 for a question without weights.
-pub const UNWEIGHTED_AT: usize = ROWS_FROM + MAX_FEATURES * MAX_FEATURES;
+// Behind the rows stands a flag, 1 only where they may be summed without weights.
+const UNWEIGHTED_AT: usize = ROWS_FROM + MAX_FEATURES * MAX_FEATURES;
 
 pub const NEAR_PLACES: usize = UNWEIGHTED_AT + 1;
+
+// Its table of whole pyramids has a place for each.
+pub const WHOLE_PLACES: usize = 2 * MAX_FEATURES;
 
 // Reaches below this have squares of 22 bits.
 const SMALL_REACH: u16 = 2048;

@@ -18,6 +18,9 @@ use geometry::MAX_FEATURES;
 use geometry::points::above;
 use geometry::points::greater;
 
+// So many coordinates are quickly summed with their weights.
+const FEW_FEATURES: usize = 4;
+
 // What coordinate m has to come down from beside axis j.
 fn row_at(reach: u16, m: u16, j: u16) -> u16
     ensures { λ r. ⌜ r ≡ if (eqb m j) 0 (reach - indicator (ltb j m)) ⌝ }
@@ -82,18 +85,18 @@ fn each_row(reach: &[u16], places: &[u16], d: usize, n: usize, near: &mut [u16])
     }
 }
 
-// The mark of a question: 1 where its rows are summed without weights. With up to four coordinates that is no gain.
-fn mark(asked: &[u16]) -> u16
+// The flag of a question: 1 only where its rows may be summed without weights. With few coordinates there is nothing to gain by that.
+fn flag(asked: &[u16]) -> u16
     requires { ⌜ Packed (now asked) ⌝ }
     ensures { λ r. ⌜ (r ≡ 1 → Unweighted (now (asked .entry))) ⌝ }
 {
-    if asked.len() - REACHES_FROM <= 4 {
+    if asked.len() - REACHES_FROM <= FEW_FEATURES {
         return 0;
     }
     if is_unweighted(asked) { 1 } else { 0 }
 }
 
-// The rows of a question, and its mark.
+// The rows of a question, and its flag.
 pub fn fill_rows(asked: &[u16], near: &mut [u16])
     requires { ⌜ Packed (now asked) × (length (now near) ≡ nearPlaces) ⌝ }
     ensures { λ _. ⌜ RowsOver (now (asked .entry)) (now (near .entry)) (now (near .exit)) ⌝ }
@@ -103,7 +106,7 @@ pub fn fill_rows(asked: &[u16], near: &mut [u16])
     let reach = reaches(asked);
     let places = places();
     each_row(&reach, &places, d, n, near);
-    near[UNWEIGHTED_AT] = mark(asked);
+    near[UNWEIGHTED_AT] = flag(asked);
 }
 
 // The least distance to each whole pyramid.

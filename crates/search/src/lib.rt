@@ -7,11 +7,11 @@ ghost use Rattle.search.specs.Steps.{asks, Seeks, Looks, Searches, Searc
 ghost use Rattle.search_model.specs.Asked.{asking};
 use crate::visit::best_first;
 use crate::visit::reads_none;
-use geometry::MAX_FEATURES;
 use geometry_bounds::bounds::prepare;
 use geometry_slices::ASKED_PLACES;
 use geometry_slices::NEAR_PLACES;
 use geometry_slices::REACHES_FROM;
+use geometry_slices::WHOLE_PLACES;
 use pagestore::total_records;
 use search_model::FEW_RECORDS;
 use search_model::FULL_ROOM;
@@ -22,9 +22,6 @@ use search_model::SMALL_ROOM;
 use search_model::SOME_RECORDS;
 
 mod visit;
-
-// The size of the table of whole pyramids that `prepare` fills.
-const WHOLE_PLACES: usize = 2 * MAX_FEATURES;
 
 // What is asked: the features, laid out in one list as `geometry_slices::asked::ask` does it, their number, and how many rows.
 pub struct Query {

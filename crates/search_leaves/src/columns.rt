@@ -30,7 +30,7 @@ fn squared(gap: i16) -> u32
     (g * g) as u32
 }
 
-// The square of the gap of two stored coordinates. The one of the page, y, comes first: from what was loaded the loops subtract without a copy.
+// The square of the gap of two stored coordinates. That of the page, y, comes first: the loops subtract from what they loaded, with no copy.
 fn square_gap(x: u16, y: u16) -> u32
     requires { ⌜ (x < 2048) × (y < 2048) ⌝ }
     ensures { λ r. ⌜ (r ≡ gapSquare x y) × (r ≤ mostCost) ⌝ }
@@ -46,8 +46,8 @@ fn cost_at(page: &[u8], m: usize, r: usize, x: u16) -> u32
     square_gap(x, read_coord(page, m, r))
 }
 
-// The costs of two coordinates together. The remainder changes nothing: it keeps the two added first, so that one instruction squares both gaps
-// and adds the squares.
+// The costs of two coordinates together. The remainder leaves the sum as it is, but makes the compiler add these two first: one instruction
+// then squares both gaps and adds the squares.
 fn pair_cost(a: u32, b: u32) -> u32
     requires { ⌜ (a ≤ mostCost) × (b ≤ mostCost) ⌝ }
     ensures { λ r. ⌜ r ≡ a + b ⌝ }

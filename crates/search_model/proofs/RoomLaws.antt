@@ -1,5 +1,5 @@
 -- The room for the frontier.
-use mathlib.Core.Path.{_≡_, refl, subst}
+use mathlib.Core.Path.{_≡_, subst}
 use mathlib.Core.List.{List}
 use Prim.Native.Nat.{ℕ, _*_, _≤_, _<_}
 use native.Mathlib.Omega.{arith}
@@ -19,8 +19,8 @@ module _ (n : ℕ) where
   for-large : someRecords < n → n ≤ manyRecords → largeRoom ≡ roomFor n
   for-large g h = rw (lt-leb n fewRecords (omega arith), lt-leb n someRecords g, le-leb n manyRecords h)
 
-  for-all : manyRecords < n → fullRoom ≡ roomFor n
-  for-all g = rw (lt-leb n fewRecords (omega arith), lt-leb n someRecords (omega arith), lt-leb n manyRecords g)
+  for-full : manyRecords < n → fullRoom ≡ roomFor n
+  for-full g = rw (lt-leb n fewRecords (omega arith), lt-leb n someRecords (omega arith), lt-leb n manyRecords g)
 
 -- as the code asks for it
 module _ (b : List ℕ) (n : ℕ) (e : n ≡ fieldAt total b) where
@@ -38,7 +38,7 @@ module _ (b : List ℕ) (n : ℕ) (e : n ≡ fieldAt total b) where
 
   pub room-full : manyRecords < n → fullRoom ≡ room b
   unfolding room
-  room-full g = rw (← e) (for-all n g)
+  room-full g = rw (← e) (for-full n g)
 
 -- what holds of the four sizes, each where it is the room, holds of the room
 module _ (P : ℕ → Type 0) (n : ℕ) (few : n ≤ fewRecords → P smallRoom) (some : n ≤ someRecords → P middleRoom)
@@ -46,7 +46,7 @@ module _ (P : ℕ → Type 0) (n : ℕ) (few : n ≤ fewRecords → P smallRoom)
   above-some : someRecords < n → P (roomFor n)
   above-some g =
       by-cases (leb n manyRecords) (λ e. let h = leb-true n manyRecords e in subst P (for-large n g h) (many h))
-      (λ e. subst P (for-all n (leb-false n manyRecords e)) all)
+      (λ e. subst P (for-full n (leb-false n manyRecords e)) all)
 
   above-few : fewRecords < n → P (roomFor n)
   above-few g =

@@ -29,8 +29,10 @@ search-with-requires c κs =
     record {
       seekable = S .pre .seekable;
       one = S .pre .one;
-      some = sym (c .before .before .before .before .before .before .reads-none .ensures) ∙ c .before .before .before .before .before .if1 .left;
-      room = room-small (now (S .args .index)) _ (c .before .before .before .before .total-records .ensures) (c .before .before .before .if2 .taken);
+      some = sym (c .before .before .before .before .before .before .reads-none .ensures)
+          ∙ c .before .before .before .before .before .if1 .left;
+      room = room-small (now (S .args .index)) _ (c .before .before .before .before .total-records .ensures)
+          (omega (arith, c .before .before .before .if2 .taken));
       rows = S .pre .rows;
       tags = S .pre .tags;
     }
@@ -53,8 +55,10 @@ search-with-requires-2 c κs =
     record {
       seekable = S .pre .seekable;
       one = S .pre .one;
-      some = sym (c .before .before .before .before .before .before .before .reads-none .ensures) ∙ c .before .before .before .before .before .before .if1 .left;
-      room = room-middle (now (S .args .index)) _ (c .before .before .before .before .before .total-records .ensures) (c .before .before .before .before .if2 .left) (c .before .before .before .if3 .taken);
+      some = sym (c .before .before .before .before .before .before .before .reads-none .ensures)
+          ∙ c .before .before .before .before .before .before .if1 .left;
+      room = room-middle (now (S .args .index)) _ (c .before .before .before .before .before .total-records .ensures)
+          (c .before .before .before .before .if2 .left) (omega (arith, c .before .before .before .if3 .taken));
       rows = S .pre .rows;
       tags = S .pre .tags;
     }
@@ -77,8 +81,10 @@ search-with-requires-3 c κs =
     record {
       seekable = S .pre .seekable;
       one = S .pre .one;
-      some = sym (c .before .before .before .before .before .before .before .before .reads-none .ensures) ∙ c .before .before .before .before .before .before .before .if1 .left;
-      room = room-large (now (S .args .index)) _ (c .before .before .before .before .before .before .total-records .ensures) (c .before .before .before .before .if3 .left) (c .before .before .before .if4 .taken);
+      some = sym (c .before .before .before .before .before .before .before .before .reads-none .ensures)
+          ∙ c .before .before .before .before .before .before .before .if1 .left;
+      room = room-large (now (S .args .index)) _ (c .before .before .before .before .before .before .total-records .ensures)
+          (c .before .before .before .before .if3 .left) (omega (arith, c .before .before .before .if4 .taken));
       rows = S .pre .rows;
       tags = S .pre .tags;
     }
@@ -101,8 +107,10 @@ search-with-requires-4 c κs =
     record {
       seekable = S .pre .seekable;
       one = S .pre .one;
-      some = sym (c .before .before .before .before .before .before .before .before .reads-none .ensures) ∙ c .before .before .before .before .before .before .before .if1 .left;
-      room = room-full (now (S .args .index)) _ (c .before .before .before .before .before .before .total-records .ensures) (c .before .before .before .if4 .left);
+      some = sym (c .before .before .before .before .before .before .before .before .reads-none .ensures)
+          ∙ c .before .before .before .before .before .before .before .if1 .left;
+      room = room-full (now (S .args .index)) _ (c .before .before .before .before .before .before .total-records .ensures)
+          (c .before .before .before .if4 .left);
       rows = S .pre .rows;
       tags = S .pre .tags;
     }

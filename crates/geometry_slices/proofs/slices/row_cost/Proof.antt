@@ -34,7 +34,10 @@ cast-result c = search needs
 
 returns : tie.Need-returns
 returns c =
-    let a = c .before .before .before .before .before .before .args in let p = c .before .before .before .before .before .before .pre in let s = c .row-squares .ensures in let e = c .before .before .before .width .ensures in
+    let a = c .before .before .before .before .before .before .args in
+    let p = c .before .before .before .before .before .before .pre in
+    let s = c .row-squares .ensures in
+    let e = c .before .before .before .width .ensures in
     let w = row-room (a .asked .now) (a .near .now) (a .j) _ (p .0) (p .1) e .0 in
     let t = unweighted-sum (a .asked .now) (a .near .now) (a .j) (p .0) (p .0 .unweighted (c .before .if1 .taken)) (p .1) (a .h) _ e in
     (s .0 ∙ (t ∙ ap (λ (n : ℕ). sumTo n (rowCost (a .asked .now) (a .near .now) (rowFrom (a .j)) (a .h))) e), omega (arith, w, s .1))
@@ -47,7 +50,10 @@ row-sum-requires c κs =
 
 returns-2 : tie.Need-returns-2
 returns-2 c =
-    let a = c .before .before .before .before .before .before .args in let p = c .before .before .before .before .before .before .pre in let s = c .row-sum .ensures in let e = c .before .before .before .width .ensures in
+    let a = c .before .before .before .before .before .before .args in
+    let p = c .before .before .before .before .before .before .pre in
+    let s = c .row-sum .ensures in
+    let e = c .before .before .before .width .ensures in
     let w = row-room (a .asked .now) (a .near .now) (a .j) _ (p .0) (p .1) e .0 in
     (s .0 ∙ ap (λ (n : ℕ). sumTo n (rowCost (a .asked .now) (a .near .now) (rowFrom (a .j)) (a .h))) e, omega (arith, w, s .1))
 

@@ -51,9 +51,12 @@ add-result c = omega (arith, c .row-cost .ensures .1, c .before .weigh .ensures 
 
 returns : tie.Need-returns
 returns c =
-    let a = c .before .before .before .before .before .before .before .before .before .args in let j = c .before .before .before .before .before .before .axis-no in
+    let a = c .before .before .before .before .before .before .before .before .before .args in
+    let j = c .before .before .before .before .before .before .axis-no in
     let w = c .before .weigh .ensures .0 in
-    let s = slice-of (a .asked .now) (a .near .now) (a .i) (j .result) (a .h) _ _ _ _ (c .before .before .before .before .before .before .before .before .before .pre .0) (c .before .before .before .before .before .before .before .before .before .pre .1) (j .ensures .0) refl refl (c .before .before .axis-gap .ensures) (c .row-cost .ensures .0) in
+    let s = slice-of (a .asked .now) (a .near .now) (a .i) (j .result) (a .h) _ _ _ _
+    (c .before .before .before .before .before .before .before .before .before .pre .0) (c .before .before .before .before .before .before .before .before .before .pre .1) (j .ensures .0) refl refl
+    (c .before .before .axis-gap .ensures) (c .row-cost .ensures .0) in
     ap (λ (x : ℕ). x + c .row-cost .result) w ∙ s
 
 pub slice-in-spec : {M : Type 1} → statement M

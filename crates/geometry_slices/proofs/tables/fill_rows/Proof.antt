@@ -39,8 +39,8 @@ each-row-requires c κs =
       asked-few (a .asked .now) (c .before .before .before .before .before .before .before .before .pre .0),
     )
 
-mark-requires : tie.Need-mark-requires
-mark-requires c κs = c .before .before .before .before .before .before .before .before .before .before .before .pre .0
+flag-requires : tie.Need-flag-requires
+flag-requires c κs = c .before .before .before .before .before .before .before .before .before .before .before .pre .0
 
 slice-write-near : tie.Need-slice-write-near
 slice-write-near c = omega (arith, c .before .before .before .each-row .ensures .long, c .before .before .before .before .before .before .before .before .before .before .before .before .pre .1)
@@ -50,8 +50,11 @@ same-length c = search needs
 
 returns : tie.Need-returns
 returns c =
-    let a = c .before .before .before .before .before .before .before .before .before .before .before .before .args in let r = c .before .before .before .before .before .before .before .before .reaches in let p = c .before .before .before .before .before .before .before .before .before .before .before .before .pre in
-    rows-over (a .asked .now) (r .result) (a .near .now) _ _ _ _ (p .0) (p .1) refl (c .before .before .before .before .before .before .before .before .before .width .ensures) (r .ensures) (c .before .before .before .each-row .ensures) (c .mark .ensures)
+    let a = c .before .before .before .before .before .before .before .before .before .before .before .before .args in
+    let r = c .before .before .before .before .before .before .before .before .reaches in
+    let p = c .before .before .before .before .before .before .before .before .before .before .before .before .pre in
+    rows-over (a .asked .now) (r .result) (a .near .now) _ _ _ _ (p .0) (p .1) refl
+    (c .before .before .before .before .before .before .before .before .before .width .ensures) (r .ensures) (c .before .before .before .each-row .ensures) (c .flag .ensures)
 
 pub fill-rows-spec : {M : Type 1} → statement M
 fill-rows-spec =
@@ -64,7 +67,7 @@ fill-rows-spec =
     slice-aggregate-each-row
     slice-aggregate-each-row-2
     each-row-requires
-    mark-requires
+    flag-requires
     slice-write-near
     same-length
     returns)

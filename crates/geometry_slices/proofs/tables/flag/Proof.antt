@@ -1,7 +1,7 @@
--- `tables::mark` meets its contract: 1 only where the question was found unweighted.
+-- `tables::flag` meets its contract: 1 only where the question was found to be without weights.
 use borrow.Author.Needs.{needs}
-use Rattle.geometry_slices.proofs.tables.mark.Statement.{statement}
-use Rattle.geometry_slices.proofs.tables.mark.Tie as tie
+use Rattle.geometry_slices.proofs.tables.flag.Statement.{statement}
+use Rattle.geometry_slices.proofs.tables.flag.Tie as tie
 
 sub-if1 : tie.Need-sub-if1
 sub-if1 c = search needs
@@ -18,5 +18,5 @@ returns-2 c = λ e. c .before .is-unweighted .ensures .0 (c .if2 .taken)
 returns-3 : tie.Need-returns-3
 returns-3 c = search needs
 
-pub mark-spec : {M : Type 1} → statement M
-mark-spec = tie.close (tie.spec sub-if1 returns is-unweighted-requires returns-2 returns-3)
+pub flag-spec : {M : Type 1} → statement M
+flag-spec = tie.close (tie.spec sub-if1 returns is-unweighted-requires returns-2 returns-3)
