@@ -1,4 +1,5 @@
-// The benchmark: every figure is a ratio of two times taken in this run. docs/BENCHMARK.md has a run's output.
+// The benchmark: every figure is a ratio of two times taken in this run. docs/BENCHMARK.md has a run's output. Each kind of points and
+// number of features is measured in a process of its own, so that its memory is that of a program which holds one index.
 mod data;
 mod index;
 #[cfg(others)]
@@ -9,7 +10,9 @@ use data::{Kind, Source};
 use epoch_index::{Index, Row, SoundIndex, Tally, PAGE_BYTES};
 use index::{fill, filled, Keeps, Map};
 use scan::Scan;
+use std::env;
 use std::hint::black_box;
+use std::process::{Command, Stdio};
 use std::time::Instant;
 
 const FEATURES: [usize; 5] = [1, 2, 4, 8, 16];
@@ -137,8 +140,8 @@ impl Case {
         }
     }
 
-    /// A line of the first table; the ratio of the scan timed twice.
-    fn line(&self, k: usize) -> f64 {
+    /// A line of the first table, and the ratio of the scan timed twice.
+    fn line(&self, k: usize) -> (String, f64) {
         self.compare(k);
         let sound = SoundIndex::open(&self.bytes[..]).unwrap();
         let wide = is_x86_feature_detected!("avx2");
@@ -160,13 +163,13 @@ impl Case {
         );
         let (scan, asked) = (times[0], self.asked() as f64);
         let read = self.search_all(&sound, k) as f64 / asked;
-        print!("| {} | {} | {} | {k} | {} | {read:.1} ", self.kind.name(), self.d, self.n, leaf_total(&self.bytes));
+        let leaves = leaf_total(&self.bytes);
+        let mut line = format!("| {} | {} | {} | {k} | {leaves} | {read:.1} ", self.kind.name(), self.d, self.n);
         let wide = if wide { times[3] } else { f64::NAN };
         for time in [times[1], times[2] * asked / 5.0, wide].into_iter().chain(self.others_all(k)) {
-            print!("| {:.2} ", time / scan);
+            line += &format!("| {:.2} ", time / scan);
         }
-        println!("|");
-        times[4] / scan
+        (line + "|", times[4] / scan)
     }
 }
 
@@ -243,8 +246,8 @@ impl Times {
     }
 
     /// A line of the second table.
-    fn line(&self) {
-        println!(
+    fn line(&self) -> String {
+        format!(
             "| {} | {} | {} | {:.1} | {:.0} | {:.0} | {:.1} | {:.1} | {:.2} | {:.2} |",
             self.kind.name(),
             self.d,
@@ -256,12 +259,12 @@ impl Times {
             self.tabled.1 / self.map.1,
             self.acts.0 / self.check,
             self.acts.1 / self.check
-        );
+        )
     }
 
     /// A line of the third table: these times over those of fewer points.
-    fn growth(&self, few: &Times) {
-        println!(
+    fn growth(&self, few: &Times) -> String {
+        format!(
             "| {} | {} | {} | {:.1} | {:.1} | {:.1} | {:.1} | {:.1} |",
             self.kind.name(),
             self.d,
@@ -271,49 +274,65 @@ impl Times {
             self.check / few.check,
             self.trusted.0 / few.trusted.0,
             self.tabled.0 / few.tabled.0
-        );
+        )
     }
 }
 
-/// The first table, and the ratios of the scan timed twice; what the others need is kept.
-fn questions(times: &mut Vec<Times>) -> Vec<f64> {
+/// Measures some points of d features. Each line stands behind the number of its table, the scan's ratios behind 0.
+fn measure(kind: Kind, d: usize) {
+    let mut times = Vec::new();
+    for n in SIZES {
+        let mut case = Case::new(kind, d, n);
+        for (line, again) in ROWS.map(|k| case.line(k)) {
+            println!("1{line}\n0{again}");
+        }
+        times.push(Times::of(&mut case));
+    }
+    times.iter().for_each(|time| println!("2{}", time.line()));
+    times[1..].iter().for_each(|more| println!("3{}", more.growth(&times[0])));
+}
+
+/// The lines of a process that measures.
+fn measured(kind: Kind, d: usize) -> Vec<String> {
+    let mut process = Command::new(env::current_exe().unwrap());
+    let output = process.args([kind.name(), &d.to_string()]).stderr(Stdio::inherit()).output().unwrap();
+    assert!(output.status.success());
+    String::from_utf8(output.stdout).unwrap().lines().map(String::from).collect()
+}
+
+/// The lines behind a number.
+fn of_table(lines: &[String], table: char) -> impl Iterator<Item = &str> {
+    lines.iter().filter_map(move |line| line.strip_prefix(table))
+}
+
+fn report(lines: &[String]) {
     println!("## Questions, as multiples of the linear scan\n");
     print!("| points | d | n | k | leaves | leaves read | search | act | scan, AVX2 |");
     println!("{}", if cfg!(others) { " k-d tree | flat | R*-tree |" } else { "" });
     println!("|---|{}", "---|".repeat(if cfg!(others) { 11 } else { 8 }));
-    let mut again = Vec::new();
-    for kind in Kind::ALL {
-        for d in FEATURES {
-            for n in SIZES {
-                let mut case = Case::new(kind, d, n);
-                again.extend(ROWS.map(|k| case.line(k)));
-                times.push(Times::of(&mut case));
-            }
-        }
-    }
-    again
-}
-
-fn main() {
-    let mut times = Vec::new();
-    let mut again = questions(&mut times);
+    of_table(lines, '1').for_each(|line| println!("{line}"));
+    let mut again: Vec<f64> = of_table(lines, '0').map(|ratio| ratio.parse().unwrap()).collect();
     again.sort_by(f64::total_cmp);
-    println!(
-        "\nThe scan timed twice in each line: {:.2} to {:.2}, nine tenths of the lines {:.2} to {:.2}.",
-        again[0],
-        again[again.len() - 1],
-        again[again.len() / 20],
-        again[again.len() - 1 - again.len() / 20]
-    );
+    let (last, part) = (again.len() - 1, again.len() / 20);
+    print!("\nThe scan timed twice in each line: {:.2} to {:.2}, ", again[0], again[last]);
+    println!("nine tenths of the lines {:.2} to {:.2}.", again[part], again[last - part]);
     println!("\n## Check, insert and delete\n");
     print!("| points | d | n | check / touch | insert / map | delete / map | tabled insert / map | tabled delete / map ");
     println!("| insert act / check | delete act / check |");
     println!("|---|---|---|---|---|---|---|---|---|---|");
-    times.iter().for_each(Times::line);
+    of_table(lines, '2').for_each(|line| println!("{line}"));
     println!("\n## Growth with n: times over those of 1,000 points, k = 10\n");
     println!("| points | d | n | search | scan | check | insert | tabled insert |");
     println!("|---|---|---|---|---|---|---|---|");
-    for of_d in times.chunks(SIZES.len()) {
-        of_d[1..].iter().for_each(|more| more.growth(&of_d[0]));
+    of_table(lines, '3').for_each(|line| println!("{line}"));
+}
+
+fn main() {
+    let args: Vec<String> = env::args().skip(1).collect();
+    if let [name, d] = &args[..] {
+        let kind = Kind::ALL.into_iter().find(|kind| kind.name() == name).unwrap();
+        return measure(kind, d.parse().unwrap());
     }
+    let lines: Vec<String> = Kind::ALL.into_iter().flat_map(|kind| FEATURES.into_iter().flat_map(move |d| measured(kind, d))).collect();
+    report(&lines);
 }
