@@ -72,10 +72,25 @@ pub fn fill(keeper: &mut impl Keeps, points: &[i16], d: usize) {
     (1..).zip(points.chunks(d)).for_each(|(id, p)| keeper.put(id, p));
 }
 
-/// An index that holds the points, with as many pages as they can need.
+/// Bytes for an index of n points, as many pages as they can need.
+pub fn room(n: usize) -> Vec<u8> {
+    vec![0; (n / 7 + 8).min(16_384) * PAGE_BYTES]
+}
+
+/// Makes an index in the bytes and puts all points in, with a table of the identifiers.
+pub fn import(bytes: &mut [u8], points: &[i16], d: usize) {
+    let made = Index::make(bytes, d as u8).unwrap().into_inner();
+    fill(&mut SoundIndex::open(made).unwrap().into_tabled(), points, d);
+}
+
+/// The same by the acts.
+pub fn import_by_acts(bytes: &mut [u8], points: &[i16], d: usize) {
+    fill(&mut Index::make(bytes, d as u8).unwrap(), points, d);
+}
+
+/// An index that holds the points.
 pub fn filled(points: &[i16], d: usize) -> Vec<u8> {
-    let pages = (points.len() / d / 7 + 8).min(16_384);
-    let mut bytes = Index::make(vec![0; pages * PAGE_BYTES], d as u8).unwrap().into_inner();
-    fill(&mut SoundIndex::open(&mut bytes[..]).unwrap().into_tabled(), points, d);
+    let mut bytes = room(points.len() / d);
+    import(&mut bytes, points, d);
     bytes
 }

@@ -1,6 +1,7 @@
-// The benchmark: every figure is a ratio of two times taken in this run. docs/BENCHMARK.md has a run's output. Each kind of points and
-// number of features is measured in a process of its own, so that its memory is that of a program which holds one index.
+// The benchmark: every figure is a ratio of two times taken in this run. docs/BENCHMARK.md has a run's output. Each kind of points, and the
+// import, is measured for each number of features in a process of its own, so that its memory is that of a program which holds one index.
 mod data;
+mod import;
 mod index;
 #[cfg(others)]
 mod others;
@@ -293,9 +294,9 @@ fn measure(kind: Kind, d: usize) {
 }
 
 /// The lines of a process that measures.
-fn measured(kind: Kind, d: usize) -> Vec<String> {
+fn measured(name: &str, d: usize) -> Vec<String> {
     let mut process = Command::new(env::current_exe().unwrap());
-    let output = process.args([kind.name(), &d.to_string()]).stderr(Stdio::inherit()).output().unwrap();
+    let output = process.args([name, &d.to_string()]).stderr(Stdio::inherit()).output().unwrap();
     assert!(output.status.success());
     String::from_utf8(output.stdout).unwrap().lines().map(String::from).collect()
 }
@@ -325,14 +326,22 @@ fn report(lines: &[String]) {
     println!("| points | d | n | search | scan | check | insert | tabled insert |");
     println!("|---|---|---|---|---|---|---|---|");
     of_table(lines, '3').for_each(|line| println!("{line}"));
+    println!("\n## Import and check of points around zero: times over those of the same magnitudes without their signs\n");
+    println!("| what | d | n | both signs / positive | timed again | negative / positive |");
+    println!("|---|---|---|---|---|---|");
+    of_table(lines, '4').for_each(|line| println!("{line}"));
 }
 
 fn main() {
     let args: Vec<String> = env::args().skip(1).collect();
     if let [name, d] = &args[..] {
-        let kind = Kind::ALL.into_iter().find(|kind| kind.name() == name).unwrap();
-        return measure(kind, d.parse().unwrap());
+        let d = d.parse().unwrap();
+        return match name.as_str() {
+            "import" => import::measure(d),
+            name => measure(Kind::ALL.into_iter().find(|kind| kind.name() == name).unwrap(), d),
+        };
     }
-    let lines: Vec<String> = Kind::ALL.into_iter().flat_map(|kind| FEATURES.into_iter().flat_map(move |d| measured(kind, d))).collect();
+    let names = Kind::ALL.map(Kind::name).into_iter().chain(["import"]);
+    let lines: Vec<String> = names.flat_map(|name| FEATURES.into_iter().flat_map(move |d| measured(name, d))).collect();
     report(&lines);
 }

@@ -8,14 +8,14 @@ use native.Mathlib.Omega.{arith}
 use native.Mathlib.Nat.{mul-le-mul}
 use native.Mathlib.Numerals.{add-one}
 use borrow.Author.Tests.{eq-eqb, ne-eqb, leb-true, leb-false}
-use lib.Dec.{leb, ltb}
+use lib.Dec.{leb}
 use lib.IntN.{ℤ, pos, natAbs}
 use lib.ListN.{length, getD, take, drop, set, replicate, drop-of-length-le}
 use lib.Seq.{drop-cons, take-length}
 use Rattle.lists.specs.Basics.{if}
 use Rattle.lists.specs.Tests.{by-cases}
-use Rattle.geometry.proofs.StoredLaws.{length-point, point-at, coord-gap, coord-neg}
-use Rattle.geometry.specs.Points.{heightOf, axisAt, axisOf, pyramidOf, distance}
+use Rattle.geometry.proofs.StoredLaws.{length-point, point-at, coord-gap}
+use Rattle.geometry.specs.Points.{isNeg, heightOf, axisAt, axisOf, pyramidOf, distance}
 use Rattle.geometry.specs.Stored.{coordOf, pointOf, stored, slotsOf, inRange}
 
 -- the point from coordinate m on
@@ -144,6 +144,6 @@ pub top-axis : (t h j : ℕ) → t ≡ h * 16 + (15 - j) → j < 16 → 15 - t %
 top-axis t h j e l = omega arith
 
 -- the first coordinate of greatest magnitude and its sign make the pyramid number
-pub pyramid-is : (p : List ℕ) (j : ℕ) → j < length p → j ≡ axisOf (pointOf p) → if (ltb (getD p j 0) 1000) j (j + length p) ≡ pyramidOf (pointOf p)
+pub pyramid-is : (p : List ℕ) (j : ℕ) → j < length p → j ≡ axisOf (pointOf p) → if (isNeg (coordOf (getD p j 0))) j (j + length p) ≡ pyramidOf (pointOf p)
 unfolding pyramidOf
-pyramid-is p j l e = rw (← e, length-point p, point-at p j l, coord-neg (getD p j 0))
+pyramid-is p j l e = rw (← e, length-point p, point-at p j l)

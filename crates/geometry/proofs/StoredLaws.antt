@@ -2,7 +2,7 @@
 use mathlib.Core.Path.{_≡_, refl, sym, ap, ap₂, _∙_}
 use mathlib.Core.Bool.{Bool, true, false}
 use mathlib.Core.List.{List, [], _∷_, _++_, map}
-use Prim.Native.Nat.{ℕ, zero, suc, _+_, _-_, _≤_, _<_}
+use Prim.Native.Nat.{ℕ, zero, suc, _+_, _-_, _/_, _≤_, _<_}
 use native.Mathlib.Omega.{arith}
 use native.Mathlib.Nat.{add-comm}
 use borrow.Author.Tests.{le-ltb, lt-ltb, ltb-true, ltb-false, le-leb, lt-leb, leb-true}
@@ -29,12 +29,13 @@ coord-low x l = rw (lt-ltb x 1000 l) (ap negsuc (let e : 1000 - suc x ≡ 999 - 
 pub coord-high : (x : ℕ) → 1000 ≤ x → coordOf x ≡ pos (x - 1000)
 coord-high x l = rw (le-ltb x 1000 l)
 
-pub coord-neg : (x : ℕ) → isNeg (coordOf x) ≡ ltb x 1000
-coord-neg x = by (ltb x 1000) refl
+-- with a t added that takes exactly the numbers from 1,000 on to 2^16, the carry tells whether the coordinate is below 0
+pub carry-is : (x t : ℕ) → (x < 1000 → x + t < 65536) → (1000 ≤ x → 65536 ≤ x + t) → x + t < 131072 → (x + t) / 65536 ≡ if (isNeg (coordOf x)) 0 1
+carry-is x t low high most = by (ltb x 1000) refl
   where
-    by : (b : Bool) → ltb x 1000 ≡ b → isNeg (coordOf x) ≡ ltb x 1000
-    by true e = rw (coord-low x (ltb-true x 1000 e), e)
-    by false e = rw (coord-high x (ltb-false x 1000 e), e)
+    by : (b : Bool) → ltb x 1000 ≡ b → (x + t) / 65536 ≡ if (isNeg (coordOf x)) 0 1
+    by true e = let l = ltb-true x 1000 e in rw (coord-low x l) (let q : (x + t) / 65536 ≡ 0 = omega (arith, low l) in q)
+    by false e = let l = ltb-false x 1000 e in rw (coord-high x l) (let q : (x + t) / 65536 ≡ 1 = omega (arith, high l, most) in q)
 
 pub coord-parts : (x : ℕ) → (upper (coordOf x) ≡ x - 1000) × (lower (coordOf x) ≡ 1000 - x)
 coord-parts x = by (ltb x 1000) refl

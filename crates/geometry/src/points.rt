@@ -8,7 +8,7 @@ ghost use lib.Dec.{leb};
 ghost use lib.ListN.{length};
 ghost use Rattle.lists.specs.Basics.{if};
 ghost use Rattle.geometry.specs.Numbers.{maxFeatures, maxCoordinate};
-ghost use Rattle.geometry.specs.Points.{heightOf, axisOf, pyramidOf};
+ghost use Rattle.geometry.specs.Points.{isNeg, heightOf, axisOf, pyramidOf};
 ghost use Rattle.geometry.specs.Stored.{coordOf, pointOf, stored, slotsOf, inRange};
 use crate::Height;
 use crate::MAX_COORDINATE;
@@ -128,12 +128,18 @@ fn top_lead(p: &[u16]) -> u32
     top
 }
 
-// The number of the pyramid on axis j of d, on the side below 0 or not.
-pub fn pyramid_no(j: usize, d: usize, below: bool) -> u8
+// A stored coordinate with TO_CARRY added carries, by reaching 2^16, exactly if the coordinate is not below 0.
+const CARRIES_AT: u32 = 65536;
+
+const TO_CARRY: u32 = CARRIES_AT - MAX_COORDINATE as u32;
+
+// The number of the pyramid on axis j of d, where the coordinate of that axis is stored as x: by arithmetic on its sign, without a branch.
+pub fn pyramid_no(j: usize, d: usize, x: u16) -> u8
     requires { ⌜ (j < d) × (d ≤ maxFeatures) ⌝ }
-    ensures { λ r. ⌜ r ≡ if below j (j + d) ⌝ }
+    ensures { λ r. ⌜ r ≡ if (isNeg (coordOf x)) j (j + d) ⌝ }
 {
-    if below { j as u8 } else { (j + d) as u8 }
+    let carry = (x as u32 + TO_CARRY) / CARRIES_AT;
+    (j as u32 + d as u32 * carry) as u8
 }
 
 // The pyramid and height of a point.
@@ -144,8 +150,7 @@ pub fn pair_of(p: &[u16]) -> Pair
     let top = top_lead(p);
     let h = (top / 16) as u16;
     let j = 15 - (top % 16) as usize;
-    let below = p[j] < MAX_COORDINATE;
-    let i = pyramid_no(j, p.len(), below);
+    let i = pyramid_no(j, p.len(), p[j]);
     Pair {
         pyramid: Pyramid(i),
         height: Height(h),

@@ -4,7 +4,6 @@ use mathlib.Core.List.{List}
 use Prim.Native.Nat.{ℕ, zero, suc, _+_, _-_, _*_, _/_, _%_, _≤_, _<_, max}
 use native.Mathlib.Omega.{arith}
 use native.Mathlib.Numerals.{add-one}
-use lib.Dec.{ltb}
 use lib.IntN.{natAbs}
 use lib.ListN.{length, getD, take, drop, set, replicate, length-take, length-set, length-replicate}
 use lib.Seq.{getD-take, getD-set-same, getD-set-other}
@@ -12,7 +11,7 @@ use Rattle.lists.specs.Basics.{if}
 use Rattle.lists.specs.Members.{all-spot, get-spot}
 use Rattle.lists.specs.Tests.{decide}
 use Rattle.geometry.specs.declared.Key.{Key}
-use Rattle.geometry.specs.Points.{heightOf, axisOf, pyramidOf}
+use Rattle.geometry.specs.Points.{isNeg, heightOf, axisOf, pyramidOf}
 use Rattle.geometry.specs.Stored.{coordOf, pointOf}
 use Rattle.geometry.proofs.StoredLaws.{length-point}
 use Rattle.geometry.proofs.PairLaws.{axis-inside}
@@ -114,11 +113,12 @@ module _ (cs : List ℕ) (d : ℕ) (some : 1 ≤ d) (room : d ≤ length cs) whe
   pub lead-inside : {t : ℕ} → d ≤ 16 → t ≡ leadTo d cs → 15 - t % 16 < d
   lead-inside l e = omega (arith, lead-axis l e, axis-low)
 
-  pub lead-pyramid : {t x : ℕ} → d ≤ 16 → t ≡ leadTo d cs → x ≡ getD cs (15 - t % 16) 0 → if (ltb x 1000) (15 - t % 16) (15 - t % 16 + d) ≡ pyramidOf (pointOf (take d cs))
+  pub lead-pyramid : {t x : ℕ} → d ≤ 16 → t ≡ leadTo d cs → x ≡ getD cs (15 - t % 16) 0
+      → if (isNeg (coordOf x)) (15 - t % 16) (15 - t % 16 + d) ≡ pyramidOf (pointOf (take d cs))
   lead-pyramid {t} {x} l e f =
       let j : ℕ = 15 - t % 16 in
       let g : x ≡ getD p j 0 = f ∙ sym (getD-take d cs j 0 (lead-inside l e)) in
-      ap (λ (y : ℕ). if (ltb y 1000) j (j + d)) g ∙ ap (λ (n : ℕ). if (ltb (getD p j 0) 1000) j (j + n)) (sym point-length)
+      ap (λ (y : ℕ). if (isNeg (coordOf y)) j (j + d)) g ∙ ap (λ (n : ℕ). if (isNeg (coordOf (getD p j 0))) j (j + n)) (sym point-length)
       ∙ pyramid-is p j (omega (arith, lead-inside l e, point-length)) (lead-axis l e)
 
 pub lead-key : (r : Record) (d : ℕ) (k : Key) → k .pyramid .0 ≡ pyramidOf (pointOf (take d (r .coords))) → k .height .0 ≡ heightOf (pointOf (take d (r .coords))) → k .id ≡ r .id → k ≡ keyOf d r

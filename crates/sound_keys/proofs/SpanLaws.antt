@@ -39,6 +39,10 @@ ascending-step xs f n x g r h e =
       empty = λ l. absurd (omega (arith, length-append xs (x ∷ [])));
     }
 
+-- past the first item neither the number of items nor the number after the last is 0
+pub later-items : (i x : ℕ) → eqb (i + 1) 0 ≡ eqb (x + 1) 0
+later-items i x = ne-eqb (i + 1) 0 (λ z. absurd (omega (arith, z))) ∙ sym (ne-eqb (x + 1) 0 (λ z. absurd (omega (arith, z))))
+
 -- a number below n ends it
 pub ascending-stop : (xs : List ℕ) (f n x : ℕ) (ys : List ℕ) → AscendingSpan xs f n → x < n → ¬ Ascending (xs ++ (x ∷ ys))
 unfolding headOr

@@ -61,11 +61,12 @@ fn faulty() -> Span
     }
 }
 
-// The first key, where `own` comes after keys that are all below `next`.
-fn first_of(next: u64, first: u64, own: u64) -> u64
-    ensures { λ r. ⌜ r ≡ if (eqb next 0) own first ⌝ }
+// The first key of a page, with item i, whose key is `own`. The test is on i, so that the compiler takes a loop's first turn apart and drops it from
+// the others.
+fn first_of(i: usize, first: u64, own: u64) -> u64
+    ensures { λ r. ⌜ r ≡ if (eqb i 0) own first ⌝ }
 {
-    if next == 0 { own } else { first }
+    if i == 0 { own } else { first }
 }
 
 // Keys from `first` to the one below `next`.
@@ -98,7 +99,7 @@ fn judge_records(page: &[u8], n: usize, d: usize, tops: &[u16]) -> Span
         if own < next {
             return faulty();
         }
-        first = first_of(next, first, own);
+        first = first_of(i, first, own);
         next = own + 1;
         i += 1;
     }
@@ -143,7 +144,7 @@ fn judge_inner(index: &[u8], page: u32, n: usize) -> Span
         if high <= low {
             return faulty();
         }
-        first = first_of(next, first, low);
+        first = first_of(i, first, low);
         next = high + 1;
         i += 1;
     }

@@ -8,7 +8,6 @@ ghost use Rattle.sound_keys.specs.Leads.{leadOf, leadTo, Leads};
 ghost use Rattle.geometry.specs.Numbers.{maxFeatures};
 use geometry::Height;
 use geometry::Key;
-use geometry::MAX_COORDINATE;
 use geometry::MAX_FEATURES;
 use geometry::Pyramid;
 use geometry::points::greater;
@@ -102,9 +101,8 @@ pub fn lead_key(page: &[u8], top: u16, i: usize, d: usize) -> Key
     ensures { λ k. ⌜ k ≡ keyOf d (getD (leafOf (now (page .entry)) .records) i noRecord) ⌝ }
 {
     let j = LAST_FEATURE - (top % PLACES) as usize;
-    let below = read_coord(page, j, i) < MAX_COORDINATE;
     Key {
-        pyramid: Pyramid(pyramid_no(j, d, below)),
+        pyramid: Pyramid(pyramid_no(j, d, read_coord(page, j, i))),
         height: Height(top / PLACES),
         id: read_ident(page, i),
     }

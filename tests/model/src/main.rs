@@ -16,12 +16,14 @@ mod rules;
 mod run;
 mod series;
 mod shapes;
+mod sides;
 mod unread;
 mod unused;
 
 fn main() {
     let mut run = run::Run::new();
     bounds::all(&mut run);
+    sides::all(&mut run);
     large::all(&mut run);
     series::all(&mut run);
     built::all(&mut run);

@@ -1,28 +1,30 @@
 use Prim.Native.Nat.{_-_, _≤_, ℕ}
 use Rattle.sound_faults.specs.Faults.{ends}
-use Rattle.lists.specs.Basics.{concatMap}
+use Rattle.lists.specs.Basics.{concatMap, if}
 use Rattle.pagestore_page.specs.Layout.{noEntry}
 use Rattle.pagestore.specs.Store.{innerAt}
 use Rattle.pagestore.specs.Store.PageLaws.{entries-slots}
-use Rattle.sound_keys.proofs.SpanLaws.{pair-stop, pairs-step, pairs-stop, ascending-start, span-faulty, span-fine}
+use Rattle.sound_keys.proofs.SpanLaws.{later-items, pair-stop, pairs-step, pairs-stop, ascending-start, span-faulty, span-fine}
 use Rattle.sound_keys.specs.Judged.{AscendingSpan}
 use borrow.Author.Needs.{needs}
+use lib.Dec.{eqb}
 use lib.ListN.{getD, take}
+use mathlib.Core.Bool.{Bool}
 use mathlib.Core.List.{[], _∷_}
-use mathlib.Core.Path.{_∙_, _≡_, ap, subst, sym}
+use mathlib.Core.Path.{_∙_, _≡_, refl, ap, subst, sym}
 use native.Mathlib.Omega.{arith}
 use Rattle.sound_keys.proofs.keys.judge_inner.Statement.{statement}
 use Rattle.sound_keys.proofs.keys.judge_inner.Tie as tie
 
 abbrev Inv-loop : tie.InvT-loop
-Inv-loop index page n first₀ next₀ i₀ first next i = (i ≤ n) × AscendingSpan (concatMap ends (take i (innerAt index page .entries))) first next
+Inv-loop index page n first₀ next₀ i₀ first next i = (i ≤ n) × AscendingSpan (concatMap ends (take i (innerAt index page .entries))) first next × (eqb i 0 ≡ eqb next 0)
 
 abbrev μ-loop : tie.MeasureT-loop
 μ-loop index page n first₀ next₀ i₀ first next i = n - i
 
 loop-holds : tie.Need-loop-holds Inv-loop μ-loop
 unfolding concatMap
-loop-holds c = (omega arith, ascending-start)
+loop-holds c = (omega arith, ascending-start, refl)
 
 entry-at-requires : tie.Need-entry-at-requires Inv-loop μ-loop
 entry-at-requires c κs = search needs
@@ -58,7 +60,7 @@ loop-less : tie.Need-loop-less Inv-loop μ-loop
 loop-less c = omega (arith, c .before .before .before .before .before .before .loop-test .taken)
 
 loop-again : tie.Need-loop-again Inv-loop μ-loop
-loop-again c = let s = (c .before .before .before .before .before .before .before .before .before) in let L = c .before .before .before .before .before .before .before .loop in let x = innerAt (s .args .index .now) (s .args .page) in let slots = entries-slots (s .args .index .now) (s .args .page) in let E = c .before .before .before .before .before .entry-at in let A = c .before .before .before .before .rank in let B = c .before .before .before .rank2 in let t = c .before .before .before .before .before .before .loop-test .taken in let e : ends (getD (x .entries) (L .i) noEntry) ≡ A .result ∷ B .result ∷ [] = sym (ap ends (E .ensures)) ∙ (λ i. sym (A .ensures .0) i ∷ sym (B .ensures .0) i ∷ []) in (omega (arith, t), pairs-step ends noEntry (x .entries) (L .i) (L .first) (L .next) (A .result) (B .result) (c .first-of .result) (omega (arith, s .pre .1, t, slots)) e (L .inv .1) (c .before .before .if1 .left) (c .before .if2 .left) (c .first-of .ensures))
+loop-again c = let s = (c .before .before .before .before .before .before .before .before .before) in let L = c .before .before .before .before .before .before .before .loop in let x = innerAt (s .args .index .now) (s .args .page) in let slots = entries-slots (s .args .index .now) (s .args .page) in let E = c .before .before .before .before .before .entry-at in let A = c .before .before .before .before .rank in let B = c .before .before .before .rank2 in let t = c .before .before .before .before .before .before .loop-test .taken in let e : ends (getD (x .entries) (L .i) noEntry) ≡ A .result ∷ B .result ∷ [] = sym (ap ends (E .ensures)) ∙ (λ i. sym (A .ensures .0) i ∷ sym (B .ensures .0) i ∷ []) in (omega (arith, t), pairs-step ends noEntry (x .entries) (L .i) (L .first) (L .next) (A .result) (B .result) (c .first-of .result) (omega (arith, s .pre .1, t, slots)) e (L .inv .1) (c .before .before .if1 .left) (c .before .if2 .left) (c .first-of .ensures ∙ ap (λ (t : Bool). if t (A .result) (L .first)) (L .inv .2)), later-items (L .i) (B .result))
 
 span-to-requires : tie.Need-span-to-requires Inv-loop μ-loop
 span-to-requires c κs = search needs

@@ -1,32 +1,34 @@
 use Prim.Native.Nat.{_-_, _≤_, ℕ}
-use Rattle.lists.specs.Basics.{All, none}
+use Rattle.lists.specs.Basics.{All, if, none}
 use Rattle.pagestore_page.specs.Layout.{leafOf, noRecord}
 use Rattle.pagestore_page.specs.LayoutLaws.{leaf-slots}
 use Rattle.pagestore_page.specs.declared.Record.{Record}
 use Rattle.sound_faults.specs.Prefixes.{all-more, take-spot}
 use Rattle.lists.specs.Judges.{faults, passes}
-use Rattle.sound_keys.proofs.SpanLaws.{ranks-step, ranks-stop, ascending-start, span-faulty, span-fine}
+use Rattle.sound_keys.proofs.SpanLaws.{later-items, ranks-step, ranks-stop, ascending-start, span-faulty, span-fine}
 use Rattle.sound_keys.proofs.KeyLaws.{key-judged, rank-is}
 use Rattle.sound_keys.specs.Judged.{RecordsBad, AscendingSpan}
 use Rattle.tree_model.specs.Sound.{RecordOk}
 use Rattle.tree_model.specs.Trees.{rankOf}
 use borrow.Author.Needs.{needs}
 use borrow.Author.Tests.{not-false, not-true}
+use lib.Dec.{eqb}
 use lib.ListN.{getD, take}
+use mathlib.Core.Bool.{Bool}
 use mathlib.Core.List.{map}
-use mathlib.Core.Path.{_≡_, subst}
+use mathlib.Core.Path.{_≡_, refl, ap, _∙_, subst}
 use native.Mathlib.Omega.{arith}
 use Rattle.sound_keys.proofs.keys.judge_records.Statement.{statement}
 use Rattle.sound_keys.proofs.keys.judge_records.Tie as tie
 
 abbrev Inv-loop : tie.InvT-loop
-Inv-loop page n d tops first₀ next₀ i₀ first next i = (i ≤ n) × AscendingSpan (map (rankOf d) (take i (leafOf page .records))) first next × All (RecordOk d) (take i (leafOf page .records))
+Inv-loop page n d tops first₀ next₀ i₀ first next i = (i ≤ n) × AscendingSpan (map (rankOf d) (take i (leafOf page .records))) first next × All (RecordOk d) (take i (leafOf page .records)) × (eqb i 0 ≡ eqb next 0)
 
 abbrev μ-loop : tie.MeasureT-loop
 μ-loop page n d tops first₀ next₀ i₀ first next i = n - i
 
 loop-holds : tie.Need-loop-holds Inv-loop μ-loop
-loop-holds c = (omega arith, ascending-start, none)
+loop-holds c = (omega arith, ascending-start, none, refl)
 
 mul-lead-key : tie.Need-mul-lead-key Inv-loop μ-loop
 mul-lead-key c = search needs
@@ -68,7 +70,7 @@ loop-less : tie.Need-loop-less Inv-loop μ-loop
 loop-less c = omega (arith, c .before .before .before .before .before .before .before .loop-test .taken)
 
 loop-again : tie.Need-loop-again Inv-loop μ-loop
-loop-again c = let s = (c .before .before .before .before .before .before .before .before .before .before .before) in let L = c .before .before .before .before .before .before .before .before .loop in let x = leafOf (s .args .page .now) in let slots = leaf-slots (s .args .page .now) in let r : Record = getD (x .records) (L .i) noRecord in let K = c .before .before .before .before .before .lead-key in let t = c .before .before .before .before .before .before .before .loop-test .taken in let R = c .before .before .rank in (omega (arith, t), ranks-step (rankOf (s .args .d)) noRecord (x .records) (L .i) (L .first) (L .next) (R .result) (c .first-of .result) (omega (arith, t, s .pre .2, slots)) (rank-is (s .args .d) r (K .result) (R .result) (K .ensures) (R .ensures .0)) (L .inv .1) (c .before .if2 .left) (c .first-of .ensures), all-more noRecord (x .records) (L .i) (omega (arith, t, s .pre .2, slots)) (L .inv .2) (passes (key-judged (s .args .d) r (K .result) (K .ensures) (c .before .before .before .before .key-fine .ensures)) (not-false _ (c .before .before .before .if1 .left))))
+loop-again c = let s = (c .before .before .before .before .before .before .before .before .before .before .before) in let L = c .before .before .before .before .before .before .before .before .loop in let x = leafOf (s .args .page .now) in let slots = leaf-slots (s .args .page .now) in let r : Record = getD (x .records) (L .i) noRecord in let K = c .before .before .before .before .before .lead-key in let t = c .before .before .before .before .before .before .before .loop-test .taken in let R = c .before .before .rank in (omega (arith, t), ranks-step (rankOf (s .args .d)) noRecord (x .records) (L .i) (L .first) (L .next) (R .result) (c .first-of .result) (omega (arith, t, s .pre .2, slots)) (rank-is (s .args .d) r (K .result) (R .result) (K .ensures) (R .ensures .0)) (L .inv .1) (c .before .if2 .left) (c .first-of .ensures ∙ ap (λ (t : Bool). if t (R .result) (L .first)) (L .inv .3)), all-more noRecord (x .records) (L .i) (omega (arith, t, s .pre .2, slots)) (L .inv .2) (passes (key-judged (s .args .d) r (K .result) (K .ensures) (c .before .before .before .before .key-fine .ensures)) (not-false _ (c .before .before .before .if1 .left))), later-items (L .i) (R .result))
 
 span-to-requires : tie.Need-span-to-requires Inv-loop μ-loop
 span-to-requires c κs = search needs

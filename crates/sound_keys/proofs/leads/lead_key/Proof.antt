@@ -18,14 +18,30 @@ sub-j c = search needs
 read-coord-requires : tie.Need-read-coord-requires
 read-coord-requires c κs = search needs
 
+-- the record, which has d coordinates
+abbrev own : tie.Start → Record
+own s = getD (leafOf (s .args .page .now) .records) (s .args .i) noRecord
+
+room : (s : tie.Start) → s .args .d ≤ length (own s .coords)
+room s = omega (arith, coords-length (s .args .page .now) (s .args .i) (s .pre .1), s .pre .3)
+
 pyramid-no-requires : tie.Need-pyramid-no-requires
-pyramid-no-requires c κs = let s = (c .before .before) in let b = s .args .page .now in let i = s .args .i in let r : Record = getD (leafOf b .records) i noRecord in let d = s .args .d in let len = coords-length b i (s .pre .1) in let room : d ≤ length (r .coords) = omega (arith, len, s .pre .3) in (lead-inside (r .coords) d (s .pre .2) room (s .pre .3) (s .pre .4), s .pre .3)
+pyramid-no-requires c κs =
+    let s = c .before .before in
+    (lead-inside (own s .coords) (s .args .d) (s .pre .2) (room s) (s .pre .3) (s .pre .4), s .pre .3)
 
 read-ident-requires : tie.Need-read-ident-requires
 read-ident-requires c κs = search needs
 
 returns : tie.Need-returns
-returns c = let s = (c .before .before .before .before) in let b = s .args .page .now in let i = s .args .i in let r : Record = getD (leafOf b .records) i noRecord in let d = s .args .d in let len = coords-length b i (s .pre .1) in let room : d ≤ length (r .coords) = omega (arith, len, s .pre .3) in lead-key r d _ (c .before .pyramid-no .ensures ∙ lead-pyramid (r .coords) d (s .pre .2) room (s .pre .3) (s .pre .4) (c .before .before .read-coord .ensures .0)) (lead-height (r .coords) d (s .pre .2) room (s .pre .4)) (c .read-ident .ensures)
+returns c =
+    let x = c .before .before .read-coord in
+    let s = c .before .before .before .before in
+    lead-key (own s) (s .args .d) _
+    (c .before .pyramid-no .ensures ∙ lead-pyramid (own s .coords) (s .args .d) (s .pre .2) (room s) {x = x .result} (s .pre .3) (s .pre .4)
+    (omega (arith, x .ensures .0)))
+    (lead-height (own s .coords) (s .args .d) (s .pre .2) (room s) (s .pre .4))
+    (c .read-ident .ensures)
 
 pub lead-key-spec : {M : Type 1} → statement M
 lead-key-spec =
