@@ -28,9 +28,9 @@ extern "C" {
 
 /* The version of these headers and of the library they declare. */
 #define EPOCH_INDEX_VERSION_MAJOR 0
-#define EPOCH_INDEX_VERSION_MINOR 1
+#define EPOCH_INDEX_VERSION_MINOR 2
 #define EPOCH_INDEX_VERSION_PATCH 0
-#define EPOCH_INDEX_VERSION "0.1.0"
+#define EPOCH_INDEX_VERSION "0.2.0"
 
 /* Limits. A length in bytes is a multiple of the page, EPOCH_INDEX_MIN_PAGES to EPOCH_INDEX_MAX_PAGES of them. */
 #define EPOCH_INDEX_PAGE_BYTES 1024
@@ -60,7 +60,7 @@ enum epoch_index_code {
     EPOCH_INDEX_NO_PAGES = 9,         /* insert wants more pages than are unused or freed */
     EPOCH_INDEX_BAD_K = 10,           /* k out of range */
     EPOCH_INDEX_FEW_ROWS = 11,        /* fewer than k rows lent */
-    EPOCH_INDEX_NO_PAGE_TO_EVEN = 12, /* delete finds no page for evening out two leaves (not given: evening out takes no page) */
+                                      /* 12 is given to nothing: evening out two leaves takes no page */
     EPOCH_INDEX_UNREADABLE_LINE = 13  /* program: line not readable (not given here) */
 };
 

@@ -29,8 +29,7 @@ pub enum Refusal {
     BadK = 10,
     /// Fewer than k rows lent.
     FewRows = 11,
-    /// Delete finds no page for evening out two leaves.
-    NoPageToEven = 12,
+    // 12 is given to nothing: evening out two leaves takes no page.
     /// Line not readable: the acts program alone gives it.
     UnreadableLine = 13,
 }
@@ -49,7 +48,6 @@ impl Refusal {
         Refusal::NoPages,
         Refusal::BadK,
         Refusal::FewRows,
-        Refusal::NoPageToEven,
         Refusal::UnreadableLine,
     ];
 
@@ -80,7 +78,6 @@ impl Refusal {
             Refusal::NoPages => "insert wants more pages than are unused or freed",
             Refusal::BadK => "k out of range",
             Refusal::FewRows => "fewer than k rows lent",
-            Refusal::NoPageToEven => "delete finds no page for evening out two leaves",
             Refusal::UnreadableLine => "line not readable",
         }
     }

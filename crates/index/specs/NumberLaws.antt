@@ -34,7 +34,7 @@ asked? w n = (both? (le? _ _) (le? _ _), (le? _ _, tt))
 
 decided : (a : Act) (b : List ℕ) → Decided (rulesOf a b)
 decided (insert i p) b = (permitted? _, (sound-index? b, (eq? _ _, (true? _, (le? _ _, (eq? _ _, (le? _ _, (le? _ _, tt))))))))
-decided (delete i) b = (permitted? _, (sound-index? b, (le? _ _, (le? _ _, (le? _ _, tt)))))
+decided (delete i) b = (permitted? _, (sound-index? b, (le? _ _, (le? _ _, tt))))
 decided (question w n) b = (permitted? _, (sound-index? b, (eq? _ _, (true? _, asked? w n))))
 decided check b = (permitted? _, (sound-index? b, tt))
 

@@ -1,24 +1,25 @@
--- Laws of the refusal table: it gives one number at most (and one at least: NumberLaws), never 12, and an act that it does not refuse has every
--- condition.
-use mathlib.Core.Path.{_≡_, refl, sym, _∙_}
+-- Laws of the refusal table: it gives one number at most (and one at least: NumberLaws), in 01's order without 12, and an act that it does not
+-- refuse has every condition.
+use mathlib.Core.Path.{_≡_, refl, sym, _∙_, subst}
 use mathlib.Core.Bool.{Bool, true, false}
 use mathlib.Core.Logic.{_≢_, inl, inr}
 use mathlib.Core.List.{List, [], _∷_, _++_}
 use Prim.Native.Nat.{ℕ, _≤_, _<_}
 use native.Mathlib.Omega.{arith}
-use lib.Dec.{leb, eqb}
+use lib.Dec.{leb}
+use lib.IntN.{ℤ}
 use lib.ListN.{length}
-use borrow.Author.Tests.{leb-true, ne-eqb}
-use Rattle.lists.specs.Basics.{if, All, none, also}
-use Rattle.lists.specs.Counts.{mult, all-of-mult}
-use Rattle.lists.specs.Sorting.{count}
+use borrow.Author.Tests.{leb-true}
+use Rattle.lists.specs.Basics.{if}
+use Rattle.lists.specs.Counts.{mult, mult-more, absent}
 use Rattle.lists.specs.Tests.{false-true}
 use Rattle.geometry.specs.Stored.{inRange}
 use Rattle.pagestore.specs.Store.{viewOf}
-use Rattle.tree_model.specs.Sound.{SoundIndex}
-use Rattle.tree_laws.specs.SpacePromises.{pages-given}
+use Rattle.tree_model.specs.Sound.{RecordOk, SoundIndex}
+use Rattle.tree_laws.specs.LookupPromises.{find-ident}
+use Rattle.tree_laws.specs.KeyedPromises.{found-all}
 use Rattle.index_query.specs.Asking.{Question, maxRows}
-use Rattle.index_refusals.specs.Refusals.{Rule, First, liveTimes, pagesToRebalance, noPageToEven, deleteRules, questionRules, askedRules}
+use Rattle.index_refusals.specs.Refusals.{Rule, First, numbers, liveTimes, makeRules, insertRules, deleteRules, questionRules, askedRules, checkRules}
 
 pub first-one : (rules : List Rule) (m n : ℕ) → First rules m → First rules n → m ≡ n
 first-one [] m n e f = e ∙ sym f
@@ -27,26 +28,22 @@ first-one (rule ∷ rules) m n (inl e) (inr f) = absurd (e .1 (f .0))
 first-one (rule ∷ rules) m n (inr e) (inl f) = absurd (f .1 (e .0))
 first-one (rule ∷ rules) m n (inr e) (inr f) = first-one rules m n (e .1) (f .1)
 
--- ---- ROW 12
+-- ---- THE NUMBERS
 
-none-new : {xs : List ℕ} (ys : List ℕ) → All (λ q. 0 < mult q ys) xs → count (λ q. eqb (mult q ys) 0) xs ≡ 0
-unfolding count
-none-new ys none = refl
-none-new ys (also {x = q} h a) = let z = none-new ys a in rw (ne-eqb (mult q ys) 0 (λ e. omega (arith, h, e))) (omega arith)
+-- the order of each act (01, "Order", without 12: Q-7)
+pub orders : (bytes d : ℕ) (b : List ℕ) (i : ℕ) (p : List ℤ) (w : Question) (n : ℕ)
+    → (numbers (makeRules bytes d) ≡ 1 ∷ 3 ∷ [])
+    × (numbers (insertRules b i p) ≡ 1 ∷ 2 ∷ 3 ∷ 4 ∷ 5 ∷ 6 ∷ 8 ∷ 9 ∷ [])
+    × (numbers (deleteRules b i) ≡ 1 ∷ 2 ∷ 5 ∷ 7 ∷ [])
+    × (numbers (questionRules b w n) ≡ 1 ∷ 2 ∷ 3 ∷ 4 ∷ 10 ∷ 11 ∷ [])
+    × (numbers (checkRules b) ≡ 1 ∷ 2 ∷ [])
+orders bytes d b i p w n = (refl, refl, refl, refl, refl)
 
--- evening out two leaves takes no page: on a sound index each page that a delete leaves in the tree was in it before
-pub rebalancing-takes-none : (b : List ℕ) (i : ℕ) → SoundIndex b → 0 < liveTimes b i → pagesToRebalance b i ≡ 0
-unfolding pagesToRebalance
-rebalancing-takes-none b i s h = none-new _ (all-of-mult _ (λ q g. omega (arith, pages-given b i s h q)))
-
--- so 12 is never given
-pub never-twelve : (b : List ℕ) (i n : ℕ) → First (deleteRules b i) n → n ≢ noPageToEven
-never-twelve b i n (inl e) z = omega (arith, e .0)
-never-twelve b i n (inr (p, inl e)) z = omega (arith, e .0)
-never-twelve b i n (inr (p, inr (s, inl e))) z = omega (arith, e .0)
-never-twelve b i n (inr (p, inr (s, inr (o, inl e)))) z = omega (arith, e .0)
-never-twelve b i n (inr (p, inr (s, inr (o, inr (l, inl e))))) z = e .1 (omega (arith, rebalancing-takes-none b i s l))
-never-twelve b i n (inr (p, inr (s, inr (o, inr (l, inr (w, e)))))) z = omega (arith, e)
+-- a number that no rule has is not given
+pub not-given : (rules : List Rule) (m n : ℕ) → 0 < m → mult m (numbers rules) ≡ 0 → First rules n → n ≢ m
+not-given [] m n l z f e = omega (arith, f, e)
+not-given (rule ∷ rules) m n l z (inl f) e = absent m (rule .0) (numbers rules) z (sym e ∙ f .0)
+not-given (rule ∷ rules) m n l z (inr f) e = not-given rules m n l (omega (arith, mult-more m (rule .0) (numbers rules))) (f .1) e
 
 -- all conditions
 abbrev pub Hold : List Rule → Type 0
@@ -92,6 +89,17 @@ put-in (x ∷ xs) ys rule n h (inr e) = inr (e .0, put-in xs ys rule n (λ w. h 
 abbrev pub later : List Rule → List Rule
 later [] = []
 later (rule ∷ rules) = rules
+
+-- ---- A DELETE THAT IS NOT REFUSED
+
+-- a live identifier of a sound index is not 0
+pub live-some : (b : List ℕ) (i : ℕ) → SoundIndex b → 0 < liveTimes b i → 1 ≤ i
+live-some b i s h = subst (λ (j : ℕ). 1 ≤ j) (find-ident b i s h) (found-all b i s h (RecordOk (viewOf b .d)) (s .ranges) .ident)
+
+-- so no number refuses its delete
+pub delete-passes : (b : List ℕ) (i : ℕ) → SoundIndex b → 0 < liveTimes b i → First (deleteRules b i) 0
+unfolding viewOf
+delete-passes b i s h = none-fails (deleteRules b i) (s .lent, (s, (live-some b i s h, (h, tt))))
 
 -- ---- A QUESTION THAT IS NOT REFUSED
 

@@ -5,11 +5,9 @@ use mathlib.Core.Bool.{true}
 use mathlib.Core.Logic.{_⊎_}
 use mathlib.Core.List.{List, [], _∷_, map}
 use Prim.Native.Nat.{ℕ, _≤_, _<_}
-use lib.Dec.{eqb}
 use lib.IntN.{ℤ}
 use lib.ListN.{length}
 use Rattle.lists.specs.Counts.{mult}
-use Rattle.lists.specs.Sorting.{count}
 use Rattle.geometry.specs.Stored.{slotsOf, inRange}
 use Rattle.geometry.specs.Numbers.{maxFeatures}
 use Rattle.pagestore_page.specs.declared.Record.{Record}
@@ -17,8 +15,6 @@ use Rattle.pagestore.specs.Store.{viewOf, freeAt}
 use Rattle.tree_model.specs.Trees.{identOf, live}
 use Rattle.tree_model.specs.Sound.{Permitted, SoundIndex, maxPoints}
 use Rattle.tree_core.specs.Insertion.{pagesWanted}
-use Rattle.tree_laws.specs.DeletePromises.{deleteIdent}
-use Rattle.tree_laws.specs.SpacePromises.{treePages}
 use Rattle.index_query.specs.Asking.{Question, maxRows}
 
 -- a number with its condition
@@ -30,6 +26,11 @@ abbrev pub First : List Rule → ℕ → Type 0
 First [] n = n ≡ 0
 First (rule ∷ rules) n = ((n ≡ rule .0) × ¬ (rule .1)) ⊎ ((rule .1) × First rules n)
 
+-- the numbers of rules, in their order
+abbrev pub numbers : List Rule → List ℕ
+numbers [] = []
+numbers (rule ∷ rules) = rule .0 ∷ numbers rules
+
 -- the record that an insert brings: its identifier, and its point as it is stored
 abbrev pub recordOf : ℕ → List ℤ → Record
 recordOf i p = record { id = i; coords = slotsOf p }
@@ -38,11 +39,7 @@ recordOf i p = record { id = i; coords = slotsOf p }
 abbrev pub liveTimes : List ℕ → ℕ → ℕ
 liveTimes b i = mult i (map identOf (live (viewOf b)))
 
--- how many pages the delete of identifier i takes for evening out: those in the tree afterwards that are not in it before
-unfoldable pub pagesToRebalance : List ℕ → ℕ → ℕ
-pagesToRebalance b i = count (λ p. eqb (mult p (treePages b)) 0) (treePages (deleteIdent b i))
-
--- the numbers, by the words of include/epoch_index.h
+-- the numbers, by the words of include/epoch_index.h; 12 is none of them (Q-7)
 
 abbrev pub badLength : ℕ
 badLength = 1
@@ -77,9 +74,6 @@ badK = 10
 abbrev pub fewRows : ℕ
 fewRows = 11
 
-abbrev pub noPageToEven : ℕ
-noPageToEven = 12
-
 -- b: the bytes lent. d: features. i: an identifier. p: a point. w: a question. n: rows lent.
 
 abbrev pub makeRules : ℕ → ℕ → List Rule
@@ -106,7 +100,6 @@ deleteRules b i =
     ∷ (unsound, SoundIndex b)
     ∷ (zeroId, 1 ≤ i)
     ∷ (notLive, 0 < liveTimes b i)
-    ∷ (noPageToEven, pagesToRebalance b i ≤ length (freeAt b))
     ∷ []
 
 -- those of a question that look at no index and not at its point

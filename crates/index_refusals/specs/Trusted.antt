@@ -1,8 +1,7 @@
 -- The acts without the check, for an index that the caller knows to be sound: the act's numbers in its order.
 -- Nothing is known of the bytes here, so some conditions are other ones. 2 asks for the part of soundness that is tested without a look at the pages:
 -- the header's level is one that a sound index can have, and an identifier is looked for along at most 16 ^ 4 paths. 3 asks for d too (01: "d, or the
--- number of coordinates, is wrong"), and 6, 7 and 8 go by what finding an identifier gives and by the header's total. 12 is left out: which pages
--- a delete takes is known of sound indexes alone, and there it takes none.
+-- number of coordinates, is wrong"), and 6, 7 and 8 go by what finding an identifier gives and by the header's total.
 -- On a sound index each rule is the act's (TrustedLaws).
 use mathlib.Core.Path.{_≡_}
 use mathlib.Core.Bool.{true}
@@ -77,8 +76,3 @@ roomRules b i p =
     (full, viewOf b .total < maxPoints)
     ∷ (noPages, pagesWanted b (recordOf i p) ≤ length (freeAt b))
     ∷ []
-
--- the numbers of rules, in their order
-abbrev pub numbers : List Rule → List ℕ
-numbers [] = []
-numbers (rule ∷ rules) = rule .0 ∷ numbers rules

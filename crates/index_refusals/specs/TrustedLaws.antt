@@ -1,31 +1,31 @@
 -- On a sound index an act without the check gives the act's number.
 use mathlib.Core.Path.{_≡_, refl, sym, ap, _∙_}
 use mathlib.Core.Logic.{_≢_, inl, inr}
-use mathlib.Core.List.{List, [], _∷_, _++_}
+use mathlib.Core.List.{List, [], _∷_}
 use Prim.Native.Nat.{ℕ, _≤_, _<_}
 use native.Mathlib.Omega.{arith}
 use lib.IntN.{ℤ}
 use lib.ListN.{length}
 use Rattle.lists.specs.Tests.{decide}
 use Rattle.pagestore_page.specs.declared.Record.{Record}
-use Rattle.pagestore.specs.Store.{viewOf, fieldAt, level, freeAt}
+use Rattle.pagestore.specs.Store.{viewOf, fieldAt, level}
 use Rattle.tree_model.specs.Trees.{live}
-use Rattle.tree_model.specs.Sound.{Permitted, SoundIndex, maxPoints}
+use Rattle.tree_model.specs.Sound.{SoundIndex, maxPoints}
 use Rattle.tree_core.specs.Lookup.{findIn}
 use Rattle.tree_laws.specs.LookupPromises.{find-ident, find-none}
 use Rattle.search_model.proofs.SoundLaws.{tree-level}
 use Rattle.index_query.specs.Asking.{Question}
-use Rattle.index_refusals.specs.Refusals.{Rule, First, liveTimes, pagesToRebalance, insertRules, deleteRules, questionRules, askedRules, badLength, unsound, zeroId, notLive, noPageToEven}
-use Rattle.index_refusals.specs.RefusalLaws.{rebalancing-takes-none, all-hold, put-in, later, Carried, asked-carried}
-use Rattle.index_refusals.specs.Trusted.{Suits, trustedInsert, trustedDelete, trustedQuestion, numbers}
+use Rattle.index_refusals.specs.Refusals.{Rule, First, numbers, liveTimes, insertRules, deleteRules, questionRules, askedRules}
+use Rattle.index_refusals.specs.RefusalLaws.{all-hold, later, Carried, asked-carried}
+use Rattle.index_refusals.specs.Trusted.{Suits, trustedInsert, trustedDelete, trustedQuestion}
 use Rattle.search_model.specs.Numbers.{maxLevel}
 
--- ---- THE NUMBERS: THE ACT'S, IN ITS ORDER; A DELETE'S BUT FOR 12, ITS LAST
+-- ---- THE NUMBERS: THE ACT'S, IN ITS ORDER
 
 pub insert-numbers : (b : List ℕ) (i : ℕ) (p : List ℤ) → numbers (trustedInsert b i p) ≡ numbers (insertRules b i p)
 insert-numbers b i p = refl
 
-pub delete-numbers : (b : List ℕ) (i : ℕ) → numbers (trustedDelete b i) ++ (noPageToEven ∷ []) ≡ numbers (deleteRules b i)
+pub delete-numbers : (b : List ℕ) (i : ℕ) → numbers (trustedDelete b i) ≡ numbers (deleteRules b i)
 delete-numbers b i = refl
 
 pub question-numbers : (b : List ℕ) (w : Question) (n : ℕ) → numbers (trustedQuestion b w n) ≡ numbers (questionRules b w n)
@@ -87,22 +87,13 @@ module _ (b : List ℕ) (s : SoundIndex b) where
       total : length (live (viewOf b)) < maxPoints → viewOf b .total < maxPoints
       total h = omega (arith, s .total)
 
-  -- those of delete but for 12
-  abbrev liveRules : ℕ → List Rule
-  liveRules i =
-      (badLength, Permitted (length b))
-      ∷ (unsound, SoundIndex b)
-      ∷ (zeroId, 1 ≤ i)
-      ∷ (notLive, 0 < liveTimes b i)
-      ∷ []
-
-  live-same : (i n : ℕ) → First (trustedDelete b i) n → First (liveRules i) n
-  live-same i n (inl e) = inl e
-  live-same i n (inr (h, inl e)) = absurd (e .1 level-low)
-  live-same i n (inr (h, inr f)) =
+  pub delete-same : (i n : ℕ) → First (trustedDelete b i) n → First (deleteRules b i) n
+  delete-same i n (inl e) = inl e
+  delete-same i n (inr (h, inl e)) = absurd (e .1 level-low)
+  delete-same i n (inr (h, inr f)) =
       inr (
         h,
-        inr (s, first-alike (later (later (trustedDelete b i))) (later (later (liveRules i))) (refl, λ h. h, λ h. h, λ l. (refl, λ h. is-live h, λ h. is-found l h, λ w. tt)) n (f .1)),
+        inr (s, first-alike (later (later (trustedDelete b i))) (later (later (deleteRules b i))) (refl, λ h. h, λ h. h, λ l. (refl, λ h. is-live h, λ h. is-found l h, λ w. tt)) n (f .1)),
       )
     where
       is-live : findIn b i .id ≢ 0 → 0 < liveTimes b i
@@ -110,10 +101,6 @@ module _ (b : List ℕ) (s : SoundIndex b) where
 
       is-found : 1 ≤ i → 0 < liveTimes b i → findIn b i .id ≢ 0
       is-found l h e = omega (arith, not-live i l e)
-
-  -- 12 holds where the identifier is live
-  pub delete-same : (i n : ℕ) → First (trustedDelete b i) n → First (deleteRules b i) n
-  delete-same i n f = put-in (liveRules i) [] (noPageToEven, pagesToRebalance b i ≤ length (freeAt b)) n (λ w. omega (arith, rebalancing-takes-none b i s (w .1 .1 .1 .0))) (live-same i n f)
 
   pub question-same : (w : Question) (m n : ℕ) → First (trustedQuestion b w m) n → First (questionRules b w m) n
   question-same w m n (inl e) = inl e

@@ -5,7 +5,7 @@ ghost use mathlib.Core.Bool.{true};
 ghost use Prim.Native.Nat.{_≤_, _<_};
 ghost use lib.ListN.{length};
 ghost use Rattle.geometry.specs.Stored.{inRange};
-ghost use Rattle.pagestore.specs.Store.{freshAt, freeAt};
+ghost use Rattle.pagestore.specs.Store.{freeAt};
 ghost use Rattle.tree_model.specs.Sound.{Permitted};
 ghost use Rattle.index_query.specs.Asking.{questionOf};
 ghost use Rattle.index_refusals.specs.Refusals.{First, makeRules, recordOf};
@@ -31,7 +31,7 @@ use search_rows::MAX_ROWS;
 use tree::find;
 use tree::pages_wanted;
 
-// The numbers that an act gives, and 0 if it is carried out. 12 (no page to even out two leaves) is never given.
+// The numbers that an act gives, and 0 if it is carried out. 12 is given to nothing: evening out two leaves takes no page (Q-7).
 pub const BAD_LENGTH: u32 = 1; // the length is not a permitted number of whole pages
 
 pub const UNSOUND: u32 = 2; // the index is not sound

@@ -36,7 +36,7 @@ pub fn insert(index: &mut [u8], id: u32, point: &[i16]) -> u32
     code
 }
 
-// Deletes an identifier with its point. Evening out two leaves never wants a page, so 12 is not given.
+// Deletes an identifier with its point.
 pub fn delete(index: &mut [u8], id: u32) -> u32
     ensures { λ r. ⌜ TrustedDeleted (now (index .entry)) id r (now (index .exit)) ⌝ }
 {

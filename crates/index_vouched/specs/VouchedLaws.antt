@@ -3,8 +3,8 @@
 use mathlib.Core.Path.{_≡_, refl, sym, ap, _∙_, subst}
 use mathlib.Core.Bool.{true}
 use mathlib.Core.Logic.{inl, inr}
-use mathlib.Core.List.{List, map}
-use Prim.Native.Nat.{ℕ, _-_, _≤_, _<_}
+use mathlib.Core.List.{List, [], _∷_, map}
+use Prim.Native.Nat.{ℕ, _≤_, _<_}
 use native.Mathlib.Omega.{arith}
 use lib.IntN.{ℤ}
 use lib.ListN.{length, take, length-take}
@@ -18,8 +18,8 @@ use Rattle.tree_core.specs.Deletion.{deleteFrom}
 use Rattle.tree_core.specs.Lookup.{findIn}
 use Rattle.tree_laws.specs.LookupPromises.{find-ident}
 use Rattle.tree_laws.specs.KeyedPromises.{Twin, holds-found, found-holds, found-all, found-fits, delete-twin}
-use Rattle.index_refusals.specs.Refusals.{First, recordOf, liveTimes, alreadyLive, notLive, insertRules, deleteRules}
-use Rattle.index_refusals.specs.RefusalLaws.{rebalancing-takes-none, first-one, all-hold, none-fails, put-in}
+use Rattle.index_refusals.specs.Refusals.{First, numbers, recordOf, liveTimes, alreadyLive, notLive, insertRules, deleteRules}
+use Rattle.index_refusals.specs.RefusalLaws.{first-one, all-hold, none-fails, put-in, live-some, delete-passes}
 use Rattle.index_refusals.specs.Trusted.{pairRules, roomRules}
 use Rattle.index_refusals.specs.TrustedLaws.{level-low, suits, not-found, insert-same}
 use Rattle.index_vouched.specs.Vouched.{vouchedInsert, vouchedDelete, LiveAt}
@@ -53,25 +53,18 @@ module _ (b : List ℕ) (s : SoundIndex b) (i : ℕ) (p : List ℤ) where
     ranges : inRange p ≡ true
     ranges = subst (λ (q : List ℤ). inRange q ≡ true) (h .1) (point-ranges (ok .coords))
 
-    some : 1 ≤ i
-    some = subst (λ (j : ℕ). 1 ≤ j) (find-ident b i s (h .0)) (ok .ident)
-
     twin : Twin (viewOf b .d) (recordOf i p) (findIn b i)
     twin =
         let own : take (viewOf b .d) (slotsOf p) ≡ map stored p = subst (λ (n : ℕ). take n (slotsOf p) ≡ map stored p) as-many (slots-own p) in
         (find-ident b i s (h .0), sym (slots-point slots) ∙ ap (map stored) (h .1) ∙ sym own)
 
-    -- is not refused, by the act or by the vouched delete
+    -- its vouched delete is not refused
     carried : First (vouchedDelete b i p) 0
     unfolding viewOf
-    carried = none-fails (vouchedDelete b i p) (s .lent, (level-low b s, (suits b s p as-many, (ranges, (some, (found-holds b s (recordOf i p) (h .0) twin, tt))))))
-
-    deletes : First (deleteRules b i) 0
-    unfolding viewOf
-    deletes = none-fails (deleteRules b i) (s .lent, (s, (some, (h .0, (omega (arith, rebalancing-takes-none b i s (h .0)), tt)))))
+    carried = none-fails (vouchedDelete b i p) (s .lent, (level-low b s, (suits b s p as-many, (ranges, (live-some b i s (h .0), (found-holds b s (recordOf i p) (h .0) twin, tt))))))
 
     pub delete-vouched : (n : ℕ) → First (vouchedDelete b i p) n → First (deleteRules b i) n
-    delete-vouched n f = subst (First (deleteRules b i)) (first-one (vouchedDelete b i p) 0 n carried f) deletes
+    delete-vouched n f = subst (First (deleteRules b i)) (first-one (vouchedDelete b i p) 0 n carried f) (delete-passes b i s (h .0))
 
     -- and the two leave the same bytes
     pub deleted-vouched : deleteFrom b (recordOf i p) ≡ deleteFrom b (findIn b i)
@@ -87,6 +80,14 @@ module _ (b : List ℕ) (s : SoundIndex b) (i : ℕ) (p : List ℤ) where
       let is-live : 0 < liveTimes b i = decide (liveTimes b i) 0 (λ z. let y : i ≡ 0 = sym (t .0) ∙ not-found b s i z in absurd (omega (arith, y))) (λ g. omega (arith, g)) in
       let back : pointOf (take (viewOf b .d) (slotsOf p)) ≡ p = subst (λ (n : ℕ). pointOf (take n (slotsOf p)) ≡ p) e (slots-back p (in-range p (w .1 .1 .1 .0))) in
       (is-live, ap pointOf (t .1) ∙ back)
+
+-- ---- THE NUMBERS
+
+-- those of insert but for 6, and those of delete with 3 and 4, since it is told a point
+pub vouched-orders : (b : List ℕ) (i : ℕ) (p : List ℤ)
+    → (numbers (vouchedInsert b i p) ≡ 1 ∷ 2 ∷ 3 ∷ 4 ∷ 5 ∷ 8 ∷ 9 ∷ [])
+    × (numbers (vouchedDelete b i p) ≡ 1 ∷ 2 ∷ 3 ∷ 4 ∷ 5 ∷ 7 ∷ [])
+vouched-orders b i p = (refl, refl)
 
 -- where the number is not 0, it is one of 1 to 5 or 7
 pub vouched-number : (b : List ℕ) (i : ℕ) (p : List ℤ) (n : ℕ) → First (vouchedDelete b i p) n → n ≤ notLive

@@ -34,7 +34,7 @@ pub fn insert(index: &mut [u8], id: u32, point: &[i16]) -> u32
     code
 }
 
-// Deletes an identifier with its point, both told by the caller. Evening out two leaves never wants a page, so 12 is not given.
+// Deletes an identifier with its point, both told by the caller.
 pub fn delete(index: &mut [u8], id: u32, point: &[i16]) -> u32
     ensures { λ r. ⌜ VouchedDeleted (now (index .entry)) id (now (point .entry)) r (now (index .exit)) ⌝ }
 {

@@ -26,8 +26,7 @@ use Rattle.tree_laws.specs.Shapes.{Ok, Some, Root, ok-root, records-some
 use Rattle.tree_laws.specs.LevelLaws.{root-level}
 use Rattle.tree_laws.specs.Frames.{Held}
 use Rattle.tree_laws.specs.InsertSim.{inner-items}
-use Rattle.tree_laws.specs.Wholes.{sound-whole}
-use Rattle.tree_laws.specs.SpacePromises.{treePages}
+use Rattle.tree_laws.specs.Wholes.{treePages, sound-whole}
 use Rattle.pagestore_page.specs.Layout.{noEntry}
 
 -- an entry's first key, as a number

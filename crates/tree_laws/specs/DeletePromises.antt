@@ -8,7 +8,9 @@ use Rattle.lists.specs.Basics.{All, all-map}
 use Rattle.lists.specs.Counts.{mult}
 use Rattle.lists.specs.AscendingBy.{Descending}
 use Rattle.pagestore_page.specs.declared.Record.{Record}
-use Rattle.pagestore.specs.Store.{features, root, level, total, fieldAt, levelAt, freeAt, viewOf}
+use Rattle.pagestore.specs.Store.{features, root, level, total, fresh, fieldAt, levelAt, freshAt, freeAt, viewOf}
+use Rattle.pagestore.specs.Store.PageLaws.{SamePage, same-trans, page-field, field-other}
+use Rattle.pagestore.specs.Store.FreeLaws.{fresh-same}
 use Rattle.tree_model.specs.Trees.{rankOf, identOf, treeOf, live}
 use Rattle.tree_model.specs.Sound.{SoundIndex}
 use Rattle.tree_model.specs.Deleting.{deleteRecord, deletedTree}
@@ -16,9 +18,9 @@ use Rattle.tree_model.specs.Inserting.{Shape}
 use Rattle.tree_core.specs.Deletion.{deleteAt, collapseRoot, takeFromTotal, deleteFrom}
 use Rattle.tree_core.specs.Lookup.{findIn}
 use Rattle.tree_laws.specs.DeleteTree.{Known}
-use Rattle.tree_laws.specs.DeleteRoot.{givenRoot, delete-root}
+use Rattle.tree_laws.specs.DeleteRoot.{givenRoot, delete-root, root-others, root-unused}
 use Rattle.tree_laws.specs.LevelLaws.{given-root-below}
-use Rattle.tree_laws.specs.Wholes.{Whole, shapeAt, sound-whole, sound-right, view-d}
+use Rattle.tree_laws.specs.Wholes.{Whole, shapeAt, treePages, sound-whole, sound-right, view-d}
 use Rattle.tree_laws.specs.Depth.{level-small}
 use Rattle.tree_laws.specs.Header.{Changed, total-changed, changed-sound}
 use Rattle.tree_laws.specs.Idents.{del-all, del-one, ident-del}
@@ -46,14 +48,15 @@ module _ (b : List ℕ) (i : ℕ) (s : SoundIndex b) (h : 0 < mult i (map identO
   known : All (Known (viewOf b .d) (findIn b i)) (live (viewOf b))
   known = all-map (λ x (f : x .id ≡ i → x ≡ findIn b i) g. ap (rankOf d) (f (g ∙ find-ident b i s h))) (find-only b i s)
 
+  small : viewOf b .level < 256
+  small = omega (arith, level-small b (viewOf b .level) (treeOf (viewOf b)) (w .ok) (w .own))
+
   abbrev collapsed : List ℕ
   collapsed = collapseRoot (fieldAt level b) (deleteAt (fieldAt features b) (fieldAt level b) b (fieldAt root b) (findIn b i) .bytes) (fieldAt root b) (deleteAt (fieldAt features b) (fieldAt level b) b (fieldAt root b) (findIn b i) .count)
 
   found : Changed d b collapsed (deletedTree (viewOf b .d) (findIn b i) (shapeAt b)) (deleteRecord (findIn b i .id) (live (viewOf b))) (pagesGiven b i ++ freeAt b)
   unfolding live pagesGiven
-  found =
-      let v = level-small b (viewOf b .level) (treeOf (viewOf b)) (w .ok) (w .own) in
-      rw (w .features-are, w .level-is, w .root-is) (delete-root d b r (viewOf b .level) (treeOf (viewOf b)) (omega arith) w known)
+  found = rw (w .features-are, w .level-is, w .root-is) (delete-root d b r (viewOf b .level) (treeOf (viewOf b)) small w known)
 
   changed : Changed d b collapsed (deletedTree (viewOf b .d) (findIn b i) (shapeAt b)) (deleteRecord i (live (viewOf b))) (pagesGiven b i ++ freeAt b)
   changed = subst (λ (j : ℕ). Changed d b collapsed (deletedTree (viewOf b .d) (findIn b i) (shapeAt b)) (deleteRecord j (live (viewOf b))) (pagesGiven b i ++ freeAt b)) (find-ident b i s h) found
@@ -99,3 +102,21 @@ module _ (b : List ℕ) (i : ℕ) (s : SoundIndex b) (h : 0 < mult i (map identO
   pub delete-features : viewOf (deleteIdent b i) .d ≡ viewOf b .d
   unfolding deleteFrom takeFromTotal
   delete-features = view-d (deleteIdent b i) ∙ total-changed (fieldAt total collapsed - 1) changed .3
+
+  -- no page outside the tree changes
+  others : (q : ℕ) → mult q (treePages b) ≡ 0 → SamePage b collapsed q
+  unfolding live
+  others q z = rw (w .features-are, w .level-is, w .root-is) (root-others d b r (viewOf b .level) (treeOf (viewOf b)) small w known q z)
+
+  pub delete-others : (q : ℕ) → mult q (treePages b) ≡ 0 → SamePage b (deleteIdent b i) q
+  unfolding deleteFrom takeFromTotal
+  delete-others q z = same-trans (others q z) (page-field total collapsed (fieldAt total collapsed - 1) q)
+
+  -- and the pages never used are the same
+  unused : fieldAt fresh collapsed ≡ fieldAt fresh b
+  unfolding live
+  unused = rw (w .features-are, w .level-is, w .root-is) (root-unused d b r (viewOf b .level) (treeOf (viewOf b)) small w known)
+
+  pub delete-unused : freshAt (deleteIdent b i) ≡ freshAt b
+  unfolding deleteFrom takeFromTotal
+  delete-unused = fresh-same b (deleteIdent b i) delete-length (field-other total fresh collapsed (fieldAt total collapsed - 1) refl ∙ unused)

@@ -1,6 +1,7 @@
 -- Deletion at the root: where an inner root is left with one child, that child is the root, and the old root is free.
 use mathlib.Core.Path.{_≡_, refl, sym, ap, _∙_, subst}
 use mathlib.Core.Bool.{Bool, true}
+use mathlib.Core.Logic.{_≢_}
 use mathlib.Core.List.{List, [], _∷_, _++_, append-nil}
 use Prim.Native.Nat.{ℕ, zero, suc, _+_, _<_}
 use native.Mathlib.Omega.{arith}
@@ -8,15 +9,16 @@ use lib.Dec.{eqb}
 use lib.ListN.{length, getD}
 use borrow.Author.Tests.{eqb-true, eqb-false}
 use Rattle.lists.specs.Basics.{if, indicator, All, concatMap, all-head}
-use Rattle.lists.specs.Choices.{bool-cases, indicator-le, indicator-true}
+use Rattle.lists.specs.Choices.{if-cases, bool-cases, indicator-le, indicator-true}
 use Rattle.lists.specs.Counts.{mult, mult-append, mult-self, absent}
 use Rattle.lists.specs.AscendingBy.{AscendingBy}
 use Rattle.lists.specs.Tabulated.{all-at}
 use Rattle.pagestore_page.specs.declared.Record.{Record}
 use Rattle.pagestore_page.specs.declared.Entry.{Entry}
-use Rattle.pagestore.specs.Store.{pageAt, features, root, level, fieldAt, inRange, innerAt, entriesIn, freeAt, freePage}
+use Rattle.pagestore.specs.Store.{pageAt, features, root, level, fresh, fieldAt, inRange, innerAt, entriesIn, freeAt, freePage}
+use Rattle.pagestore.specs.Store.PageLaws.{SamePage, same-refl, same-trans}
 use Rattle.pagestore.specs.Store.FreeLaws.{freed-part}
-use Rattle.pagestore.specs.Store.TakeLaws.{page-free, free-free}
+use Rattle.pagestore.specs.Store.TakeLaws.{page-free, field-free, free-free}
 use Rattle.tree_model.specs.Trees.{Item, records, pages, rankOf}
 use Rattle.tree_model.specs.Deleting.{deleteRecord, deleteTree, collapsed, deletedTree}
 use Rattle.tree_model.specs.Inserting.{Shape, noTree}
@@ -78,7 +80,7 @@ module _ (d l : ℕ) (b : List ℕ) (p : ℕ) (c : Item (suc l)) (v : suc l < 25
   low-free = free-free b2 p (root-well b (c .0) l well .rest) p-in2 (omega (arith, freed-part b2 p, p-free2)) ∙ ap (λ (z : List ℕ). p ∷ z) free2
 
   low-page : (q : ℕ) → 0 < mult q (pages (suc l) c) → pageAt b3 q ≡ pageAt b q
-  low-page q h = page-free b2 p q (absent q p [] (omega (arith, own q, sum q, indicator-le (inRange b q)))) .page ∙ root-page b (c .0) l q
+  low-page q h = page-free b2 p q (absent q p [] (omega (arith, own q, sum q, indicator-le (inRange b q)))) .page ∙ root-page b (c .0) l q .page
 
   low-range : (q : ℕ) → inRange b3 q ≡ inRange b q
   low-range q = kept-range k q ∙ root-range b (c .0) l q
@@ -111,6 +113,25 @@ module _ (d l : ℕ) (b : List ℕ) (p : ℕ) (c : Item (suc l)) (v : suc l < 25
   pub low-child : childAt (entriesIn (innerAt b p)) 0 ≡ c .0
   low-child = ap (λ (es : List Entry). childAt es 0) (inner-items d l b (p, c ∷ []) held) ∙ child-at d l 0 (c ∷ [])
 
+-- whatever the root page holds: no other page changes, and none that was never used is taken
+collapse-others : (l : ℕ) (b : List ℕ) (p n q : ℕ) → q ≢ p → SamePage b (collapseRoot l b p n) q
+unfolding collapseRoot
+collapse-others zero b p n q ne = same-refl b q
+collapse-others (suc l) b p n q ne =
+    let c = childAt (entriesIn (innerAt b p)) 0 in
+    if-cases (λ z. SamePage b z q) (eqb n 1) _ _
+    (λ e. same-trans (root-page b c l q) (page-free (setRoot b c l) p q ne))
+    (λ e. same-refl b q)
+
+collapse-unused : (l : ℕ) (b : List ℕ) (p n : ℕ) → fieldAt fresh (collapseRoot l b p n) ≡ fieldAt fresh b
+unfolding collapseRoot
+collapse-unused zero b p n = refl
+collapse-unused (suc l) b p n =
+    let c = childAt (entriesIn (innerAt b p)) 0 in
+    if-cases (λ z. fieldAt fresh z ≡ fieldAt fresh b) (eqb n 1) _ _
+    (λ e. field-free fresh (setRoot b c l) p refl ∙ root-field b c l fresh refl refl)
+    (λ e. refl)
+
 one-item : {A : Type 0} (xs : List A) (d : A) → length xs ≡ 1 → xs ≡ getD xs 0 d ∷ []
 one-item [] d h = absurd (omega arith)
 one-item (x ∷ []) d h = refl
@@ -129,6 +150,14 @@ module _ (d : ℕ) (b : List ℕ) (r : Record) (l : ℕ) (t : Item (suc l)) (v :
 
   sim : DeleteSim d l b (pages (suc l) t) (deleteAt d l b (t .0) r) (deleteTree d l r (freeAt b) t .tree) (deleteTree d l r (freeAt b) t .free)
   sim = delete-sim d l b r t v (w .ok) (w .held) (w .well) (λ q. omega (arith, w .own q))
+
+  -- no page outside the tree changes, and none that was never used is taken
+  pub root-others : (q : ℕ) → mult q (pages (suc l) t) ≡ 0 → SamePage b (collapseRoot l (deleteAt d l b (t .0) r .bytes) (t .0) (deleteAt d l b (t .0) r .count)) q
+  unfolding pages
+  root-others q h = same-trans (sim .frame q h) (collapse-others l (o .bytes) (t .0) (o .count) q (absent q (t .0) (concatMap (pages l) (t .1)) h))
+
+  pub root-unused : fieldAt fresh (collapseRoot l (deleteAt d l b (t .0) r .bytes) (t .0) (deleteAt d l b (t .0) r .count)) ≡ fieldAt fresh b
+  root-unused = collapse-unused l (o .bytes) (t .0) (o .count) ∙ sim .unused
 
   free-o : freeAt (o .bytes) ≡ given d l r t ++ freeAt b
   free-o = sim .free ∙ delete-free d l r (freeAt b) t

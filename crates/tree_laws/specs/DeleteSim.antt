@@ -15,7 +15,8 @@ use Rattle.lists.specs.Parts.{all-drop, all-set, concatMap-set, concatMap-pair,
 use Rattle.lists.specs.Tabulated.{all-take, all-at}
 use Rattle.pagestore_page.specs.declared.Record.{Record}
 use Rattle.pagestore_page.specs.declared.Entry.{Entry}
-use Rattle.pagestore.specs.Store.{pageAt, setPage, inRange, freeAt}
+use Rattle.pagestore.specs.Store.{pageAt, setPage, fresh, fieldAt, inRange, freeAt}
+use Rattle.pagestore.specs.Store.PageLaws.{SamePage, same-trans, page-other, field-page}
 use Rattle.tree_model.specs.Trees.{Item, pages, rankOf, entryOf, node}
 use Rattle.tree_model.specs.Inserting.{choose, noTree, chosen}
 use Rattle.tree_model.specs.Deleting.{deleteRecord, leftCount, rebalancedItems, leftOf, placePair, rebalancedPair, deleteTree}
@@ -27,16 +28,17 @@ use Rattle.tree_laws.specs.Idents.{del-all, del-length}
 use Rattle.tree_laws.specs.EntryLaws.{leaf-entry, inner-entry}
 use Rattle.tree_laws.specs.Frames.{Held, held-list, held-zero, Well, Kept, kept-range, kept-trans}
 use Rattle.tree_laws.specs.InsertSim.{writeNode, entryAs, one-sim, leaf-items, inner-items, sum-at}
-use Rattle.tree_laws.specs.DeleteTree.{Balanced, Near, pair-near, pair-lt, pair-balanced, pair-ok, pair-pages, pair-length, delete-near, delete-kept}
+use Rattle.tree_laws.specs.DeleteTree.{Balanced, Near, pair-near, pair-lt, pair-balanced, pair-ok, pair-pages, pair-length, delete-near, delete-kept, delete-free, given}
 use Rattle.tree_laws.specs.PairSim.{PairSim, place-sim, balanced-oks, rebalance-pages}
 
--- o is what the tree t says, the pages fs are free, and no page outside ps and the free pages of b has changed
+-- o is what the tree t says, and the pages fs are free; no page outside ps has changed, and the pages never used are the same
 pub record DeleteSim (d l : ℕ) (b ps : List ℕ) (o : Deleted) (t : Item (suc l)) (fs : List ℕ) : Type 0 where
   pub held : Held d (suc l) (o .bytes) t
   pub entry : o .entry ≡ entryOf d l t
   pub count : o .count ≡ length (t .1)
   pub free : freeAt (o .bytes) ≡ fs
-  pub frame : (q : ℕ) → mult q ps ≡ 0 → mult q (freeAt b) ≡ 0 → pageAt (o .bytes) q ≡ pageAt b q
+  pub frame : (q : ℕ) → mult q ps ≡ 0 → SamePage b (o .bytes) q
+  pub unused : fieldAt fresh (o .bytes) ≡ fieldAt fresh b
   pub kept : Kept b (o .bytes)
 
 -- the last write, of the parent
@@ -45,13 +47,23 @@ leave-sim : (d l : ℕ) (b : List ℕ) (p : ℕ) (ts : List (Item (suc l))) → 
 unfolding node setPage
 leave-sim d l b p ts v well own held ok len =
     let s = one-sim d (suc l) b p ts v well own held ok len in
-    record { held = all-head (s .held); entry = inner-entry d l p ts ok; count = length-map ts (entryOf d l); free = s .free; frame = s .frame; kept = s .kept }
+    let x = node d (suc l) ts in
+    record {
+      held = all-head (s .held);
+      entry = inner-entry d l p ts ok;
+      count = length-map ts (entryOf d l);
+      free = s .free;
+      frame = λ q h. page-other b p x q (absent q p [] h);
+      unused = field-page fresh b p x;
+      kept = s .kept;
+    }
 
 -- the page p over the children ts; o is what a deletion has left of the child at i, which is now x
 module _ (d l : ℕ) (b : List ℕ) (p : ℕ) (ts : List (Item (suc l))) (i : ℕ) (lt : i < length ts) (g2 : 2 ≤ length ts) (g4 : length ts ≤ 16) (v : suc l < 256) (o : Deleted) (x : Item (suc l)) (fs : List ℕ)
     (own : (q : ℕ) → mult q (p ∷ concatMap (pages (suc l)) ts) + mult q (freeAt b) ≤ indicator (inRange b q)) (held : All (Held d (suc l) b) ts) (ok : All (Ok (suc l)) ts) (nx : Near l x)
     (ih : DeleteSim d l b (pages (suc l) (getD ts i (noTree l))) o x fs)
-    (same : (q : ℕ) → mult q (pages (suc l) x) + mult q fs ≡ mult q (pages (suc l) (getD ts i (noTree l))) + mult q (freeAt b)) where
+    (same : (q : ℕ) → mult q (pages (suc l) x) + mult q fs ≡ mult q (pages (suc l) (getD ts i (noTree l))) + mult q (freeAt b))
+    (more : (q : ℕ) → mult q (freeAt b) ≤ mult q fs) where
   L : ℕ → ℕ
   L q = mult q (concatMap (pages (suc l)) (take i ts))
 
@@ -83,7 +95,7 @@ module _ (d l : ℕ) (b : List ℕ) (p : ℕ) (ts : List (Item (suc l))) (i : �
 
   side : (ps : List ℕ) → ((q : ℕ) → mult q ps ≤ L q + R q) → (q : ℕ) → 0 < mult q ps → pageAt (o .bytes) q ≡ pageAt b q
   unfolding C
-  side ps le q h = ih .frame q (omega (arith, own q, old q, le q, indicator-le (inRange b q))) (omega (arith, own q, old q, le q, indicator-le (inRange b q)))
+  side ps le q h = ih .frame q (omega (arith, own q, old q, le q, indicator-le (inRange b q))) .page
 
   held1 : All (Held d (suc l) (o .bytes)) (set ts i x)
   unfolding L R
@@ -154,7 +166,7 @@ module _ (d l : ℕ) (b : List ℕ) (p : ℕ) (ts : List (Item (suc l))) (i : �
   keep zs le q h =
       ps' .frame q
       (absent q (a .0) (concatMap (pages l) (a .1)) (omega (arith, own1 q, le q, indicator-le (inRange (o .bytes) q))))
-      (absent q (c .0) (concatMap (pages l) (c .1)) (omega (arith, own1 q, le q, indicator-le (inRange (o .bytes) q))))
+      (absent q (c .0) (concatMap (pages l) (c .1)) (omega (arith, own1 q, le q, indicator-le (inRange (o .bytes) q)))) .page
 
   held2 : All (Held d (suc l) b2) rest
   held2 =
@@ -201,31 +213,29 @@ module _ (d l : ℕ) (b : List ℕ) (p : ℕ) (ts : List (Item (suc l))) (i : �
 
   -- from the bytes before, over the child's deletion (and the rebalancing) and the parent's write
   over : {b1 : List ℕ} {o' : Deleted} {t : Item (suc (suc l))} {gs : List ℕ}
-      → ((q : ℕ) → mult q (p ∷ concatMap (pages (suc l)) ts) ≡ 0 → mult q (freeAt b) ≡ 0 → (pageAt b1 q ≡ pageAt b q) × (mult q (freeAt b1) ≡ 0)) → Kept b b1
+      → ((q : ℕ) → mult q (p ∷ concatMap (pages (suc l)) ts) ≡ 0 → SamePage b b1 q) → fieldAt fresh b1 ≡ fieldAt fresh b → Kept b b1
       → DeleteSim d (suc l) b1 (p ∷ []) o' t gs → DeleteSim d (suc l) b (p ∷ concatMap (pages (suc l)) ts) o' t gs
-  over f k s =
+  over f e k s =
       record {
         held = s .held;
         entry = s .entry;
         count = s .count;
         free = s .free;
-        frame = λ q h m. let e = f q h m in s .frame q (omega (arith, old q)) (e .1) ∙ e .0;
+        frame = λ q h. same-trans (f q h) (s .frame q (omega (arith, old q)));
+        unused = s .unused ∙ e;
         kept = kept-trans k (s .kept);
       }
 
-  frame1 : (q : ℕ) → mult q (p ∷ concatMap (pages (suc l)) ts) ≡ 0 → mult q (freeAt b) ≡ 0 → (pageAt (o .bytes) q ≡ pageAt b q) × (mult q (freeAt (o .bytes)) ≡ 0)
+  frame1 : (q : ℕ) → mult q (p ∷ concatMap (pages (suc l)) ts) ≡ 0 → SamePage b (o .bytes) q
   unfolding C
-  frame1 q h k = (ih .frame q (omega (arith, old q)) k, omega (arith, old q, same' q))
+  frame1 q h = ih .frame q (omega (arith, old q))
 
-  frame2 : (q : ℕ) → mult q (p ∷ concatMap (pages (suc l)) ts) ≡ 0 → mult q (freeAt b) ≡ 0 → (pageAt b2 q ≡ pageAt b q) × (mult q (freeAt b2) ≡ 0)
-  unfolding pages
-  frame2 q h k =
-      let n : mult q (p ∷ concatMap (pages (suc l)) us) + mult q (freeAt (o .bytes)) ≡ 0 = omega (arith, old q, new q, same' q) in
-      let m = pair-pages l ts i x lt g2 ok nx fs q in
-      let f1 : mult q (freeAt (o .bytes)) ≡ mult q fs = ap (mult q) (ih .free) in (
-        ps' .frame q (absent q (a .0) (concatMap (pages l) (a .1)) (omega (arith, pair-sum2 q))) (absent q (c .0) (concatMap (pages l) (c .1)) (omega (arith, pair-sum2 q))) ∙ frame1 q h k .0,
-        ap (mult q) (ps' .free) ∙ omega (arith, mult-append q (p ∷ []) (concatMap (pages (suc l)) us)),
-      )
+  frame2 : (q : ℕ) → mult q (p ∷ concatMap (pages (suc l)) ts) ≡ 0 → SamePage b b2 q
+  unfolding pages X C
+  frame2 q h =
+      let n : mult q (p ∷ concatMap (pages (suc l)) us) ≡ 0 = omega (arith, old q, new q, same q, more q) in
+      same-trans (frame1 q h)
+      (ps' .frame q (absent q (a .0) (concatMap (pages l) (a .1)) (omega (arith, pair-sum2 q))) (absent q (c .0) (concatMap (pages l) (c .1)) (omega (arith, pair-sum2 q))))
 
   fix-sim : DeleteSim d (suc l) b (p ∷ concatMap (pages (suc l)) ts) (fixUnderflow d l p (map (entryOf d l) ts) i o) (p, rest) (rebalancedPair l fs (leftOf i (length ts)) us .free)
   fix-sim =
@@ -236,8 +246,8 @@ module _ (d l : ℕ) (b : List ℕ) (p : ℕ) (ts : List (Item (suc l))) (i : �
       let s : DeleteSim d (suc l) (o .bytes) (p ∷ []) (leave (suc l) (o .bytes) p (map (entryOf d l) us)) (p, us) (rebalancedPair l fs (leftOf i (length ts)) us .free) = rw (ih .free ∙ pr .1) at (plain-sim h) in
       let s' : DeleteSim d (suc l) (o .bytes) (p ∷ []) (leave (suc l) (o .bytes) p (map (entryOf d l) us)) (p, rest) (rebalancedPair l fs (leftOf i (length ts)) us .free) =
       subst (λ (w : List (Item (suc l))). DeleteSim d (suc l) (o .bytes) (p ∷ []) (leave (suc l) (o .bytes) p (map (entryOf d l) us)) (p, w) (rebalancedPair l fs (leftOf i (length ts)) us .free)) (pr .0) s in
-      over frame1 (ih .kept) s')
-      (λ e. over frame2 (kept-trans (ih .kept) (ps' .kept)) (rw (ps' .free) at short-sim)))
+      over frame1 (ih .unused) (ih .kept) s')
+      (λ e. over frame2 (ps' .unused ∙ ih .unused) (kept-trans (ih .kept) (ps' .kept)) (rw (ps' .free) at short-sim)))
 
 inner-step : (d l : ℕ) (r : Record) (b : List ℕ) (t : Item (suc (suc l))) → Held d (suc (suc l)) b t
     → deleteAt d (suc l) b (t .0) r ≡ fixUnderflow d l (t .0) (map (entryOf d l) (t .1)) (chosen d l (rankOf d r) (t .1)) (deleteAt d l b (getD (t .1) (chosen d l (rankOf d r) (t .1)) (noTree l) .0) r)
@@ -262,7 +272,8 @@ delete-sim d zero b r t v o held well own =
       entry = leaf-entry d p xs;
       count = refl;
       free = s .free;
-      frame = λ q h. s .frame q (omega (arith, mult-append q (p ∷ []) (concatMap (pages 0) (t .1))));
+      frame = λ q h. page-other b p (node d zero xs) q (absent q p (concatMap (pages 0) (t .1)) h);
+      unused = field-page fresh b p (node d zero xs);
       kept = s .kept;
     })
 delete-sim d (suc l) b r t v o held well own =
@@ -273,5 +284,7 @@ delete-sim d (suc l) b r t v o held well own =
     let u = deleteTree d l r (freeAt b) c in
     let ih : DeleteSim d l b (pages (suc l) c) (deleteAt d l b (c .0) r) (u .tree) (u .free) =
     delete-sim d l b r c (omega arith) (ok-root l c okc) (all-at (held .1) i (noTree l) lt) well (λ q. omega (arith, own q, sum-at l q (t .0) (t .1) i lt)) in
+    let more : (q : ℕ) → mult q (freeAt b) ≤ mult q (u .free) =
+    λ q. omega (arith, ap (mult q) (delete-free d l r (freeAt b) c), mult-append q (given d l r c) (freeAt b)) in
     rw (inner-step d l r b t held)
-    (fix-sim d l b (t .0) (t .1) i lt (o .some) (o .most) v (deleteAt d l b (c .0) r) (u .tree) (u .free) own (held .1) (o .subs) (delete-near d l r (freeAt b) c okc) ih (λ q. delete-kept d l r q (freeAt b) c (ok-root l c okc)))
+    (fix-sim d l b (t .0) (t .1) i lt (o .some) (o .most) v (deleteAt d l b (c .0) r) (u .tree) (u .free) own (held .1) (o .subs) (delete-near d l r (freeAt b) c okc) ih (λ q. delete-kept d l r q (freeAt b) c (ok-root l c okc)) more)

@@ -8,9 +8,9 @@ use lib.ListN.{length}
 use Rattle.lists.specs.Basics.{indicator, All}
 use Rattle.lists.specs.Counts.{mult}
 use Rattle.pagestore_page.specs.declared.Record.{Record}
-use Rattle.pagestore.specs.Store.{pageAt, Field, size, features, root, level, total, freed, fresh, Apart, fieldAt, setField, inRange, freeAt, viewOf}
+use Rattle.pagestore.specs.Store.{Field, size, features, root, level, total, freed, fresh, Apart, fieldAt, setField, inRange, freeAt, viewOf}
 use Rattle.pagestore.specs.Store.RangeLaws.{range-same, range-fits, range-whole, pages-same}
-use Rattle.pagestore.specs.Store.PageLaws.{length-set-field, field-same, field-other, page-field}
+use Rattle.pagestore.specs.Store.PageLaws.{SamePage, same-trans, length-set-field, field-same, field-other, page-field}
 use Rattle.pagestore.specs.Store.FreeLaws.{rest-field, free-field}
 use Rattle.tree_model.specs.Trees.{Item, records, pages, identOf, live}
 use Rattle.tree_model.specs.Sound.{Permitted, RecordOk, SoundIndex}
@@ -38,8 +38,8 @@ module _ (b : List ℕ) (p l : ℕ) where
   pub root-field : (f : Field) → Apart root f → Apart level f → fieldAt f (setRoot b p l) ≡ fieldAt f b
   root-field f u v = field-other level f (setField root b p) l v ∙ field-other root f b p u
 
-  pub root-page : (q : ℕ) → pageAt (setRoot b p l) q ≡ pageAt b q
-  root-page q = page-field level (setField root b p) l q .page ∙ page-field root b p q .page
+  pub root-page : (q : ℕ) → SamePage b (setRoot b p l) q
+  root-page q = same-trans (page-field root b p q) (page-field level (setField root b p) l q)
 
   pub root-free : freeAt (setRoot b p l) ≡ freeAt b
   root-free = free-field level (setField root b p) l refl refl ∙ free-field root b p refl refl

@@ -83,7 +83,7 @@ module _ (d : ℕ) (b : List ℕ) (r : Record) (l : ℕ) (t : Item (suc l)) (v :
       (λ g. let lt : k < run = ltb-true k run g in
       let q = getD (freeAt b) k 0 in
       let ne : q ≢ n = absent q n (drop 1 (freeAt c)) (ap (mult q) (sym fr) ∙ taken k lt) in
-      ap levelOf (root-page (setPage (takePage c) n x) n (suc l) q ∙ page-other (takePage c) n x q ne .page ∙ page-take c q .page) ∙ below k lt)
+      ap levelOf (root-page (setPage (takePage c) n x) n (suc l) q .page ∙ page-other (takePage c) n x q ne .page ∙ page-take c q .page) ∙ below k lt)
       (λ g. let ke : k ≡ run = let ge : run ≤ k = ltb-false k run g in omega (arith, indicator-le (eqb run (suc l))) in
       ap (λ (y : ℕ). levelOf (pageAt (setRoot (setPage (takePage c) n x) n (suc l)) y)) (ap (λ (y : ℕ). getD (freeAt b) y 0) ke ∙ sym n-is)
       ∙ ap levelOf (nw .held .0) ∙ level-node d (suc l) (a ∷ u ∷ []) ∙ sym (ke ∙ same)))

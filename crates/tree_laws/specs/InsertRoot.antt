@@ -69,7 +69,7 @@ module _ (d l : ℕ) (b : List ℕ) (a c : Item (suc l)) (n : ℕ) (fs : List �
         features-are = root-field b2 n (suc l) features refl refl ∙ new-kept .field features refl refl ∙ ft;
         root-is = root-set b2 n (suc l) n-in v;
         level-is = level-set b2 n (suc l) n-in v;
-        held = held-frame d (suc (suc l)) b2 b3 (n, a ∷ c ∷ []) (λ q g. root-page b2 n (suc l) q) (all-head (s1 .held));
+        held = held-frame d (suc (suc l)) b2 b3 (n, a ∷ c ∷ []) (λ q g. root-page b2 n (suc l) q .page) (all-head (s1 .held));
         ok = record { some = omega arith; most = omega arith; subs = ok };
         well = root-well b2 n (suc l) (s1 .kept .well);
         own = λ q. ap (λ (z : List ℕ). mult q (n ∷ concatMap (pages (suc l)) (a ∷ c ∷ [])) + mult q z) (root-free b2 n (suc l) ∙ s1 .free)

@@ -14,11 +14,11 @@ use Rattle.lists.specs.ConcatMapLaws.{map-append}
 use Rattle.lists.specs.Parts.{map-take, map-drop}
 use Rattle.pagestore_page.specs.declared.Record.{Record}
 use Rattle.pagestore_page.specs.declared.Entry.{Entry}
-use Rattle.pagestore.specs.Store.{pageAt, setPage, setLeaf, inRange, freeAt, freePage}
+use Rattle.pagestore.specs.Store.{pageAt, setPage, setLeaf, fresh, fieldAt, inRange, freeAt, freePage}
 use Rattle.pagestore.specs.Store.RangeLaws.{range-fits}
-use Rattle.pagestore.specs.Store.PageLaws.{page-same, page-other}
+use Rattle.pagestore.specs.Store.PageLaws.{SamePage, same-trans, page-same, page-other, field-page}
 use Rattle.pagestore.specs.Store.FreeLaws.{free-page, freed-part}
-use Rattle.pagestore.specs.Store.TakeLaws.{page-free, free-free}
+use Rattle.pagestore.specs.Store.TakeLaws.{page-free, field-free, free-free}
 use Rattle.tree_model.specs.Trees.{Item, pages, entryOf, node}
 use Rattle.tree_model.specs.Inserting.{Cut}
 use Rattle.tree_model.specs.Deleting.{leftCount, rebalancedItems, placePair}
@@ -31,12 +31,13 @@ use Rattle.tree_laws.specs.Frames.{Held, held-list, Well, Kept, kept-ran
 use Rattle.tree_laws.specs.InsertSim.{writeNode, entryAs, leaf-items, inner-items}
 use Rattle.tree_laws.specs.DeleteTree.{Balanced, two, one}
 
--- r is what the trees of c say, and of b no page but p and q has changed
+-- r is what the trees of c say; of b no page but p and q has changed, and the pages never used are the same
 pub record PairSim (d l : ℕ) (b : List ℕ) (p q : ℕ) (r : Rewritten) (c : Cut (Item l)) : Type 0 where
   pub held : All (Held d (suc l) (r .bytes)) (c .trees)
   pub entries : r .entries ≡ map (entryOf d l) (c .trees)
   pub free : freeAt (r .bytes) ≡ c .free
-  pub frame : (z : ℕ) → z ≢ p → z ≢ q → pageAt (r .bytes) z ≡ pageAt b z
+  pub frame : (z : ℕ) → z ≢ p → z ≢ q → SamePage b (r .bytes) z
+  pub unused : fieldAt fresh (r .bytes) ≡ fieldAt fresh b
   pub kept : Kept b (r .bytes)
 
 module _ (d l : ℕ) (b : List ℕ) (p q : ℕ) (xs ys : List (Item l)) (v : l < 256) (well : Well b)
@@ -82,8 +83,8 @@ module _ (d l : ℕ) (b : List ℕ) (p q : ℕ) (xs ys : List (Item l)) (v : l <
       λ z. sym (mult-append z (concatMap (pages l) us) (concatMap (pages l) vs)) ∙ ap (mult z) (sym (concatMap-append (pages l) us vs) ∙ ap (concatMap (pages l)) e) in
       let ok' : All (Ok l) (us ++ vs) = rw e ok in
       let held' : All (Held d l b) (us ++ vs) = rw e held in
-      let fr : (z : ℕ) → z ≢ p → z ≢ q → pageAt (setPage b1 q x2) z ≡ pageAt b z = λ z f g. page-other b1 q x2 z g .page ∙ page-other b p x1 z f .page in
-      let it : (z : ℕ) → 0 < mult z (concatMap (pages l) (xs ++ ys)) → pageAt (setPage b1 q x2) z ≡ pageAt b z = λ z h. let i = item z h in fr z (i .0) (i .1) in
+      let fr : (z : ℕ) → z ≢ p → z ≢ q → SamePage b (setPage b1 q x2) z = λ z f g. same-trans (page-other b p x1 z f) (page-other b1 q x2 z g) in
+      let it : (z : ℕ) → 0 < mult z (concatMap (pages l) (xs ++ ys)) → pageAt (setPage b1 q x2) z ≡ pageAt b z = λ z h. let i = item z h in fr z (i .0) (i .1) .page in
       let k1 = kept-page b p x1 well free-p in
       let q1 : inRange b1 q ≡ true = kept-range k1 q ∙ q-in in
       let f1 : freeAt b1 ≡ freeAt b = free-page b p x1 (omega (arith, freed-part b p, free-p)) in
@@ -95,6 +96,7 @@ module _ (d l : ℕ) (b : List ℕ) (p q : ℕ) (xs ys : List (Item l)) (v : l <
         entries = refl;
         free = free-page b1 q x2 (omega (arith, freed-part b1 q)) ∙ f1;
         frame = fr;
+        unused = field-page fresh b1 q x2 ∙ field-page fresh b p x1;
         kept = kept-trans k1 (kept-page b1 q x2 (k1 .well) f2);
       }
   place-sim (one {us = us} e a1 a2) =
@@ -103,7 +105,7 @@ module _ (d l : ℕ) (b : List ℕ) (p q : ℕ) (xs ys : List (Item l)) (v : l <
       let ok' : All (Ok l) us = rw e ok in
       let held' : All (Held d l b) us = rw e held in
       let fl : (z : ℕ) → mult z (concatMap (pages l) us) ≡ mult z (concatMap (pages l) (xs ++ ys)) = λ z. ap (λ (w : List (Item l)). mult z (concatMap (pages l) w)) e in
-      let fr : (z : ℕ) → z ≢ p → z ≢ q → pageAt (freePage b1 q) z ≡ pageAt b z = λ z f g. page-free b1 q z g .page ∙ page-other b p x1 z f .page in
+      let fr : (z : ℕ) → z ≢ p → z ≢ q → SamePage b (freePage b1 q) z = λ z f g. same-trans (page-other b p x1 z f) (page-free b1 q z g) in
       let k1 = kept-page b p x1 well free-p in
       let f1 : freeAt b1 ≡ freeAt b = free-page b p x1 (omega (arith, freed-part b p, free-p)) in
       let f2 : mult q (freeAt b1) ≡ 0 = ap (mult q) f1 ∙ free-q in
@@ -112,11 +114,12 @@ module _ (d l : ℕ) (b : List ℕ) (p q : ℕ) (xs ys : List (Item l)) (v : l <
         held =
             also (
               page-free b1 q p p-not-q .page ∙ page-same b p x1 p-in (node-fits d l us v a2 (λ z h. item z (omega (arith, fl z)) .2) ok'),
-              held-list d l b _ (λ z h. let i = item z (omega (arith, fl z)) in fr z (i .0) (i .1)) held',
+              held-list d l b _ (λ z h. let i = item z (omega (arith, fl z)) in fr z (i .0) (i .1) .page) held',
             ) none;
         entries = refl;
         free = free-free b1 q (k1 .well .rest) q1 (omega (arith, freed-part b1 q)) ∙ ap (λ (z : List ℕ). q ∷ z) f1;
         frame = fr;
+        unused = field-free fresh b1 q refl ∙ field-page fresh b p x1;
         kept = kept-trans k1 (kept-free b1 q (k1 .well) q1 f2);
       }
 

@@ -11,10 +11,10 @@ use Rattle.lists.specs.Counts.{mult, mult-append, length-once}
 use Rattle.pagestore_page.specs.declared.Record.{Record}
 use Rattle.pagestore.specs.Store.{inRange, pagesIn, freeAt, viewOf}
 use Rattle.pagestore.specs.Store.RangeLaws.{range-same}
-use Rattle.tree_model.specs.Trees.{pages, identOf, treeOf, live}
+use Rattle.tree_model.specs.Trees.{identOf, live}
 use Rattle.tree_model.specs.Sound.{SoundIndex}
 use Rattle.tree_core.specs.Insertion.{insertInto, pagesWanted}
-use Rattle.tree_laws.specs.Wholes.{sound-whole}
+use Rattle.tree_laws.specs.Wholes.{treePages, sound-whole}
 use Rattle.tree_laws.specs.InsertPromises.{MayInsert, insert-pages}
 use Rattle.tree_laws.specs.DeletePromises.{deleteIdent, pagesGiven, delete-sound, delete-pages, delete-length}
 
@@ -22,10 +22,6 @@ by-count : (n : ℕ) (b xs : List ℕ) → 1 ≤ n → n ≡ pagesIn b → ((q :
 unfolding inRange
 by-count zero b xs h e f = absurd (omega arith)
 by-count (suc n) b xs h e f = omega (arith, length-once n xs (λ q. f q ∙ ap (λ (m : ℕ). indicator (ltb 0 q && ltb q m)) (sym e)))
-
--- the pages in the tree of an index
-abbrev pub treePages : List ℕ → List ℕ
-treePages b = pages (suc (viewOf b .level)) (treeOf (viewOf b))
 
 -- no page lies idle: an insertion is short of pages only if the freed and the never used together are too few for it
 pub no-page-idle : (b : List ℕ) → SoundIndex b → length (treePages b) + length (freeAt b) + 1 ≡ viewOf b .count

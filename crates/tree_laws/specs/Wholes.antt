@@ -162,6 +162,10 @@ whole-live d b l t w =
 abbrev pub shapeAt : List ℕ → Shape
 shapeAt b = (viewOf b .level, treeOf (viewOf b))
 
+-- the pages in its tree
+abbrev pub treePages : List ℕ → List ℕ
+treePages b = pages (suc (viewOf b .level)) (treeOf (viewOf b))
+
 pub whole-shape : (d : ℕ) (b : List ℕ) (l : ℕ) (t : Item (suc l)) → Whole d b l t → _≡_ {A = Shape} (shapeAt b) (l, t)
 whole-shape d b l t w =
     subst (λ (m : ℕ). (u : Item (suc m)) → Whole d b m u → _≡_ {A = Shape} (shapeAt b) (m, u)) (view-level b ∙ w .level-is)

@@ -24,7 +24,12 @@ pub nine-give : rebalancedItems (rangeFrom 1 7) (rangeFrom 8 9) ≡ rangeFrom 1 
 unfolding rebalancedItems leftCount rangeFrom
 nine-give = refl
 
+-- both stay in their pages, and the free pages stay free
+pub giving-takes-none : placePair 4 5 (6 ∷ []) (rangeFrom 1 8 ∷ rangeFrom 9 8 ∷ []) ≡ record { trees = (4, rangeFrom 1 8) ∷ (5, rangeFrom 9 8) ∷ []; free = 6 ∷ [] }
+unfolding placePair
+giving-takes-none = refl
+
 -- with 8 the two merge in the left page, and the right page is freed
-pub eight-merge : placePair 4 5 [] (rebalancedItems (rangeFrom 1 7) (rangeFrom 8 8)) ≡ record { trees = (4, rangeFrom 1 15) ∷ []; free = 5 ∷ [] }
+pub eight-merge : placePair 4 5 (6 ∷ []) (rebalancedItems (rangeFrom 1 7) (rangeFrom 8 8)) ≡ record { trees = (4, rangeFrom 1 15) ∷ []; free = 5 ∷ 6 ∷ [] }
 unfolding placePair rebalancedItems leftCount rangeFrom
 eight-merge = refl

@@ -17,6 +17,7 @@ mod run;
 mod series;
 mod shapes;
 mod sides;
+mod space;
 mod unread;
 mod unused;
 
@@ -27,6 +28,7 @@ fn main() {
     large::all(&mut run);
     series::all(&mut run);
     built::all(&mut run);
+    space::all(&mut run);
     unread::all(&mut run);
     unused::all(&mut run);
     rules::all(&mut run);

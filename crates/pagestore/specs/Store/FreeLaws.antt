@@ -47,6 +47,11 @@ freed-part b q = omega (arith, mult-append q (freedAt b) (freshAt b))
 
 -- ---- WRITES ELSEWHERE
 
+-- the pages never used go by the length and by the header's field
+pub fresh-same : (b c : List ℕ) → length c ≡ length b → fieldAt fresh c ≡ fieldAt fresh b → freshAt c ≡ freshAt b
+unfolding freshAt
+fresh-same b c e g = rw (g, range-same b c (fieldAt fresh b) e, pages-same b c e)
+
 -- what leaves the two fields and the links of the freed pages leaves the free pages
 module _ (b c : List ℕ) (len : length c ≡ length b) (f : fieldAt freed c ≡ fieldAt freed b)
     (k : (q : ℕ) → 0 < mult q (freedAt b) → linkAt c q ≡ linkAt b q) where
@@ -62,13 +67,9 @@ module _ (b c : List ℕ) (len : length c ≡ length b) (f : fieldAt freed c ≡
   unfolding restAt
   rest-frame = rw (pages-same b c len, f) (frame .1)
 
-  fresh-frame : fieldAt fresh c ≡ fieldAt fresh b → freshAt c ≡ freshAt b
-  unfolding freshAt
-  fresh-frame g = rw (g, range-same b c (fieldAt fresh b) len, pages-same b c len)
-
   free-frame : fieldAt fresh c ≡ fieldAt fresh b → freeAt c ≡ freeAt b
   unfolding freeAt
-  free-frame g = rw (freed-frame, fresh-frame g)
+  free-frame g = rw (freed-frame, fresh-same b c len g)
 
 -- not the page that is nowhere in the list
 pub other-page : (p q : ℕ) (xs : List ℕ) → mult p xs ≡ 0 → 0 < mult q xs → q ≢ p

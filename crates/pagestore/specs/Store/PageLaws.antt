@@ -1,5 +1,5 @@
 -- page-laws: what is written is read back, and nothing else changes; what is read fits. Assumes nothing.
-use mathlib.Core.Path.{_≡_, refl, _∙_}
+use mathlib.Core.Path.{_≡_, refl, sym, ap, _∙_}
 use mathlib.Core.Bool.{true, false}
 use mathlib.Core.Logic.{_≢_}
 use mathlib.Core.List.{List, []}
@@ -22,7 +22,8 @@ use Rattle.pagestore_page.specs.declared.Leaf.{Leaf}
 use Rattle.pagestore_page.specs.declared.Entry.{Entry}
 use Rattle.pagestore_page.specs.declared.Inner.{Inner}
 use Rattle.pagestore.specs.Store.{inRange, stretch, setStretch, leafAt, innerAt, levelAt, countAt, linkAt, levelOf, fillOf, setLeaf, setInner, setLink, Page, leaf, inner, pageBy, pageAt, setPage, Field, offset, width, Apart, fieldAt, setField, numberAt, setNumber}
-use Rattle.pagestore.specs.Store.StretchLaws.{stretch-in, stretch-out, set-out, agree, length-stretch, stretch-same, stretch-other, field-stretch, field-room}
+use Rattle.pagestore.specs.Store.RangeLaws.{range-same}
+use Rattle.pagestore.specs.Store.StretchLaws.{stretch-in, stretch-out, stretch-byte, set-out, agree, length-stretch, stretch-same, stretch-other, field-stretch, field-room}
 
 -- ---- WRITES OF PAGES, AS ONE
 
@@ -86,8 +87,9 @@ field-same f b v h g =
 
 -- ---- NOTHING ELSE CHANGES
 
--- each view of page q is as before
+-- page q is as before: its own stretch, and so each view of it
 pub record SamePage (b c : List ℕ) (q : ℕ) : Type 0 where
+  pub bytes : stretch c q ≡ stretch b q
   pub page : pageAt c q ≡ pageAt b q
   pub leaf : leafAt c q ≡ leafAt b q
   pub inner : innerAt c q ≡ innerAt b q
@@ -98,7 +100,7 @@ pub record SamePage (b c : List ℕ) (q : ℕ) : Type 0 where
 pub same-page : (b c : List ℕ) (q : ℕ) → stretch c q ≡ stretch b q → SamePage b c q
 unfolding pageAt leafAt innerAt levelAt countAt linkAt
 same-page b c q e =
-    record { page = rw e; leaf = rw e; inner = rw e; level = rw e; count = rw e; link = rw e }
+    record { bytes = e; page = rw e; leaf = rw e; inner = rw e; level = rw e; count = rw e; link = rw e }
 
 pub same-refl : (b : List ℕ) (q : ℕ) → SamePage b b q
 same-refl b q = same-page b b q refl
@@ -106,6 +108,7 @@ same-refl b q = same-page b b q refl
 pub same-trans : {a b c : List ℕ} {q : ℕ} → SamePage a b q → SamePage b c q → SamePage a c q
 same-trans f g =
     record {
+      bytes = g .bytes ∙ f .bytes;
       page = g .page ∙ f .page;
       leaf = g .leaf ∙ f .leaf;
       inner = g .inner ∙ f .inner;
@@ -123,6 +126,11 @@ unfolding numberAt
 bytes-field f b c e h =
     let r = field-room f in
     rw (e, le-ext (width f) c b (offset f) (λ i g k. h i (omega (arith, r .1, r .2))))
+
+-- and conversely: of a page in range that is as before each byte is
+pub page-bytes : {b c : List ℕ} {q : ℕ} → length c ≡ length b → inRange b q ≡ true → SamePage b c q → (i : ℕ) → i < 1024 → getD c (q * 1024 + i) 0 ≡ getD b (q * 1024 + i) 0
+page-bytes {b} {c} {q} e h s i k =
+    sym (stretch-byte c q i (range-same b c q e ∙ h) k) ∙ ap (λ (xs : List ℕ). getD xs i 0) (s .bytes) ∙ stretch-byte b q i h k
 
 -- a write of a page changes that page alone
 pub page-other : (b : List ℕ) (p : ℕ) (x : Page) (q : ℕ) → q ≢ p → SamePage b (setPage b p x) q

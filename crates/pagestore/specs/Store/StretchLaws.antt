@@ -58,6 +58,13 @@ field-room total = (refl, omega arith, omega arith)
 field-room freed = (refl, omega arith, omega arith)
 field-room fresh = (refl, omega arith, omega arith)
 
+-- byte i of a page lies i bytes after the page's beginning
+part-byte : (b : List ℕ) (p i : ℕ) → i < 1024 → getD (take 1024 (drop (p * 1024) b)) i 0 ≡ getD b (p * 1024 + i) 0
+part-byte b p i k = getD-take 1024 (drop (p * 1024) b) i 0 k ∙ getD-drop (p * 1024) b i 0
+
+pub stretch-byte : (b : List ℕ) (p i : ℕ) → inRange b p ≡ true → i < 1024 → getD (stretch b p) i 0 ≡ getD b (p * 1024 + i) 0
+stretch-byte b p i h k = ap (λ (xs : List ℕ). getD xs i 0) (stretch-in b p h) ∙ part-byte b p i k
+
 -- two indexes of one length whose bytes agree at a page have the same page
 pub agree : (b c : List ℕ) (q : ℕ) → length c ≡ length b → (0 < q → (i : ℕ) → i < 1024 → getD c (q * 1024 + i) 0 ≡ getD b (q * 1024 + i) 0) → stretch c q ≡ stretch b q
 agree b c q e h =
@@ -67,8 +74,7 @@ agree b c q e h =
     ∙ ext-getD 0 (take 1024 (drop (q * 1024) c)) (take 1024 (drop (q * 1024) b))
     (length-take 1024 (drop (q * 1024) c) ∙ rw (length-drop (q * 1024) c, e, ← length-drop (q * 1024) b) (sym (length-take 1024 (drop (q * 1024) b))))
     (λ i g. let k : i < 1024 = omega (arith, length-take 1024 (drop (q * 1024) c)) in
-    getD-take 1024 (drop (q * 1024) c) i 0 k ∙ getD-drop (q * 1024) c i 0 ∙ h (range-low b q t) i k
-    ∙ sym (getD-take 1024 (drop (q * 1024) b) i 0 k ∙ getD-drop (q * 1024) b i 0))
+    part-byte c q i k ∙ h (range-low b q t) i k ∙ sym (part-byte b q i k))
     ∙ sym (stretch-in b q t))
     (λ t. stretch-out c q (r ∙ t) ∙ sym (stretch-out b q t))
 

@@ -16,7 +16,7 @@ use Rattle.pagestore.specs.Store.{pagesIn, inRange, linkAt, Field, Apart
 use Rattle.pagestore.specs.Store.RangeLaws.{range-high, range-past, range-fits, range-whole, range-same, pages-same}
 use Rattle.pagestore.specs.Store.PageLaws.{SamePage, same-refl, same-trans, page-field, field-same, field-other, field-fits, field-link, link-same, link-other, link-fits, length-set-field, length-set-link}
 use Rattle.pagestore.specs.Store.ChainLaws.{chain-out, end-out, chain-most, Same, chain-enough, chain-frame, chain-some, end-some}
-use Rattle.pagestore.specs.Store.FreeLaws.{freed-range, freed-once, other-page}
+use Rattle.pagestore.specs.Store.FreeLaws.{freed-range, freed-once, fresh-same, other-page}
 
 -- ---- TAKING A PAGE
 
@@ -101,11 +101,8 @@ module _ (b : List ℕ) (e : restAt b ≡ 0) (h : inRange b (fieldAt freed b) �
       (pop-frame .1 ∙ pop-same .end ∙ pop-end)
 
   pop-fresh : freshAt popped ≡ freshAt b
-  unfolding popped freshAt
-  pop-fresh =
-      let c : List ℕ = setField freed b (linkAt b (fieldAt freed b)) in
-      let l : length (setField freed b (linkAt b (fieldAt freed b))) ≡ length b = length-set-field freed b (linkAt b (fieldAt freed b)) in
-      rw (field-other freed fresh b (linkAt b (fieldAt freed b)) refl, range-same b c (fieldAt fresh b) l, pages-same b c l)
+  unfolding popped
+  pop-fresh = let v : ℕ = linkAt b (fieldAt freed b) in fresh-same b (setField freed b v) (length-set-field freed b v) (field-other freed fresh b v refl)
 
   pop-some : (ys : List ℕ) → drop 1 (freedAt b) ++ ys ≡ drop 1 (freedAt b ++ ys)
   unfolding freedAt
@@ -277,8 +274,7 @@ module _ (b : List ℕ) (p : ℕ) (e : restAt b ≡ 0) (h : inRange b p ≡ true
   push-field = field-other freed fresh (setLink b p (fieldAt freed b)) p refl ∙ field-link fresh b p (fieldAt freed b)
 
   push-fresh : freshAt pushed ≡ freshAt b
-  unfolding freshAt
-  push-fresh = rw (push-field, range-same b pushed (fieldAt fresh b) push-length, pages-same b pushed push-length)
+  push-fresh = fresh-same b pushed push-length push-field
 
   -- the free pages after a page has been freed: it comes first
   pub free-free : freeAt (freePage b p) ≡ p ∷ freeAt b
