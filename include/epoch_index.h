@@ -1,9 +1,10 @@
 /*
  * The epoch index: an exact nearest-neighbour index over bytes that the caller lends.
  *
- * A point is 1 to 16 whole numbers from -1,000 to 1,000 with an identifier. An index is whole pages of 1,024 bytes, and all of it lies in
- * those bytes: they may be stored, sent and mapped as they are. Link target/staticlib/libepoch_index.a (x86-64 Linux), which
- * `rt staticlib epoch_index` writes once every function in it is proved to meet its contract.
+ * A point is 1 to 16 whole numbers from -1,000 to 1,000. An epoch is a point with an identifier, a sleep stage and a stamp: seconds since
+ * 1 January 2000 00:00 by the lab clock. An index is whole pages of 1,024 bytes, and all of it lies in those bytes: they may be stored,
+ * sent and mapped as they are. Link target/staticlib/libepoch_index.a (x86-64 Linux), which `rt staticlib epoch_index` writes once every
+ * function in it is proved to meet its contract.
  *
  * What holds of every function here:
  * - All memory is the caller's. Nothing is allocated, and no pointer is kept after the return. There is no other state, so threads may work
@@ -28,9 +29,9 @@ extern "C" {
 
 /* The version of these headers and of the library they declare. */
 #define EPOCH_INDEX_VERSION_MAJOR 0
-#define EPOCH_INDEX_VERSION_MINOR 2
+#define EPOCH_INDEX_VERSION_MINOR 3
 #define EPOCH_INDEX_VERSION_PATCH 0
-#define EPOCH_INDEX_VERSION "0.2.0"
+#define EPOCH_INDEX_VERSION "0.3.0"
 
 /* Limits. A length in bytes is a multiple of the page, EPOCH_INDEX_MIN_PAGES to EPOCH_INDEX_MAX_PAGES of them. */
 #define EPOCH_INDEX_PAGE_BYTES 1024
@@ -45,6 +46,22 @@ extern "C" {
 #define EPOCH_INDEX_MIN_K 1
 #define EPOCH_INDEX_MAX_K 64
 #define EPOCH_INDEX_MAX_POINTS 65535
+#define EPOCH_INDEX_MAX_STAGE 5
+
+/* The stage of an epoch. */
+enum epoch_index_stage {
+    EPOCH_INDEX_WAKE = 0,
+    EPOCH_INDEX_N1 = 1,
+    EPOCH_INDEX_N2 = 2,
+    EPOCH_INDEX_N3 = 3,
+    EPOCH_INDEX_REM = 4,
+    EPOCH_INDEX_UNSCORED = 5
+};
+
+/* A set of stages is a number from 1 to EPOCH_INDEX_ALL_STAGES: bit s is set where stage s is in the set. The set of some stages is
+ * EPOCH_INDEX_STAGE_BIT of each, joined by |. Stages and sets are handed over in 8 bits: C cuts a wider number down before any refusal. */
+#define EPOCH_INDEX_STAGE_BIT(stage) (1u << (stage))
+#define EPOCH_INDEX_ALL_STAGES 63
 
 /* What an act returns: EPOCH_INDEX_OK, or the first of its refusals that applies, in the order given with the act. */
 enum epoch_index_code {
@@ -61,7 +78,10 @@ enum epoch_index_code {
     EPOCH_INDEX_BAD_K = 10,           /* k out of range */
     EPOCH_INDEX_FEW_ROWS = 11,        /* fewer than k rows lent */
                                       /* 12 is given to nothing: evening out two leaves takes no page */
-    EPOCH_INDEX_UNREADABLE_LINE = 13  /* program: line not readable (not given here) */
+    EPOCH_INDEX_UNREADABLE_LINE = 13, /* program: line not readable (not given here) */
+                                      /* 14 is given to nothing yet */
+    EPOCH_INDEX_BAD_STAGE = 15,       /* stage above 5 */
+    EPOCH_INDEX_BAD_STAGE_SET = 16    /* stage set is 0 or above 63 */
 };
 
 /* A record that a question found: its squared distance from the asked point, its identifier, and the position (0, 1, 2 .. in key order) of
@@ -91,22 +111,24 @@ typedef struct epoch_index_answer {
  * Refusals: EPOCH_INDEX_BAD_LENGTH, EPOCH_INDEX_BAD_FEATURES. */
 uint32_t epoch_index_make(uint8_t *index, size_t index_len, uint8_t features);
 
-/* Inserts the identifier `id` with the `point_len` coordinates of `point`.
+/* Inserts the epoch of the identifier `id`, with its stage, its stamp (any number) and the `point_len` coordinates of `point`.
  * Refusals: EPOCH_INDEX_BAD_LENGTH, EPOCH_INDEX_UNSOUND, EPOCH_INDEX_BAD_FEATURES, EPOCH_INDEX_BAD_COORDINATE, EPOCH_INDEX_ZERO_ID,
- * EPOCH_INDEX_ALREADY_LIVE, EPOCH_INDEX_FULL, EPOCH_INDEX_NO_PAGES. */
-uint32_t epoch_index_insert(uint8_t *index, size_t index_len, uint32_t id, const int16_t *point, size_t point_len);
+ * EPOCH_INDEX_BAD_STAGE, EPOCH_INDEX_ALREADY_LIVE, EPOCH_INDEX_FULL, EPOCH_INDEX_NO_PAGES. */
+uint32_t epoch_index_insert(uint8_t *index, size_t index_len, uint32_t id, uint8_t stage, uint32_t stamp, const int16_t *point,
+                            size_t point_len);
 
-/* Deletes the identifier `id` with its point.
+/* Deletes the epoch of the identifier `id`.
  * Refusals: EPOCH_INDEX_BAD_LENGTH, EPOCH_INDEX_UNSOUND, EPOCH_INDEX_ZERO_ID, EPOCH_INDEX_NOT_LIVE. */
 uint32_t epoch_index_delete(uint8_t *index, size_t index_len, uint32_t id);
 
-/* Asks for the `k` records nearest to `point`. They are written to the first `count` of the `rows_len` rows lent, nearest first, equal
- * distances by lower identifier: k of them, or all if fewer are live; rows past those keep their contents. The tally counts the question
- * and the leaves it read. Refused, rows and tally stay as they are.
+/* Asks for the `k` records nearest to `point` among those whose stage is in the set `stages`; with EPOCH_INDEX_ALL_STAGES that is every
+ * record. They are written to the first `count` of the `rows_len` rows lent, nearest first, equal distances by lower identifier: k of
+ * them, or all of these stages if fewer are live; rows past those keep their contents. The tally counts the question and the leaves it
+ * read. Refused, rows and tally stay as they are.
  * Refusals: EPOCH_INDEX_BAD_LENGTH, EPOCH_INDEX_UNSOUND, EPOCH_INDEX_BAD_FEATURES, EPOCH_INDEX_BAD_COORDINATE, EPOCH_INDEX_BAD_K,
- * EPOCH_INDEX_FEW_ROWS. */
+ * EPOCH_INDEX_FEW_ROWS, EPOCH_INDEX_BAD_STAGE_SET. */
 epoch_index_answer epoch_index_question(const uint8_t *index, size_t index_len, const int16_t *point, size_t point_len, size_t k,
-                                        epoch_index_row *rows, size_t rows_len, epoch_index_tally *tally);
+                                        uint8_t stages, epoch_index_row *rows, size_t rows_len, epoch_index_tally *tally);
 
 /* Checks whether an index is sound: it looks at every page. With EPOCH_INDEX_UNSOUND `*page` is a page at which soundness fails, else 0.
  * Refusals: EPOCH_INDEX_BAD_LENGTH, EPOCH_INDEX_UNSOUND. */

@@ -30,16 +30,17 @@ extern "C" {
  */
 
 /* Refusals: EPOCH_INDEX_BAD_LENGTH, EPOCH_INDEX_UNSOUND, EPOCH_INDEX_BAD_FEATURES, EPOCH_INDEX_BAD_COORDINATE, EPOCH_INDEX_ZERO_ID,
- * EPOCH_INDEX_ALREADY_LIVE, EPOCH_INDEX_FULL, EPOCH_INDEX_NO_PAGES. */
-uint32_t epoch_index_trusted_insert(uint8_t *index, size_t index_len, uint32_t id, const int16_t *point, size_t point_len);
+ * EPOCH_INDEX_BAD_STAGE, EPOCH_INDEX_ALREADY_LIVE, EPOCH_INDEX_FULL, EPOCH_INDEX_NO_PAGES. */
+uint32_t epoch_index_trusted_insert(uint8_t *index, size_t index_len, uint32_t id, uint8_t stage, uint32_t stamp, const int16_t *point,
+                                    size_t point_len);
 
 /* Refusals: EPOCH_INDEX_BAD_LENGTH, EPOCH_INDEX_UNSOUND, EPOCH_INDEX_ZERO_ID, EPOCH_INDEX_NOT_LIVE. */
 uint32_t epoch_index_trusted_delete(uint8_t *index, size_t index_len, uint32_t id);
 
 /* Refusals: EPOCH_INDEX_BAD_LENGTH, EPOCH_INDEX_UNSOUND, EPOCH_INDEX_BAD_FEATURES, EPOCH_INDEX_BAD_COORDINATE, EPOCH_INDEX_BAD_K,
- * EPOCH_INDEX_FEW_ROWS. */
+ * EPOCH_INDEX_FEW_ROWS, EPOCH_INDEX_BAD_STAGE_SET. */
 epoch_index_answer epoch_index_trusted_question(const uint8_t *index, size_t index_len, const int16_t *point, size_t point_len, size_t k,
-                                                epoch_index_row *rows, size_t rows_len, epoch_index_tally *tally);
+                                                uint8_t stages, epoch_index_row *rows, size_t rows_len, epoch_index_tally *tally);
 
 /*
  * Insert and delete without the check and without a look through the leaves for the identifier, for a caller that keeps its identifiers
@@ -57,8 +58,9 @@ epoch_index_answer epoch_index_trusted_question(const uint8_t *index, size_t ind
  */
 
 /* Refusals: EPOCH_INDEX_BAD_LENGTH, EPOCH_INDEX_UNSOUND, EPOCH_INDEX_BAD_FEATURES, EPOCH_INDEX_BAD_COORDINATE, EPOCH_INDEX_ZERO_ID,
- * EPOCH_INDEX_FULL, EPOCH_INDEX_NO_PAGES. */
-uint32_t epoch_index_vouched_insert(uint8_t *index, size_t index_len, uint32_t id, const int16_t *point, size_t point_len);
+ * EPOCH_INDEX_BAD_STAGE, EPOCH_INDEX_FULL, EPOCH_INDEX_NO_PAGES. */
+uint32_t epoch_index_vouched_insert(uint8_t *index, size_t index_len, uint32_t id, uint8_t stage, uint32_t stamp, const int16_t *point,
+                                    size_t point_len);
 
 /* Refusals: EPOCH_INDEX_BAD_LENGTH, EPOCH_INDEX_UNSOUND, EPOCH_INDEX_BAD_FEATURES, EPOCH_INDEX_BAD_COORDINATE, EPOCH_INDEX_ZERO_ID,
  * EPOCH_INDEX_NOT_LIVE. */

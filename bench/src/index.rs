@@ -1,8 +1,9 @@
 // What inserts and deletes: the index in three ways, and the standard library's ordered map.
+use crate::data::epoch;
 use epoch_index::{Index, SoundIndex, TabledIndex, PAGE_BYTES};
 use std::collections::BTreeMap;
 
-/// Something that points with identifiers are put into and taken from.
+/// Something that points with identifiers are put into and taken from; an index gets the epoch of the identifier.
 pub trait Keeps {
     fn put(&mut self, id: u32, point: &[i16]);
     fn take(&mut self, id: u32, point: &[i16]);
@@ -11,7 +12,7 @@ pub trait Keeps {
 /// The acts: each checks the whole index first.
 impl Keeps for Index<&mut [u8]> {
     fn put(&mut self, id: u32, point: &[i16]) {
-        self.insert(id, point).unwrap()
+        self.insert(epoch(id), point).unwrap()
     }
 
     fn take(&mut self, id: u32, _point: &[i16]) {
@@ -22,7 +23,7 @@ impl Keeps for Index<&mut [u8]> {
 /// The acts without the check.
 impl Keeps for SoundIndex<&mut [u8]> {
     fn put(&mut self, id: u32, point: &[i16]) {
-        self.insert(id, point).unwrap()
+        self.insert(epoch(id), point).unwrap()
     }
 
     fn take(&mut self, id: u32, _point: &[i16]) {
@@ -33,7 +34,7 @@ impl Keeps for SoundIndex<&mut [u8]> {
 /// The same with a table of the live identifiers, so that none is looked for among the leaves.
 impl Keeps for TabledIndex<&mut [u8]> {
     fn put(&mut self, id: u32, point: &[i16]) {
-        self.insert(id, point).unwrap()
+        self.insert(epoch(id), point).unwrap()
     }
 
     fn take(&mut self, id: u32, _point: &[i16]) {

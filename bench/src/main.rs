@@ -6,38 +6,22 @@ mod index;
 #[cfg(others)]
 mod others;
 mod scan;
+mod stages;
+mod time;
 
 use data::{Kind, Source};
-use epoch_index::{Index, Row, SoundIndex, Tally, PAGE_BYTES};
+use epoch_index::{Index, Row, SoundIndex, StageSet, Tally, PAGE_BYTES};
 use index::{fill, filled, Keeps, Map};
 use scan::Scan;
 use std::env;
 use std::hint::black_box;
 use std::process::{Command, Stdio};
-use std::time::Instant;
+use time::{quickest, timed};
 
 const FEATURES: [usize; 5] = [1, 2, 4, 8, 16];
 const SIZES: [usize; 3] = [1_000, 10_000, 65_535];
 const ROWS: [usize; 3] = [1, 10, 64];
 const ROUNDS: usize = 15;
-
-/// Seconds that a task takes.
-fn timed(task: impl FnOnce()) -> f64 {
-    let start = Instant::now();
-    task();
-    start.elapsed().as_secs_f64()
-}
-
-/// Seconds of each task in its quickest round. The tasks take turns, so that a slow moment of the machine falls on all of them.
-fn quickest(rounds: usize, tasks: &mut [&mut dyn FnMut()]) -> Vec<f64> {
-    let mut least = vec![f64::MAX; tasks.len()];
-    for _ in 0..rounds {
-        for (task, least) in tasks.iter_mut().zip(&mut least) {
-            *least = least.min(timed(task));
-        }
-    }
-    least
-}
 
 /// Some points in an index, and in what it is compared with.
 struct Case {
@@ -74,11 +58,11 @@ impl Case {
         self.questions.len() / self.d
     }
 
-    /// The search by itself for every question; the leaves read.
-    fn search_all(&self, sound: &SoundIndex<&[u8]>, k: usize) -> u64 {
+    /// The search by itself for every question, among some stages; the leaves read.
+    fn search_all(&self, sound: &SoundIndex<&[u8]>, k: usize, stages: StageSet) -> u64 {
         let (mut rows, mut tally) = ([Row::default(); 64], Tally::default());
         for q in self.questions.chunks(self.d) {
-            black_box(sound.question_into(q, k, &mut rows, &mut tally).unwrap());
+            black_box(sound.question_into(q, k, stages, &mut rows, &mut tally).unwrap());
         }
         black_box(rows);
         u64::from(tally.leaves)
@@ -89,7 +73,7 @@ impl Case {
         let index = Index::new(&self.bytes[..]);
         let mut rows = [Row::default(); 64];
         for q in self.questions.chunks(self.d).take(some) {
-            black_box(index.question_into(q, k, &mut rows, &mut Tally::default()).unwrap());
+            black_box(index.question_into(q, k, StageSet::ALL, &mut rows, &mut Tally::default()).unwrap());
         }
         black_box(rows);
     }
@@ -135,7 +119,7 @@ impl Case {
         let sound = SoundIndex::open(&self.bytes[..]).unwrap();
         let mut kept = Vec::new();
         for q in self.questions.chunks(self.d) {
-            let found = sound.question(q, k, &mut Tally::default()).unwrap();
+            let found = sound.question(q, k, StageSet::ALL, &mut Tally::default()).unwrap();
             self.scan.ask(q, k, &mut kept);
             assert!(found.rows.iter().map(|r| (r.distance as u32, r.id)).eq(kept.iter().copied()));
         }
@@ -151,7 +135,7 @@ impl Case {
             &mut [
                 &mut || self.scan_all(k),
                 &mut || {
-                    self.search_all(&sound, k);
+                    self.search_all(&sound, k, StageSet::ALL);
                 },
                 &mut || self.act_some(k, 5),
                 &mut || {
@@ -163,7 +147,7 @@ impl Case {
             ],
         );
         let (scan, asked) = (times[0], self.asked() as f64);
-        let read = self.search_all(&sound, k) as f64 / asked;
+        let read = self.search_all(&sound, k, StageSet::ALL) as f64 / asked;
         let leaves = leaf_total(&self.bytes);
         let mut line = format!("| {} | {} | {} | {k} | {leaves} | {read:.1} ", self.kind.name(), self.d, self.n);
         let wide = if wide { times[3] } else { f64::NAN };
@@ -223,7 +207,7 @@ impl Times {
                 &mut || touch(&case.bytes),
                 &mut || Index::new(&case.bytes[..]).check().unwrap(),
                 &mut || {
-                    case.search_all(&sound, 10);
+                    case.search_all(&sound, 10, StageSet::ALL);
                 },
                 &mut || case.scan_all(10),
             ],
@@ -287,6 +271,7 @@ fn measure(kind: Kind, d: usize) {
         for (line, again) in ROWS.map(|k| case.line(k)) {
             println!("1{line}\n0{again}");
         }
+        println!("5{}", stages::line(&case, 10));
         times.push(Times::of(&mut case));
     }
     times.iter().for_each(|time| println!("2{}", time.line()));
@@ -330,6 +315,10 @@ fn report(lines: &[String]) {
     println!("| what | d | n | both signs / positive | timed again | negative / positive |");
     println!("|---|---|---|---|---|---|");
     of_table(lines, '4').for_each(|line| println!("{line}"));
+    println!("\n## Questions of one stage of six, as multiples of the linear scan of all points, k = 10\n");
+    println!("| points | d | n | leaves read, all stages | leaves read, one | search, all stages | search, one | scan of its points |");
+    println!("|---|---|---|---|---|---|---|---|");
+    of_table(lines, '5').for_each(|line| println!("{line}"));
 }
 
 fn main() {

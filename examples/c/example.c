@@ -9,6 +9,9 @@
 
 #define LENGTH ((size_t)64 * EPOCH_INDEX_PAGE_BYTES)
 #define K 2
+/* 16 November 2025 22:00 by the lab clock, in seconds since 1 January 2000 */
+#define TEN_PM UINT32_C(816645600)
+#define NON_REM (EPOCH_INDEX_STAGE_BIT(EPOCH_INDEX_N1) | EPOCH_INDEX_STAGE_BIT(EPOCH_INDEX_N2) | EPOCH_INDEX_STAGE_BIT(EPOCH_INDEX_N3))
 
 static void print(epoch_index_answer answer, const epoch_index_row *rows)
 {
@@ -28,19 +31,23 @@ int main(void)
         return 1;
 
     printf("make: code %" PRIu32 "\n", epoch_index_make(index, LENGTH, 2));
-    printf("insert 7: code %" PRIu32 "\n", epoch_index_insert(index, LENGTH, 7, first, 2));
-    printf("insert 4: code %" PRIu32 "\n", epoch_index_insert(index, LENGTH, 4, second, 2));
-    printf("insert 4 again: code %" PRIu32 "\n", epoch_index_insert(index, LENGTH, 4, first, 2));
-    print(epoch_index_question(index, LENGTH, asked, 2, K, rows, K, &tally), rows);
+    printf("insert 7: code %" PRIu32 "\n", epoch_index_insert(index, LENGTH, 7, EPOCH_INDEX_N3, TEN_PM, first, 2));
+    printf("insert 4: code %" PRIu32 "\n", epoch_index_insert(index, LENGTH, 4, EPOCH_INDEX_REM, TEN_PM + 30, second, 2));
+    printf("insert 4 again: code %" PRIu32 "\n", epoch_index_insert(index, LENGTH, 4, EPOCH_INDEX_REM, TEN_PM + 30, first, 2));
+    printf("insert 4 with stage 6: code %" PRIu32 "\n", epoch_index_insert(index, LENGTH, 4, 6, TEN_PM + 30, first, 2));
+    print(epoch_index_question(index, LENGTH, asked, 2, K, EPOCH_INDEX_ALL_STAGES, rows, K, &tally), rows);
+    print(epoch_index_question(index, LENGTH, asked, 2, K, EPOCH_INDEX_STAGE_BIT(EPOCH_INDEX_N3), rows, K, &tally), rows);
+    print(epoch_index_question(index, LENGTH, asked, 2, K, 0, rows, K, &tally), rows);
     printf("delete 7: code %" PRIu32 "\n", epoch_index_delete(index, LENGTH, 7));
 
     code = epoch_index_check(index, LENGTH, &page);
     printf("check: code %" PRIu32 ", page %" PRIu32 "\n", code, page);
     if (code == EPOCH_INDEX_OK) {
-        printf("insert 9: code %" PRIu32 "\n", epoch_index_trusted_insert(index, LENGTH, 9, third, 2));
-        print(epoch_index_trusted_question(index, LENGTH, asked, 2, K, rows, K, &tally), rows);
+        printf("insert 9: code %" PRIu32 "\n", epoch_index_trusted_insert(index, LENGTH, 9, EPOCH_INDEX_N2, TEN_PM, third, 2));
+        print(epoch_index_trusted_question(index, LENGTH, asked, 2, K, NON_REM, rows, K, &tally), rows);
         printf("delete 4: code %" PRIu32 "\n", epoch_index_trusted_delete(index, LENGTH, 4));
-        printf("insert 5, which is not live: code %" PRIu32 "\n", epoch_index_vouched_insert(index, LENGTH, 5, second, 2));
+        printf("insert 5, which is not live: code %" PRIu32 "\n",
+               epoch_index_vouched_insert(index, LENGTH, 5, EPOCH_INDEX_UNSCORED, TEN_PM, second, 2));
         printf("delete 5 at another point: code %" PRIu32 "\n", epoch_index_vouched_delete(index, LENGTH, 5, first, 2));
         printf("delete 5 at its point: code %" PRIu32 "\n", epoch_index_vouched_delete(index, LENGTH, 5, second, 2));
     }
@@ -50,7 +57,7 @@ int main(void)
     index[EPOCH_INDEX_PAGE_BYTES + 1] = 0xff;
     code = epoch_index_check(index, LENGTH, &page);
     printf("check of a damaged page: code %" PRIu32 ", page %" PRIu32 "\n", code, page);
-    print(epoch_index_question(index, LENGTH, asked, 2, K, rows, K, &tally), rows);
+    print(epoch_index_question(index, LENGTH, asked, 2, K, EPOCH_INDEX_ALL_STAGES, rows, K, &tally), rows);
 
     free(index);
     return 0;

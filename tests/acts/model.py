@@ -1,9 +1,9 @@
 #!/usr/bin/env python3
 """A model of the acts program, apart from the product: reads an acts text on standard input and writes what the program has to print.
 
-It shares nothing with the index. Points are kept in a dictionary and a question is a full scan of it. The tree is a list of leaves and of groups of
-pages, by the specification's rules of splitting and evening out, so that leaves, their spans and the free pages are known. The bound of a leaf is found
-by a plain search over all pairs of its span. Slow; meant for texts of a few thousand lines.
+It shares nothing with the index. Points and stages are kept in dictionaries and a question is a full scan of them. The tree is a list of leaves and
+of groups of pages, by the specification's rules of splitting and evening out, so that leaves, their spans and the free pages are known. The bound of a
+leaf is found by a plain search over all pairs of its span. Slow; meant for texts of a few thousand lines.
 """
 import sys
 
@@ -30,17 +30,17 @@ def field(text, low, high):
 
 
 def values(line, d):
-    """Act, identifier, k and point of a line, or None."""
+    """Act, identifier, k, stage and point of a line, or None. The stamp has to be readable, and that is all."""
     if len(line) > 256:
         return None
     parts = line.split(b" ")
-    if len(parts) != 3 + d:
+    ranges = [(1, 3)] + [(0, 2**32 - 1)] * 4 + [(-32768, 32767)] * d
+    if len(parts) != len(ranges):
         return None
-    ranges = [(1, 3), (0, 2**32 - 1), (0, 2**32 - 1)] + [(-32768, 32767)] * d
     got = [field(p, low, high) for p, (low, high) in zip(parts, ranges)]
     if any(v is None for v in got):
         return None
-    return got[0], got[1], got[2], tuple(got[3:])
+    return *got[:4], tuple(got[5:])
 
 
 def pair(point):
@@ -105,6 +105,7 @@ class Index:
     def __init__(self, d):
         self.d = d
         self.points = {}
+        self.stages = {}
         self.root = Page(0, [])
         self.free = PAGES - 2
 
@@ -126,17 +127,20 @@ class Index:
             run += 1
         return run + 1
 
-    def insert(self, i, point):
+    def insert(self, i, stage, point):
         if any(abs(c) > 1000 for c in point):
             return 4
         if i == 0:
             return 5
+        if stage > 5:
+            return 15
         if i in self.points:
             return 6
         key = pair(point) + (i,)
         if self.wanted(key) > self.free:
             return 9
         self.points[i] = point
+        self.stages[i] = stage
         way, page = self.path(key)
         page.items = sorted(page.items + [key])
         while len(page.items) > MOST:
@@ -158,6 +162,7 @@ class Index:
         if i not in self.points:
             return 7
         key = pair(self.points.pop(i)) + (i,)
+        del self.stages[i]
         way, page = self.path(key)
         page.items.remove(key)
         while way and len(page.items) < LEAST:
@@ -180,13 +185,15 @@ class Index:
             self.free += 1
         return 0
 
-    def question(self, q, k):
-        """The code, the rows and the number of leaves."""
+    def question(self, q, k, marks):
+        """The code, the rows and the number of leaves; marks has bit s for each stage s that is looked for."""
         if any(abs(c) > 1000 for c in q):
             return 4, [], 0
         if not 1 <= k <= 64:
             return 10, [], 0
-        rows = sorted((distance(p, q), i) for i, p in self.points.items())[:k]
+        if not 1 <= marks <= 63:
+            return 16, [], 0
+        rows = sorted((distance(p, q), i) for i, p in self.points.items() if marks & 2 ** self.stages[i])[:k]
         leaves = [l for l in self.root.leaves() if l.items]
         if len(rows) < k:
             return 0, rows, len(leaves)
@@ -203,7 +210,7 @@ def lines_of(text):
 
 def names(line):
     for d in range(1, 17):
-        if line == b" ".join([b"act id k"] + [b"c%d" % i for i in range(d)]):
+        if line == b" ".join([b"act id k stage stamp"] + [b"c%d" % i for i in range(d)]):
             return d
     return 0
 
@@ -221,13 +228,13 @@ def main():
         if got is None:
             print(n, 13, 0, 0, 0)
             continue
-        act, i, k, point = got
+        act, i, k, stage, point = got
         if act == 1:
-            print(n, index.insert(i, point), i, 0, 0)
+            print(n, index.insert(i, stage, point), i, 0, 0)
         elif act == 2:
             print(n, index.delete(i), i, 0, 0)
         else:
-            code, rows, leaves = index.question(point, k)
+            code, rows, leaves = index.question(point, k, stage)
             for dist, who in rows or [(0, 0)]:
                 print(n, code, who, dist, leaves)
 

@@ -1,5 +1,8 @@
 //! A review: an index in 64 pages, checked acts, then the bytes opened once for acts without the check.
-use epoch_index::{Found, Index, Refusal, Row, SoundIndex, Tally, PAGE_BYTES};
+use epoch_index::{Epoch, Found, Index, Refusal, Row, SoundIndex, Stage, StageSet, Tally, PAGE_BYTES};
+
+/// 16 November 2025 22:00 by the lab clock, in seconds since 1 January 2000.
+const TEN_PM: u32 = 816_645_600;
 
 fn print(asked: Result<Found, Refusal>) {
     match asked {
@@ -16,17 +19,20 @@ fn print(asked: Result<Found, Refusal>) {
 fn main() -> Result<(), Box<dyn std::error::Error>> {
     let mut tally = Tally::default();
     let mut index = Index::make(vec![0; 64 * PAGE_BYTES], 2)?;
-    index.insert(7, &[-300, 100])?;
-    index.insert(4, &[100, -300])?;
-    if let Err(refusal) = index.insert(4, &[5, 5]) {
+    index.insert(Epoch { id: 7, stage: Stage::N3, stamp: TEN_PM }, &[-300, 100])?;
+    let fourth = Epoch { id: 4, stage: Stage::Rem, stamp: TEN_PM + 30 };
+    index.insert(fourth, &[100, -300])?;
+    if let Err(refusal) = index.insert(fourth, &[5, 5]) {
         println!("insert 4 again refused: {} ({refusal})", refusal.code());
     }
-    print(index.question(&[-100, -100], 2, &mut tally));
+    print(index.question(&[-100, -100], 2, StageSet::ALL, &mut tally));
+    print(index.question(&[-100, -100], 2, StageSet::of(&[Stage::N2, Stage::N3]), &mut tally));
+    print(index.question(&[-100, -100], 2, StageSet::EMPTY, &mut tally));
 
     let mut sound = SoundIndex::open(index.into_inner())?;
     sound.delete(7)?;
-    print(sound.question(&[-100, -100], 2, &mut tally));
-    print(sound.question(&[-100, -100], 65, &mut tally));
+    print(sound.question(&[-100, -100], 2, StageSet::ALL, &mut tally));
+    print(sound.question(&[-100, -100], 65, StageSet::ALL, &mut tally));
     println!("tally: {} questions, {} leaves", tally.questions, tally.leaves);
 
     let mut damaged = sound.into_inner();

@@ -1,6 +1,6 @@
 //! The calls: slices in, results out. The only `unsafe` code of the crate.
 use crate::sys;
-use crate::{Counts, Fault, Refusal, Row, Tally};
+use crate::{Counts, Epoch, Fault, Refusal, Row, StageSet, Tally};
 
 pub fn make(index: &mut [u8], features: u8) -> Result<(), Refusal> {
     // SAFETY: pointer and length are those of one slice, lent for the call alone; any bytes and any number are allowed.
@@ -14,10 +14,11 @@ pub fn check(index: &[u8]) -> Result<(), Fault> {
     Refusal::of(code).map_err(|refusal| Fault { refusal, page })
 }
 
-pub fn insert(act: sys::Insert, index: &mut [u8], id: u32, point: &[i16]) -> Result<(), Refusal> {
+pub fn insert(act: sys::Insert, index: &mut [u8], epoch: Epoch, point: &[i16]) -> Result<(), Refusal> {
+    let Epoch { id, stage, stamp } = epoch;
     // SAFETY: pointers and lengths are those of two slices that do not overlap, since `index` is borrowed alone. Each insert ends
     // within them whatever they hold.
-    Refusal::of(unsafe { act(index.as_mut_ptr(), index.len(), id, point.as_ptr(), point.len()) })
+    Refusal::of(unsafe { act(index.as_mut_ptr(), index.len(), id, stage.into(), stamp, point.as_ptr(), point.len()) })
 }
 
 pub fn delete(act: sys::Delete, index: &mut [u8], id: u32) -> Result<(), Refusal> {
@@ -31,9 +32,19 @@ pub fn delete_point(index: &mut [u8], id: u32, point: &[i16]) -> Result<(), Refu
     Refusal::of(unsafe { sys::epoch_index_vouched_delete(index.as_mut_ptr(), index.len(), id, point.as_ptr(), point.len()) })
 }
 
-pub fn question(act: sys::Question, index: &[u8], point: &[i16], k: usize, rows: &mut [Row], tally: &mut Tally) -> Result<Counts, Refusal> {
+/// What is asked: a point, how many rows, and the stages looked among.
+#[derive(Clone, Copy)]
+pub struct Asked<'a> {
+    pub point: &'a [i16],
+    pub k: usize,
+    pub stages: StageSet,
+}
+
+pub fn question(act: sys::Question, index: &[u8], asked: Asked, rows: &mut [Row], tally: &mut Tally) -> Result<Counts, Refusal> {
+    let Asked { point, k, stages } = asked;
     // SAFETY: pointers and lengths are those of four borrows; `rows` and `tally` are borrowed alone, so they overlap nothing. `Row` and
     // `Tally` have C's layout. Either question ends within them whatever the index holds.
-    let answer = unsafe { act(index.as_ptr(), index.len(), point.as_ptr(), point.len(), k, rows.as_mut_ptr(), rows.len(), tally) };
+    let answer =
+        unsafe { act(index.as_ptr(), index.len(), point.as_ptr(), point.len(), k, stages.bits(), rows.as_mut_ptr(), rows.len(), tally) };
     Refusal::of(answer.code).map(|()| Counts { rows: answer.count, leaves: answer.leaves })
 }

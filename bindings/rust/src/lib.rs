@@ -1,21 +1,25 @@
 //! The epoch index: an exact nearest-neighbour index over lent bytes.
 //!
-//! A point is 1 to 16 whole numbers from -1,000 to 1,000 with an identifier. An index is whole pages of 1,024 bytes, 2 to 16,384 of them,
-//! and lies in its bytes entirely: they may be stored and read back as they are. The work is done by libepoch_index.a, each function of
-//! which is proved to meet its contract; this crate is a thin safe layer over it.
+//! An epoch is a point of 1 to 16 whole numbers from -1,000 to 1,000 with an identifier, a sleep stage and a stamp ([`Epoch`]). A question
+//! asks for the epochs nearest to a point among those of some stages ([`StageSet`]). An index is whole pages of 1,024 bytes, 2 to 16,384 of
+//! them, and lies in its bytes entirely: they may be stored and read back as they are. The work is done by libepoch_index.a, each function
+//! of which is proved to meet its contract; this crate is a thin safe layer over it.
 //!
 //! - [`Index`]: five acts, each of which checks the whole index first and so is right about any bytes.
 //! - [`SoundIndex`]: checked once, by [`SoundIndex::open`], and changed by nothing but its own methods, which therefore need no check.
 //! - [`TabledIndex`]: a sound index with a table of its identifiers, so that insert and delete need no look through the leaves either.
 //!
 //! ```
-//! use epoch_index::{Index, Refusal, Tally, PAGE_BYTES};
+//! use epoch_index::{Epoch, Index, Refusal, Stage, StageSet, Tally, PAGE_BYTES};
 //!
 //! let mut index = Index::make(vec![0; 64 * PAGE_BYTES], 2)?;
-//! index.insert(7, &[-300, 100])?;
-//! index.insert(4, &[100, -300])?;
-//! let found = index.question(&[-100, -90], 1, &mut Tally::default())?;
+//! index.insert(Epoch { id: 7, stage: Stage::N3, stamp: 816_645_600 }, &[-300, 100])?;
+//! index.insert(Epoch { id: 4, stage: Stage::Rem, stamp: 816_645_630 }, &[100, -300])?;
+//! let mut tally = Tally::default();
+//! let found = index.question(&[-100, -90], 1, StageSet::ALL, &mut tally)?;
 //! assert_eq!((found.rows[0].id, found.rows[0].distance, found.leaves), (7, 76_100, 1));
+//! let found = index.question(&[-100, -90], 1, Stage::Rem.into(), &mut tally)?;
+//! assert_eq!((found.rows[0].id, found.rows[0].distance, found.leaves), (4, 84_100, 1));
 //! # Ok::<(), Refusal>(())
 //! ```
 //!
@@ -25,13 +29,17 @@
 
 mod acts;
 mod bytes;
+mod epoch;
 mod refusal;
 mod sys;
 mod tabled;
 
 pub use bytes::{StableBytes, StableBytesMut};
+pub use epoch::{Epoch, Stage, StageSet};
 pub use refusal::{Fault, Refusal};
 pub use tabled::TabledIndex;
+
+use acts::Asked;
 
 /// The bytes of a page.
 pub const PAGE_BYTES: usize = 1024;
@@ -69,7 +77,7 @@ pub struct Tally {
 #[derive(Clone, Debug, Default, PartialEq, Eq, Hash)]
 #[non_exhaustive]
 pub struct Found {
-    /// The nearest records, nearest first, equal distances by lower identifier: k of them, or all if fewer are live.
+    /// The nearest records of the stages asked for, nearest first, equal distances by lower identifier: k of them, or all if fewer are live.
     pub rows: Vec<Row>,
     /// The number of leaves read.
     pub leaves: u32,
@@ -86,9 +94,9 @@ pub struct Counts {
 }
 
 /// Asks with rows of its own. k above [`MAX_K`] is refused before the rows are counted.
-fn found(act: sys::Question, index: &[u8], point: &[i16], k: usize, tally: &mut Tally) -> Result<Found, Refusal> {
-    let mut rows = vec![Row::default(); k.min(MAX_K)];
-    let counts = acts::question(act, index, point, k, &mut rows, tally)?;
+fn found(act: sys::Question, index: &[u8], asked: Asked, tally: &mut Tally) -> Result<Found, Refusal> {
+    let mut rows = vec![Row::default(); asked.k.min(MAX_K)];
+    let counts = acts::question(act, index, asked, &mut rows, tally)?;
     rows.truncate(counts.rows);
     Ok(Found { rows, leaves: counts.leaves })
 }
@@ -113,14 +121,14 @@ impl<B: AsRef<[u8]>> Index<B> {
         acts::check(self.as_bytes())
     }
 
-    /// The k records nearest to a point. The tally counts the question and the leaves it read.
-    pub fn question(&self, point: &[i16], k: usize, tally: &mut Tally) -> Result<Found, Refusal> {
-        found(sys::epoch_index_question, self.as_bytes(), point, k, tally)
+    /// The k records nearest to a point among those of some stages. The tally counts the question and the leaves it read.
+    pub fn question(&self, point: &[i16], k: usize, stages: StageSet, tally: &mut Tally) -> Result<Found, Refusal> {
+        found(sys::epoch_index_question, self.as_bytes(), Asked { point, k, stages }, tally)
     }
 
     /// The same in lent rows, k of them or more. Rows past those written keep their contents.
-    pub fn question_into(&self, point: &[i16], k: usize, rows: &mut [Row], tally: &mut Tally) -> Result<Counts, Refusal> {
-        acts::question(sys::epoch_index_question, self.as_bytes(), point, k, rows, tally)
+    pub fn question_into(&self, point: &[i16], k: usize, stages: StageSet, rows: &mut [Row], tally: &mut Tally) -> Result<Counts, Refusal> {
+        acts::question(sys::epoch_index_question, self.as_bytes(), Asked { point, k, stages }, rows, tally)
     }
 
     /// The bytes.
@@ -141,12 +149,12 @@ impl<B: AsRef<[u8]> + AsMut<[u8]>> Index<B> {
         Ok(Index { bytes })
     }
 
-    /// Inserts an identifier with its point.
-    pub fn insert(&mut self, id: u32, point: &[i16]) -> Result<(), Refusal> {
-        acts::insert(sys::epoch_index_insert, self.bytes.as_mut(), id, point)
+    /// Inserts an epoch with its point.
+    pub fn insert(&mut self, epoch: Epoch, point: &[i16]) -> Result<(), Refusal> {
+        acts::insert(sys::epoch_index_insert, self.bytes.as_mut(), epoch, point)
     }
 
-    /// Deletes an identifier with its point.
+    /// Deletes the epoch of an identifier.
     pub fn delete(&mut self, id: u32) -> Result<(), Refusal> {
         acts::delete(sys::epoch_index_delete, self.bytes.as_mut(), id)
     }
@@ -158,11 +166,11 @@ impl<B: AsRef<[u8]> + AsMut<[u8]>> Index<B> {
 /// Bytes that it borrows cannot be changed beside it:
 ///
 /// ```compile_fail
-/// # use epoch_index::{Index, SoundIndex, Tally};
+/// # use epoch_index::{Index, SoundIndex, StageSet, Tally};
 /// let mut bytes = Index::make(vec![0; 2048], 1).unwrap().into_inner();
 /// let sound = SoundIndex::open(&mut bytes[..]).unwrap();
 /// bytes[4] = 2;
-/// sound.question(&[0], 1, &mut Tally::default()).unwrap();
+/// sound.question(&[0], 1, StageSet::ALL, &mut Tally::default()).unwrap();
 /// ```
 ///
 /// The bytes are a [`StableBytes`]: `Vec<u8>`, `Box<[u8]>`, `&[u8]` or `&mut [u8]`. A type of one's own, which could give other bytes than
@@ -188,9 +196,9 @@ impl<B: StableBytes> SoundIndex<B> {
     /// The index that these bytes hold, checked here once.
     ///
     /// ```
-    /// # use epoch_index::{Index, Refusal, SoundIndex, PAGE_BYTES};
+    /// # use epoch_index::{Epoch, Index, Refusal, SoundIndex, Stage, PAGE_BYTES};
     /// let mut bytes = Index::make(vec![0; 2 * PAGE_BYTES], 1)?.into_inner();
-    /// SoundIndex::open(&mut bytes[..]).unwrap().insert(7, &[-300])?;
+    /// SoundIndex::open(&mut bytes[..]).unwrap().insert(Epoch { id: 7, stage: Stage::Wake, stamp: 0 }, &[-300])?;
     /// bytes[..PAGE_BYTES].fill(0);
     /// let fault = SoundIndex::open(bytes).unwrap_err();
     /// assert_eq!((fault.refusal, fault.page), (Refusal::Unsound, 0));
@@ -201,27 +209,28 @@ impl<B: StableBytes> SoundIndex<B> {
         Ok(SoundIndex { bytes })
     }
 
-    /// The k records nearest to a point. The tally counts the question and the leaves it read.
-    pub fn question(&self, point: &[i16], k: usize, tally: &mut Tally) -> Result<Found, Refusal> {
-        found(sys::epoch_index_trusted_question, self.as_bytes(), point, k, tally)
+    /// The k records nearest to a point among those of some stages. The tally counts the question and the leaves it read.
+    pub fn question(&self, point: &[i16], k: usize, stages: StageSet, tally: &mut Tally) -> Result<Found, Refusal> {
+        found(sys::epoch_index_trusted_question, self.as_bytes(), Asked { point, k, stages }, tally)
     }
 
     /// The same in lent rows, k of them or more. Rows past those written keep their contents.
-    pub fn question_into(&self, point: &[i16], k: usize, rows: &mut [Row], tally: &mut Tally) -> Result<Counts, Refusal> {
-        acts::question(sys::epoch_index_trusted_question, self.as_bytes(), point, k, rows, tally)
+    pub fn question_into(&self, point: &[i16], k: usize, stages: StageSet, rows: &mut [Row], tally: &mut Tally) -> Result<Counts, Refusal> {
+        acts::question(sys::epoch_index_trusted_question, self.as_bytes(), Asked { point, k, stages }, rows, tally)
     }
 
-    /// The index with a table of its live identifiers and their points. Every leaf is read once.
+    /// The index with a table of its live epochs and their points. Every leaf is read once.
     ///
     /// ```
-    /// # use epoch_index::{Index, Refusal, SoundIndex, Tally, PAGE_BYTES};
+    /// # use epoch_index::{Epoch, Index, Refusal, SoundIndex, Stage, StageSet, Tally, PAGE_BYTES};
     /// let bytes = Index::make(vec![0; 2 * PAGE_BYTES], 1)?.into_inner();
     /// let mut tabled = SoundIndex::open(bytes).unwrap().into_tabled();
-    /// tabled.insert(7, &[-300])?;
-    /// assert_eq!(tabled.insert(7, &[5]), Err(Refusal::AlreadyLive));
+    /// let epoch = Epoch { id: 7, stage: Stage::N2, stamp: 816_645_600 };
+    /// tabled.insert(epoch, &[-300])?;
+    /// assert_eq!(tabled.insert(epoch, &[5]), Err(Refusal::AlreadyLive));
     /// assert_eq!((tabled.len(), tabled.point(7)), (1, Some(&[-300][..])));
-    /// let found = tabled.sound().question(&[0], 1, &mut Tally::default())?;
-    /// assert_eq!(found.rows[0].distance, 90_000);
+    /// let found = tabled.sound().question(&[0], 1, StageSet::ALL, &mut Tally::default())?;
+    /// assert_eq!((found.rows[0].distance, tabled.epoch(found.rows[0].id)), (90_000, Some(epoch)));
     /// # Ok::<(), Refusal>(())
     /// ```
     pub fn into_tabled(self) -> TabledIndex<B> {
@@ -240,12 +249,12 @@ impl<B: StableBytes> SoundIndex<B> {
 }
 
 impl<B: StableBytesMut> SoundIndex<B> {
-    /// Inserts an identifier with its point.
-    pub fn insert(&mut self, id: u32, point: &[i16]) -> Result<(), Refusal> {
-        acts::insert(sys::epoch_index_trusted_insert, self.bytes.as_mut(), id, point)
+    /// Inserts an epoch with its point.
+    pub fn insert(&mut self, epoch: Epoch, point: &[i16]) -> Result<(), Refusal> {
+        acts::insert(sys::epoch_index_trusted_insert, self.bytes.as_mut(), epoch, point)
     }
 
-    /// Deletes an identifier with its point.
+    /// Deletes the epoch of an identifier.
     pub fn delete(&mut self, id: u32) -> Result<(), Refusal> {
         acts::delete(sys::epoch_index_trusted_delete, self.bytes.as_mut(), id)
     }

@@ -32,6 +32,11 @@ pub enum Refusal {
     // 12 is given to nothing: evening out two leaves takes no page.
     /// Line not readable: the acts program alone gives it.
     UnreadableLine = 13,
+    // 14 is given to nothing yet.
+    /// Stage above 5, which no [`Stage`](crate::Stage) has: given where one is made of a number.
+    BadStage = 15,
+    /// Stage set is 0 or above 63: [`StageSet::EMPTY`](crate::StageSet::EMPTY).
+    BadStageSet = 16,
 }
 
 impl Refusal {
@@ -49,6 +54,8 @@ impl Refusal {
         Refusal::BadK,
         Refusal::FewRows,
         Refusal::UnreadableLine,
+        Refusal::BadStage,
+        Refusal::BadStageSet,
     ];
 
     /// The number in the table.
@@ -79,6 +86,8 @@ impl Refusal {
             Refusal::BadK => "k out of range",
             Refusal::FewRows => "fewer than k rows lent",
             Refusal::UnreadableLine => "line not readable",
+            Refusal::BadStage => "stage above 5",
+            Refusal::BadStageSet => "stage set is 0 or above 63",
         }
     }
 }

@@ -11,7 +11,8 @@ pub struct Answer {
 }
 
 /// An insert: checked, trusted or vouched.
-pub type Insert = unsafe extern "C" fn(index: *mut u8, index_len: usize, id: u32, point: *const i16, point_len: usize) -> u32;
+pub type Insert =
+    unsafe extern "C" fn(index: *mut u8, index_len: usize, id: u32, stage: u8, stamp: u32, point: *const i16, point_len: usize) -> u32;
 
 /// A delete: checked or trusted.
 pub type Delete = unsafe extern "C" fn(index: *mut u8, index_len: usize, id: u32) -> u32;
@@ -23,6 +24,7 @@ pub type Question = unsafe extern "C" fn(
     point: *const i16,
     point_len: usize,
     k: usize,
+    stages: u8,
     rows: *mut Row,
     rows_len: usize,
     tally: *mut Tally,
@@ -31,7 +33,8 @@ pub type Question = unsafe extern "C" fn(
 extern "C" {
     pub fn epoch_index_make(index: *mut u8, index_len: usize, features: u8) -> u32;
     pub fn epoch_index_check(index: *const u8, index_len: usize, page: *mut u32) -> u32;
-    pub fn epoch_index_insert(index: *mut u8, index_len: usize, id: u32, point: *const i16, point_len: usize) -> u32;
+    pub fn epoch_index_insert(index: *mut u8, index_len: usize, id: u32, stage: u8, stamp: u32, point: *const i16, point_len: usize)
+        -> u32;
     pub fn epoch_index_delete(index: *mut u8, index_len: usize, id: u32) -> u32;
     pub fn epoch_index_question(
         index: *const u8,
@@ -39,11 +42,20 @@ extern "C" {
         point: *const i16,
         point_len: usize,
         k: usize,
+        stages: u8,
         rows: *mut Row,
         rows_len: usize,
         tally: *mut Tally,
     ) -> Answer;
-    pub fn epoch_index_trusted_insert(index: *mut u8, index_len: usize, id: u32, point: *const i16, point_len: usize) -> u32;
+    pub fn epoch_index_trusted_insert(
+        index: *mut u8,
+        index_len: usize,
+        id: u32,
+        stage: u8,
+        stamp: u32,
+        point: *const i16,
+        point_len: usize,
+    ) -> u32;
     pub fn epoch_index_trusted_delete(index: *mut u8, index_len: usize, id: u32) -> u32;
     pub fn epoch_index_trusted_question(
         index: *const u8,
@@ -51,10 +63,19 @@ extern "C" {
         point: *const i16,
         point_len: usize,
         k: usize,
+        stages: u8,
         rows: *mut Row,
         rows_len: usize,
         tally: *mut Tally,
     ) -> Answer;
-    pub fn epoch_index_vouched_insert(index: *mut u8, index_len: usize, id: u32, point: *const i16, point_len: usize) -> u32;
+    pub fn epoch_index_vouched_insert(
+        index: *mut u8,
+        index_len: usize,
+        id: u32,
+        stage: u8,
+        stamp: u32,
+        point: *const i16,
+        point_len: usize,
+    ) -> u32;
     pub fn epoch_index_vouched_delete(index: *mut u8, index_len: usize, id: u32, point: *const i16, point_len: usize) -> u32;
 }

@@ -1,6 +1,7 @@
 //! The specification's examples, and every refusal that is quick to reach.
 mod series;
 mod stack;
+mod stages;
 mod tabled;
 
 use super::*;
@@ -15,11 +16,16 @@ fn bytes(pages: usize) -> Vec<u8> {
 /// The second byte of the first identifier in page 2, where that is a leaf (docs/LAYOUT.md).
 const IN_IDENTIFIER: usize = 2 * PAGE_BYTES + 577;
 
+/// The epoch of an identifier: stages in turn, and a stamp whose bytes differ.
+fn epoch(id: u32) -> Epoch {
+    Epoch { id, stage: Stage::ALL[id as usize % 6], stamp: id.wrapping_mul(0x9e37_79b9) }
+}
+
 /// d = 1, identifiers 1..=n at 1..=n, inserted upward.
 fn upward(pages: usize, n: u32) -> Index<Vec<u8>> {
     let mut index = Index::make(bytes(pages), 1).unwrap();
     for id in 1..=n {
-        index.insert(id, &[id as i16]).unwrap();
+        index.insert(epoch(id), &[id as i16]).unwrap();
     }
     index
 }
@@ -34,6 +40,14 @@ impl Random {
     fn below(&mut self, n: u64) -> u64 {
         self.0 = self.0.wrapping_mul(6_364_136_223_846_793_005).wrapping_add(1_442_695_040_888_963_407);
         (self.0 >> 33) % n
+    }
+
+    fn epoch(&mut self, id: u32) -> Epoch {
+        Epoch { id, stage: Stage::ALL[self.below(6) as usize], stamp: self.below(1 << 32) as u32 }
+    }
+
+    fn stages(&mut self) -> StageSet {
+        StageSet::from_bits(1 + self.below(63) as u8).unwrap()
     }
 
     fn point(&mut self, d: usize, reach: u64) -> Vec<i16> {
@@ -51,7 +65,7 @@ fn layout_is_that_of_the_header() {
 #[test]
 fn refusals_have_their_numbers_and_words() {
     let codes: Vec<u32> = Refusal::ALL.iter().map(|refusal| refusal.code()).collect();
-    assert_eq!(codes, [1, 2, 3, 4, 5, 6, 7, 8, 9, 10, 11, 13], "12 is given to nothing");
+    assert_eq!(codes, [1, 2, 3, 4, 5, 6, 7, 8, 9, 10, 11, 13, 15, 16], "12 is given to nothing");
     for refusal in Refusal::ALL {
         assert_eq!(Refusal::of(refusal.code()), Err(*refusal));
         assert!(!refusal.to_string().is_empty());
@@ -81,10 +95,10 @@ fn leaves_read() {
     let mut tally = Tally::default();
     let cases: [(i16, usize, &[u32], u32); 3] = [(9, 1, &[9], 1), (9, 2, &[9, 8], 2), (1, 9, &[1, 2, 3, 4, 5, 6, 7, 8, 9], 1)];
     for (from, k, rows, leaves) in cases {
-        let found = index.question(&[from], k, &mut tally).unwrap();
+        let found = index.question(&[from], k, StageSet::ALL, &mut tally).unwrap();
         assert_eq!((ids(&found), found.leaves), (rows.to_vec(), leaves));
     }
-    let all = index.question(&[1], 18, &mut tally).unwrap();
+    let all = index.question(&[1], 18, StageSet::ALL, &mut tally).unwrap();
     assert_eq!((all.rows.len(), all.leaves), (17, 2));
     assert_eq!(all.rows[16], Row { distance: 256, id: 17, position: 1 });
     assert_eq!(tally, Tally { questions: 4, leaves: 6 });
@@ -93,15 +107,15 @@ fn leaves_read() {
 #[test]
 fn pages_run_out_and_come_back() {
     let mut index = upward(3, 16);
-    assert_eq!(index.insert(17, &[17]), Err(Refusal::NoPages));
+    assert_eq!(index.insert(epoch(17), &[17]), Err(Refusal::NoPages));
     let mut index = upward(4, 17);
     index.delete(17).unwrap();
-    let all = index.question(&[1], 16, &mut Tally::default()).unwrap();
+    let all = index.question(&[1], 16, StageSet::ALL, &mut Tally::default()).unwrap();
     assert_eq!(all.rows.iter().filter(|row| row.position == 0).count(), 8);
     index.delete(16).unwrap();
-    assert_eq!(index.question(&[1], 16, &mut Tally::default()).unwrap().leaves, 1);
+    assert_eq!(index.question(&[1], 16, StageSet::ALL, &mut Tally::default()).unwrap().leaves, 1);
     for id in 16..=17 {
-        index.insert(id, &[id as i16]).unwrap();
+        index.insert(epoch(id), &[id as i16]).unwrap();
     }
     index.check().unwrap();
 }
@@ -112,19 +126,23 @@ fn refused_acts_change_nothing() {
     let before = index.as_bytes().to_vec();
     let mut tally = Tally { questions: 5, leaves: 6 };
     let mut rows = [Row { distance: 1, id: 2, position: 3 }; 2];
-    assert_eq!(index.insert(18, &[1, 2]), Err(Refusal::BadFeatures));
-    assert_eq!(index.insert(18, &[1001]), Err(Refusal::BadCoordinate));
-    assert_eq!(index.insert(0, &[1]), Err(Refusal::ZeroIdentifier));
-    assert_eq!(index.insert(17, &[1]), Err(Refusal::AlreadyLive));
+    assert_eq!(index.insert(epoch(18), &[1, 2]), Err(Refusal::BadFeatures));
+    assert_eq!(index.insert(epoch(18), &[1001]), Err(Refusal::BadCoordinate));
+    assert_eq!(index.insert(epoch(0), &[1]), Err(Refusal::ZeroIdentifier));
+    assert_eq!(index.insert(epoch(17), &[1]), Err(Refusal::AlreadyLive));
     assert_eq!(index.delete(0), Err(Refusal::ZeroIdentifier));
     assert_eq!(index.delete(18), Err(Refusal::NotLive));
-    assert_eq!(index.question_into(&[], 1, &mut rows, &mut tally), Err(Refusal::BadFeatures));
-    assert_eq!(index.question_into(&[-1001], 1, &mut rows, &mut tally), Err(Refusal::BadCoordinate));
-    assert_eq!(index.question_into(&[1], 0, &mut rows, &mut tally), Err(Refusal::BadK));
-    assert_eq!(index.question_into(&[1], 65, &mut rows, &mut tally), Err(Refusal::BadK));
-    assert_eq!(index.question_into(&[1], usize::MAX, &mut [], &mut tally), Err(Refusal::BadK));
-    assert_eq!(index.question_into(&[1], 3, &mut rows, &mut tally), Err(Refusal::FewRows));
-    assert_eq!(index.question(&[1], 65, &mut tally), Err(Refusal::BadK));
+    for stages in [StageSet::ALL, StageSet::EMPTY] {
+        assert_eq!(index.question_into(&[], 1, stages, &mut rows, &mut tally), Err(Refusal::BadFeatures));
+        assert_eq!(index.question_into(&[-1001], 1, stages, &mut rows, &mut tally), Err(Refusal::BadCoordinate));
+        assert_eq!(index.question_into(&[1], 0, stages, &mut rows, &mut tally), Err(Refusal::BadK));
+        assert_eq!(index.question_into(&[1], 65, stages, &mut rows, &mut tally), Err(Refusal::BadK));
+        assert_eq!(index.question_into(&[1], usize::MAX, stages, &mut [], &mut tally), Err(Refusal::BadK));
+        assert_eq!(index.question_into(&[1], 3, stages, &mut rows, &mut tally), Err(Refusal::FewRows));
+        assert_eq!(index.question(&[1], 65, stages, &mut tally), Err(Refusal::BadK));
+    }
+    assert_eq!(index.question_into(&[1], 2, StageSet::EMPTY, &mut rows, &mut tally), Err(Refusal::BadStageSet));
+    assert_eq!(index.question(&[1], 2, StageSet::EMPTY, &mut tally), Err(Refusal::BadStageSet));
     assert_eq!(index.as_bytes(), before);
     assert_eq!(rows, [Row { distance: 1, id: 2, position: 3 }; 2]);
     assert_eq!(tally, Tally { questions: 5, leaves: 6 });
@@ -136,7 +154,7 @@ fn rows_past_those_returned_keep_their_contents() {
     let mark = Row { distance: 7, id: 8, position: 9 };
     let mut rows = [mark; 3];
     let mut tally = Tally { questions: u32::MAX, leaves: u32::MAX - 1 };
-    assert_eq!(index.question_into(&[4], 2, &mut rows, &mut tally), Ok(Counts { rows: 1, leaves: 1 }));
+    assert_eq!(index.question_into(&[4], 2, StageSet::ALL, &mut rows, &mut tally), Ok(Counts { rows: 1, leaves: 1 }));
     assert_eq!(rows, [Row { distance: 9, id: 1, position: 0 }, mark, mark]);
     assert_eq!(tally, Tally { questions: u32::MAX, leaves: u32::MAX });
 }
@@ -150,9 +168,9 @@ fn a_damaged_index_is_refused() {
     let fault = index.check().unwrap_err();
     assert_eq!(fault.refusal, Refusal::Unsound);
     assert!((1..4).contains(&fault.page));
-    assert_eq!(index.insert(18, &[18]), Err(Refusal::Unsound));
+    assert_eq!(index.insert(epoch(18), &[18]), Err(Refusal::Unsound));
     assert_eq!(index.delete(1), Err(Refusal::Unsound));
-    assert_eq!(index.question(&[1], 1, &mut Tally::default()), Err(Refusal::Unsound));
+    assert_eq!(index.question(&[1], 1, StageSet::ALL, &mut Tally::default()), Err(Refusal::Unsound));
     assert_eq!(SoundIndex::open(&copy[..]).unwrap_err(), fault);
     assert_eq!(damaged, copy);
 }
@@ -162,10 +180,10 @@ fn a_sound_index_asks_borrowed_bytes() {
     let stored = upward(4, 17).into_inner();
     let sound = SoundIndex::open(&stored[..]).unwrap();
     let mut tally = Tally::default();
-    assert_eq!(ids(&sound.question(&[9], 2, &mut tally).unwrap()), [9, 8]);
+    assert_eq!(ids(&sound.question(&[9], 2, StageSet::ALL, &mut tally).unwrap()), [9, 8]);
     let mut rows = [Row::default(); 1];
-    assert_eq!(sound.question_into(&[9], 2, &mut rows, &mut tally), Err(Refusal::FewRows));
-    assert_eq!(sound.question_into(&[9], 1, &mut rows, &mut tally), Ok(Counts { rows: 1, leaves: 1 }));
+    assert_eq!(sound.question_into(&[9], 2, StageSet::ALL, &mut rows, &mut tally), Err(Refusal::FewRows));
+    assert_eq!(sound.question_into(&[9], 1, StageSet::ALL, &mut rows, &mut tally), Ok(Counts { rows: 1, leaves: 1 }));
     assert_eq!(tally, Tally { questions: 2, leaves: 3 });
 }
 
@@ -185,8 +203,8 @@ fn acts_are_right_about_bytes_that_change() {
     let index = Index::new(Changing(Cell::new(0), [whole, damaged]));
     let mut tally = Tally::default();
     for _ in 0..2 {
-        assert_eq!(index.question(&[9], 2, &mut tally), Err(Refusal::Unsound));
-        assert_eq!(ids(&index.question(&[9], 2, &mut tally).unwrap()), [9, 8]);
+        assert_eq!(index.question(&[9], 2, StageSet::ALL, &mut tally), Err(Refusal::Unsound));
+        assert_eq!(ids(&index.question(&[9], 2, StageSet::ALL, &mut tally).unwrap()), [9, 8]);
     }
 }
 
@@ -194,11 +212,11 @@ fn acts_are_right_about_bytes_that_change() {
 fn a_sound_index_changes_each_kind_of_bytes() {
     let made = upward(4, 17).into_inner();
     let mut boxed = SoundIndex::open(made.clone().into_boxed_slice()).unwrap().into_tabled();
-    boxed.insert(18, &[18]).unwrap();
+    boxed.insert(epoch(18), &[18]).unwrap();
     let mut lent = made.clone();
-    SoundIndex::open(&mut lent[..]).unwrap().insert(18, &[18]).unwrap();
+    SoundIndex::open(&mut lent[..]).unwrap().insert(epoch(18), &[18]).unwrap();
     let mut owned = SoundIndex::open(made).unwrap();
-    owned.insert(18, &[18]).unwrap();
+    owned.insert(epoch(18), &[18]).unwrap();
     assert_eq!((boxed.sound().as_bytes(), &lent[..]), (owned.as_bytes(), owned.as_bytes()));
 }
 
@@ -214,6 +232,6 @@ fn a_wrong_word_for_a_delete_does_no_harm() {
     acts::delete_point(&mut index, 9, &[9]).unwrap();
     SoundIndex::open(&index[..]).unwrap();
     // one for an insert is not noticed, but by the check
-    acts::insert(sys::epoch_index_vouched_insert, &mut index, 8, &[500]).unwrap();
+    acts::insert(sys::epoch_index_vouched_insert, &mut index, epoch(8), &[500]).unwrap();
     assert_eq!(SoundIndex::open(&index[..]).unwrap_err().refusal, Refusal::Unsound);
 }

@@ -2,7 +2,7 @@
 use mathlib.Core.Path.{_≡_, refl, sym, ap, _∙_, subst}
 use mathlib.Core.Logic.{_≢_}
 use mathlib.Core.List.{List, [], _∷_}
-use Prim.Native.Nat.{ℕ, zero, suc, _+_, _^_, _≤_, _<_}
+use Prim.Native.Nat.{ℕ, zero, suc, _+_, _≤_}
 use native.Mathlib.Omega.{arith}
 use lib.IntN.{ℤ}
 use lib.ListN.{length, length-take}
@@ -13,8 +13,9 @@ use Rattle.search_model.specs.Visit.{Answer as Found}
 use Rattle.index_answer.specs.declared.Answer.{Answer}
 use Rattle.index_refusals.specs.Refusals.{First, insertRules, deleteRules}
 use Rattle.index_refusals.specs.Outcomes.{insertedWith, deletedWith, foundWith, nothingFound}
-use Rattle.index_query.specs.Asking.{Question}
-use Rattle.index.specs.Acts.{Act, insert, delete, question}
+use Rattle.index_query.specs.Asking.{Question, nearestOf}
+use Rattle.index_refusals.specs.declared.Epoch.{Epoch}
+use Rattle.index.specs.Acts.{EpochFits, Act, insert, delete, question}
 use Rattle.index.specs.Questions.{QuestionOutcome}
 use Rattle.acts_text.specs.declared.ActLine.{ActLine}
 use Rattle.acts_fields.specs.Bytes.{Written}
@@ -22,13 +23,13 @@ use Rattle.acts_output.specs.Output.{resultLine}
 use Rattle.acts_output.specs.Output.{rowLines}
 use Rattle.acts_step.specs.Printed.{answerLines}
 use Rattle.acts_output.specs.Puts.{rowsLent, mostPrinted, Puts}
-use Rattle.acts_step.specs.Steps.{pointOf, questionIn, askedBy, Acted, Replies}
+use Rattle.acts_step.specs.Steps.{pointOf, stageIn, epochIn, questionIn, askedBy, Acted, Replies}
 
 module _ (b c out out' : List ℕ) (n code at r : ℕ) (room : r ≤ at + 105) where
-  pub inserted : (i : ℕ) (p : List ℤ) → i < 2 ^ 32 → First (insertRules b i p) code → c ≡ insertedWith code b i p → Written out out' at r (resultLine n code i 0 0)
-      → Puts (Acted (insert i p) b n c) mostPrinted out out' at r
-  inserted i p low first e w = record {
-    text = resultLine n code i 0 0;
+  pub inserted : (x : Epoch) (p : List ℤ) → EpochFits x → First (insertRules b x p) code → c ≡ insertedWith code b x p → Written out out' at r (resultLine n code (x .id) 0 0)
+      → Puts (Acted (insert x p) b n c) mostPrinted out out' at r
+  inserted x p low first e w = record {
+    text = resultLine n code (x .id) 0 0;
     says = record { code = code; answer = nothingFound; done = (low, first, e); prints = refl };
     written = w;
     room = omega arith;
@@ -113,7 +114,7 @@ module _ (b : List ℕ) (w : Question) (ds ts : List ℕ) (o : Answer) (a : Ques
 -- ---- THE ACT THAT A LINE ASKS FOR
 
 module _ (a : ActLine) where
-  is-insert : a .act ≡ 1 → insert (a .id) (pointOf a) ≡ askedBy a
+  is-insert : a .act ≡ 1 → insert (epochIn a) (pointOf a) ≡ askedBy a
   is-insert e = rw (eq-eqb (a .act) 1 e)
 
   is-delete : a .act ≡ 2 → delete (a .id) ≡ askedBy a
@@ -126,11 +127,12 @@ module _ (a : ActLine) where
     abbrev Does : Act → Type 0
     Does x = Puts (Acted x b n c) mostPrinted out out' at r
 
-    pub does-insert : a .act ≡ 1 → Does (insert (a .id) (pointOf a)) → Does (askedBy a)
-    does-insert e w = subst Does (is-insert e) w
+    -- the stage as the code narrows it
+    pub does-insert : (g : ℕ) → g ≡ stageIn a → a .act ≡ 1 → Does (insert (record { id = a .id; stage = g; stamp = a .stamp }) (pointOf a)) → Does (askedBy a)
+    does-insert g s e w = subst Does (ap (λ (x : ℕ). insert (record { id = a .id; stage = x; stamp = a .stamp }) (pointOf a)) s ∙ is-insert e) w
 
     pub does-delete : a .act ≡ 2 → Does (delete (a .id)) → Does (askedBy a)
     does-delete e w = subst Does (is-delete e) w
 
-    pub does-question : a .act ≢ 2 → a .act ≢ 1 → Does (question (questionIn a) rowsLent) → Does (askedBy a)
-    does-question e f w = subst Does (is-question e f) w
+    pub does-question : (g : ℕ) → g ≡ stageIn a → a .act ≢ 2 → a .act ≢ 1 → Does (question (nearestOf (pointOf a) (a .k) g) rowsLent) → Does (askedBy a)
+    does-question g s e f w = subst Does (ap (λ (x : ℕ). question (nearestOf (pointOf a) (a .k) x) rowsLent) s ∙ is-question e f) w

@@ -1,5 +1,6 @@
 -- Texts of acts. `runs-append`, `runs-split`: lines one after the other. `runs-kept`: what is kept of each line says the same. `text-stands`: after any text the
--- index is sound and holds the records inserted and not deleted since. `text-question`: a question's lines are the k nearest of them.
+-- index is sound and holds the records inserted and not deleted since. `text-question`: a question's lines are the k nearest of those
+-- of its stages.
 use mathlib.Core.Path.{_≡_, sym, ap, _∙_, subst}
 use mathlib.Core.List.{List, [], _∷_, _++_, map, append-assoc}
 use Prim.Native.Nat.{ℕ, suc, _+_, _≤_}
@@ -59,7 +60,7 @@ module _ (b : List ℕ) (d : ℕ) (lent : Permitted (length b)) (low : 1 ≤ d) 
   pub text-stands : {n : ℕ} {c t : List ℕ} {ls : List (List ℕ)} → (r : Runs d (newIndex b d) n ls c t) → Stands d (heldBy d (runs-series r .0) []) c
   text-stands r = series b d lent low high (runs-series r .1)
 
--- a question that is carried out on index m prints the k nearest of the records held, and the exact number of leaves
+-- a question that is carried out on index m prints the k nearest of the records held whose stage is in its set, and the exact number of leaves
 pub record Told (w : Question) (n : ℕ) (m t : List ℕ) : Type 0 where
   pub found : Found
   pub nearest : Answers m w found

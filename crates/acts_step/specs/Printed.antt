@@ -13,7 +13,7 @@ answerLines n code leaves (x ∷ xs) = rowLines n code leaves (x ∷ xs)
 
 -- an act's lines: an insert or delete prints its identifier and two zeros. No line of values asks for a check.
 abbrev pub printed : ℕ → Act → ℕ → Found → List ℕ
-printed n (insert i p) code f = resultLine n code i 0 0
+printed n (insert e p) code f = resultLine n code (e .id) 0 0
 printed n (delete i) code f = resultLine n code i 0 0
 printed n (question w m) code f = answerLines n code (f .leaves) (f .rows)
 printed n check code f = []

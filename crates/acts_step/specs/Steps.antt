@@ -3,7 +3,7 @@ use mathlib.Core.Path.{_≡_}
 use mathlib.Core.Logic.{_≢_}
 use mathlib.Core.Bool.{true, false}
 use mathlib.Core.List.{List, _++_}
-use Prim.Native.Nat.{ℕ}
+use Prim.Native.Nat.{ℕ, min}
 use lib.Dec.{eqb}
 use lib.IntN.{ℤ}
 use lib.ListN.{take}
@@ -11,6 +11,7 @@ use Rattle.lists.specs.Basics.{if}
 use Rattle.pagestore.specs.Store.{newIndex}
 use Rattle.search_model.specs.Visit.{Answer as Found}
 use Rattle.index_query.specs.Asking.{Question, nearestOf}
+use Rattle.index_refusals.specs.declared.Epoch.{Epoch}
 use Rattle.index.specs.Acts.{Act, insert, delete, question, does}
 use Rattle.acts_text.specs.declared.ActLine.{ActLine}
 use Rattle.acts_text.specs.Lines.{actOf}
@@ -27,13 +28,21 @@ indexBytes = 65536
 abbrev pub pointOf : ActLine → List ℤ
 pointOf a = take (a .d) (a .coords)
 
+-- the stage that it gives, or the set of a question: above 255 as 255, which is out of range too
+abbrev pub stageIn : ActLine → ℕ
+stageIn a = min (a .stage) 255
+
+-- the epoch that it gives
+abbrev pub epochIn : ActLine → Epoch
+epochIn a = record { id = a .id; stage = stageIn a; stamp = a .stamp }
+
 -- what it asks
 abbrev pub questionIn : ActLine → Question
-questionIn a = nearestOf (pointOf a) (a .k)
+questionIn a = nearestOf (pointOf a) (a .k) (stageIn a)
 
 -- act 1 inserts, 2 deletes, 3 questions
 abbrev pub askedBy : ActLine → Act
-askedBy a = if (eqb (a .act) 1) (insert (a .id) (pointOf a)) (if (eqb (a .act) 2) (delete (a .id)) (question (questionIn a) rowsLent))
+askedBy a = if (eqb (a .act) 1) (insert (epochIn a) (pointOf a)) (if (eqb (a .act) 2) (delete (a .id)) (question (questionIn a) rowsLent))
 
 -- the act x of line n is done on index b: it leaves index c and prints t
 pub record Acted (x : Act) (b : List ℕ) (n : ℕ) (c t : List ℕ) : Type 0 where

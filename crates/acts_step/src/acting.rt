@@ -1,5 +1,6 @@
 // The acts, each with what it prints into `out` from `at` on; each function returns where the output goes on.
-ghost use Prim.Native.Nat.{_+_, _≤_};
+ghost use mathlib.Core.Path.{_≡_};
+ghost use Prim.Native.Nat.{_+_, _≤_, min};
 ghost use lib.ListN.{length};
 ghost use Rattle.index_query.specs.Asking.{questionOf};
 ghost use Rattle.index.specs.Acts.{insert, delete};
@@ -9,12 +10,13 @@ use acts_output::put_result;
 use acts_output::put_rows;
 use acts_text::ActLine;
 use index_query::Criteria;
+use index_refusals::Epoch;
 use search_rows::MAX_ROWS;
 
 // Inserts, and prints the line of it.
 fn insert_line(
     index: &mut [u8],
-    id: u32,
+    epoch: Epoch,
     point: &[i16],
     number: u64,
     out: &mut [u8],
@@ -22,12 +24,12 @@ fn insert_line(
 ) -> usize
     requires { ⌜ at + mostPrinted ≤ length (now out) ⌝ }
     ensures { λ r. ⌜
-        Puts (Acted (insert id (now (point .entry))) (now (index .entry)) number (now (index .exit)))
+        Puts (Acted (insert epoch (now (point .entry))) (now (index .entry)) number (now (index .exit)))
         mostPrinted (now (out .entry)) (now (out .exit)) at r
         ⌝ }
 {
-    let code = index::insert(index, id, point);
-    put_result(out, at, number, code as u64, id as u64, 0, 0)
+    let code = index::insert(index, epoch, point);
+    put_result(out, at, number, code as u64, epoch.id as u64, 0, 0)
 }
 
 // Deletes, and prints the line of it.
@@ -82,6 +84,13 @@ fn question_line(
     )
 }
 
+// A stage, or a set, as it is handed on: above 255 as 255, which is out of range too.
+fn at_most_255(x: u32) -> u8
+    ensures { λ r. ⌜ r ≡ min x 255 ⌝ }
+{
+    if x < 255 { x as u8 } else { 255 }
+}
+
 // The act that a readable line asks for.
 pub fn do_act(index: &mut [u8], a: ActLine, number: u64, out: &mut [u8], at: usize) -> usize
     requires { ⌜ (a .d ≤ 16) × (at + mostPrinted ≤ length (now out)) ⌝ }
@@ -95,9 +104,16 @@ pub fn do_act(index: &mut [u8], a: ActLine, number: u64, out: &mut [u8], at: usi
     }
     let d = a.d;
     let coords = a.coords;
+    let stage = at_most_255(a.stage);
     if a.act == 1 {
-        return insert_line(index, a.id, &coords[..d], number, out, at);
+        let epoch = Epoch {
+            id: a.id,
+            stage: stage,
+            stamp: a.stamp,
+        };
+        return insert_line(index, epoch, &coords[..d], number, out, at);
     }
     let k = a.k as usize;
-    question_line(index, &coords[..d], Criteria { k: k }, number, out, at)
+    let what = Criteria { k, stages: stage };
+    question_line(index, &coords[..d], what, number, out, at)
 }

@@ -15,7 +15,7 @@ use Rattle.lists.specs.Basics.{if}
 use Rattle.lists.specs.Tests.{false-true, by-cases}
 use Rattle.acts_fields.specs.Bytes.{space, until}
 use Rattle.acts_fields.specs.Fields.{bad, withDigit, valueFrom, illFormed, natural, negative, signed}
-use Rattle.acts_text.specs.Lines.{limit, maxFeatures, leading, fieldLength, cell, row, noneBad, readableCells, cells, coordinates, unreadable, actOf}
+use Rattle.acts_text.specs.Lines.{limit, maxFeatures, leading, fieldLength, cell, row, noneBad, readableCells, cells, coordinates, Narrow, unreadable, lineOf, actOf}
 use Rattle.acts_text.specs.declared.ActLine.{ActLine}
 use Rattle.acts_fields.proofs.DigitLaws.{drop-end}
 
@@ -84,7 +84,7 @@ pub row-done : (line v R : List ℕ) (n j at : ℕ) → n ≤ j → sets v j (ro
 unfolding row
 row-done line v R n j at h i = let a : n - j ≡ 0 = omega arith in ap (λ (x : ℕ). sets v j (row x j (drop at line))) (sym a) ∙ i
 
-pub cells-are : (line v : List ℕ) (n : ℕ) → v ≡ sets (replicate 19 0) 0 (row n 0 line) → v ≡ cells n line
+pub cells-are : (line v : List ℕ) (n : ℕ) → v ≡ sets (replicate (leading + maxFeatures) 0) 0 (row n 0 line) → v ≡ cells n line
 unfolding cells
 cells-are line v n e = e
 
@@ -99,16 +99,18 @@ pub act-wide : (d : ℕ) (l : List ℕ) → length l ≤ limit → maxFeatures <
 unfolding actOf
 act-wide d l h k = rw (le-ltb limit (length l) h, lt-ltb maxFeatures d k)
 
-pub act-bad : (d : ℕ) (l : List ℕ) → length l ≤ limit → d ≤ maxFeatures → readableCells (cells (3 + d) l) ≡ false → unreadable ≡ actOf d l
+pub act-bad : (d : ℕ) (l : List ℕ) → length l ≤ limit → d ≤ maxFeatures → readableCells (cells (leading + d) l) ≡ false → unreadable ≡ actOf d l
 unfolding actOf
 act-bad d l h k e = rw (le-ltb limit (length l) h, le-ltb maxFeatures d k, e)
 
-pub act-good : (d : ℕ) (l v : List ℕ) (cs : List ℤ) (a i k : ℕ) → length l ≤ limit → d ≤ maxFeatures → v ≡ cells (3 + d) l → readableCells v ≡ true
-    → a ≡ getD v 0 0 → i ≡ getD v 1 0 → k ≡ getD v 2 0 → cs ≡ coordinates v
-    → _≡_ {A = ActLine} (record { readable = true; act = a; id = i; k = k; d = d; coords = cs }) (actOf d l)
+pub act-good : (d : ℕ) (l v : List ℕ) → length l ≤ limit → d ≤ maxFeatures → v ≡ cells (leading + d) l → readableCells v ≡ true → lineOf d v ≡ actOf d l
 unfolding actOf
-act-good d l v cs a i k h m e r p q t u =
-    rw (le-ltb limit (length l) h, le-ltb maxFeatures d m, sym (ap readableCells e) ∙ r, p, q, t, u, e)
+act-good d l v h m e r = rw (le-ltb limit (length l) h, le-ltb maxFeatures d m, sym (ap readableCells e) ∙ r, e)
+
+-- a line made of values, one for each column
+pub line-is : (v : List ℕ) (d a i k s t : ℕ) (cs : List ℤ) → a ≡ getD v 0 0 → i ≡ getD v 1 0 → k ≡ getD v 2 0 → s ≡ getD v 3 0 → t ≡ getD v 4 0
+    → cs ≡ coordinates v → _≡_ {A = ActLine} (record { readable = true; act = a; id = i; k = k; stage = s; stamp = t; d = d; coords = cs }) (lineOf d v)
+line-is v d a i k s t cs ea ei ek es et ec = rw (ea, ei, ek, es, et, ec)
 
 -- ---- readable values have 32 bits
 
@@ -137,7 +139,7 @@ signed-le f = by-cases (eqb (getD f 0 0) 45) (λ e. rw e (negative-le (natural 3
 pub cell-le : (j : ℕ) (f : List ℕ) → cell j f ≤ bad
 unfolding cell
 cell-le j f = by-cases (eqb j 0) (λ e. rw e (natural-le 3 f (omega arith)))
-    (λ e. rw e (by-cases (ltb j 3) (λ t. rw t (natural-le 4294967295 f (omega arith))) (λ t. rw t (signed-le f))))
+    (λ e. rw e (by-cases (ltb j leading) (λ t. rw t (natural-le 4294967295 f (omega arith))) (λ t. rw t (signed-le f))))
 
 pub row-le : (n j : ℕ) (l : List ℕ) (m : ℕ) → getD (row n j l) m 0 ≤ bad
 unfolding row
@@ -175,9 +177,9 @@ readable-none-bad v h = by-cases (eqb (getD v 0 0) 0)
     (λ t. false-true (sym (ap (λ (b : Bool). if b false (noneBad v)) t) ∙ h))
     (λ t. sym (ap (λ (b : Bool). if b false (noneBad v)) t) ∙ h)
 
-pub cells-fit : (n : ℕ) (l v : List ℕ) → v ≡ cells n l → readableCells v ≡ true → (m : ℕ) → getD v m 0 ≤ 4294967295
+pub cells-fit : (n : ℕ) (l v : List ℕ) → v ≡ cells n l → readableCells v ≡ true → Narrow v
 unfolding cells
 cells-fit n l v e r m =
-    let a : getD v m 0 ≤ bad = rw e (sets-le (replicate 19 0) 0 (row n 0 l) (zeros-le 19) (row-le n 0 l) m) in
+    let a : getD v m 0 ≤ bad = rw e (sets-le (replicate (leading + maxFeatures) 0) 0 (row n 0 l) (zeros-le (leading + maxFeatures)) (row-le n 0 l) m) in
     let b : getD v m 0 ≢ bad = none-bad-at v m (readable-none-bad v r) in
     omega arith

@@ -33,12 +33,12 @@ unfolding isPrefix featuresIn namesIn before linesOf
 whole-names = refl
 
 whole-acts : map (actOf 2) (drop 1 (linesOf wholeCase))
-    ≡ record { readable = true; act = 1; id = 7; k = 0; d = 2; coords = negsuc 299 ∷ pos 100 ∷ replicate 14 (pos 0) }
-    ∷ record { readable = true; act = 1; id = 4; k = 0; d = 2; coords = pos 100 ∷ negsuc 299 ∷ replicate 14 (pos 0) }
-    ∷ record { readable = true; act = 1; id = 4; k = 0; d = 2; coords = pos 5 ∷ pos 5 ∷ replicate 14 (pos 0) }
-    ∷ record { readable = true; act = 3; id = 0; k = 2; d = 2; coords = negsuc 99 ∷ negsuc 99 ∷ replicate 14 (pos 0) }
-    ∷ record { readable = true; act = 2; id = 7; k = 0; d = 2; coords = pos 0 ∷ pos 0 ∷ replicate 14 (pos 0) }
-    ∷ record { readable = true; act = 3; id = 0; k = 2; d = 2; coords = negsuc 99 ∷ negsuc 99 ∷ replicate 14 (pos 0) }
+    ≡ record { readable = true; act = 1; id = 7; k = 0; stage = 0; stamp = 0; d = 2; coords = negsuc 299 ∷ pos 100 ∷ replicate 14 (pos 0) }
+    ∷ record { readable = true; act = 1; id = 4; k = 0; stage = 0; stamp = 0; d = 2; coords = pos 100 ∷ negsuc 299 ∷ replicate 14 (pos 0) }
+    ∷ record { readable = true; act = 1; id = 4; k = 0; stage = 0; stamp = 0; d = 2; coords = pos 5 ∷ pos 5 ∷ replicate 14 (pos 0) }
+    ∷ record { readable = true; act = 3; id = 0; k = 2; stage = 63; stamp = 0; d = 2; coords = negsuc 99 ∷ negsuc 99 ∷ replicate 14 (pos 0) }
+    ∷ record { readable = true; act = 2; id = 7; k = 0; stage = 0; stamp = 0; d = 2; coords = pos 0 ∷ pos 0 ∷ replicate 14 (pos 0) }
+    ∷ record { readable = true; act = 3; id = 0; k = 2; stage = 63; stamp = 0; d = 2; coords = negsuc 99 ∷ negsuc 99 ∷ replicate 14 (pos 0) }
     ∷ []
 unfolding before linesOf until withDigit valueFrom illFormed natural negative signed ofBits fieldLength cell row cells noneBad readableCells coordinates tabulate actOf
 whole-acts = refl

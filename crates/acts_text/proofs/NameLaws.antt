@@ -35,7 +35,7 @@ all-below (suc n) f h m l = by-cases (f n)
 unfoldable right : ℕ → Bool
 right n = if (eqb (featuresIn n) 0) true (if (ltb 16 (featuresIn n)) false (same (take n allNames) (names (featuresIn n))))
 
-all-right : allBelow 63 right ≡ true
+all-right : allBelow 75 right ≡ true
 unfolding allBelow right same names decimal featuresIn
 all-right = refl
 
@@ -75,8 +75,8 @@ pub names-writes : (l : List ℕ) → namesIn l ≢ 0 → (l ≡ names (namesIn 
 names-writes l h = by-cases (isPrefix l allNames)
     (λ e. let n : featuresIn (length l) ≡ namesIn l = names-in (featuresIn (length l)) l e refl in
     let p = prefix-take l allNames e in
-    let g : length l ≤ 62 = p .1 in
-    let r = right-one (length l) (λ x. h (sym n ∙ x)) (all-below 63 right all-right (length l) (omega arith)) in
+    let g : length l ≤ 74 = p .1 in
+    let r = right-one (length l) (λ x. h (sym n ∙ x)) (all-below 75 right all-right (length l) (omega arith)) in
     let b : featuresIn (length l) ≤ 16 = r .1 in
     (p .0 ∙ r .0 ∙ ap names n, omega arith))
     (λ e. absurd (h (sym (names-out l e))))

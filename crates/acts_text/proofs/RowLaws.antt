@@ -34,17 +34,17 @@ cellRoom j = if (eqb j 0) 4 (if (ltb j leading) 4294967296 65536)
 pub cell-reads : (j v : ℕ) → v < cellRoom j → cell j (cellText j v) ≡ v
 unfolding cell cellText cellRoom
 cell-reads j v h = by-cases (eqb j 0)
-    (λ e. let z = eqb-true j 0 e in let l : ltb j 3 ≡ true = lt-ltb j 3 (omega arith) in rw (e, l) (natural-reads 3 v (omega arith) (let g = rw e at h in omega arith)))
-    (λ e. by-cases (ltb j 3)
+    (λ e. let z = eqb-true j 0 e in let l : ltb j leading ≡ true = lt-ltb j leading (omega arith) in rw (e, l) (natural-reads 3 v (omega arith) (let g = rw e at h in omega arith)))
+    (λ e. by-cases (ltb j leading)
     (λ t. rw (e, t) (natural-reads 4294967295 v (omega arith) (let g = rw (e, t) at h in omega arith)))
     (λ t. rw (e, t) (signed-reads v (let g = rw (e, t) at h in omega arith))))
 
 pub cell-writes : (j : ℕ) (f : List ℕ) → cell j f ≢ bad → (f ≡ cellText j (cell j f)) × (cell j f < cellRoom j)
 unfolding cell cellText cellRoom
 cell-writes j f h = by-cases (eqb j 0)
-    (λ e. let z = eqb-true j 0 e in let l : ltb j 3 ≡ true = lt-ltb j 3 (omega arith) in
+    (λ e. let z = eqb-true j 0 e in let l : ltb j leading ≡ true = lt-ltb j leading (omega arith) in
     let w = natural-writes 3 f (omega arith) (rw e at h) in rw (e, l) (w .0, let g = w .1 in omega arith))
-    (λ e. by-cases (ltb j 3)
+    (λ e. by-cases (ltb j leading)
     (λ t. let w = natural-writes 4294967295 f (omega arith) (rw (e, t) at h) in rw (e, t) (w .0, let g = w .1 in omega arith))
     (λ t. rw (e, t) (signed-writes f (rw (e, t) at h))))
 
@@ -53,7 +53,7 @@ empty-bad cap = sym (natural-bad cap [] (sym (ill-formed-none [] refl)))
 
 pub cell-empty : (j : ℕ) → cell j [] ≡ bad
 unfolding cell signed
-cell-empty j = by-cases (eqb j 0) (λ e. rw e (empty-bad 3)) (λ e. rw e (by-cases (ltb j 3) (λ t. rw t (empty-bad 4294967295)) (λ t. rw t (empty-bad 32767))))
+cell-empty j = by-cases (eqb j 0) (λ e. rw e (empty-bad 3)) (λ e. rw e (by-cases (ltb j leading) (λ t. rw t (empty-bad 4294967295)) (λ t. rw t (empty-bad 32767))))
 
 -- no byte of a field is a space
 
@@ -73,7 +73,7 @@ signed-solid (negsuc m) = also differs (solid (digits 19 (suc m)))
 
 pub cell-solid : (j v : ℕ) → All (λ b. b ≢ 32) (cellText j v)
 unfolding cellText
-cell-solid j v = by-cases (ltb j 3) (λ e. rw e (solid (digits 19 v))) (λ e. rw e (signed-solid (ofBits v)))
+cell-solid j v = by-cases (ltb j leading) (λ e. rw e (solid (digits 19 v))) (λ e. rw e (signed-solid (ofBits v)))
 
 pub until-skips : {f : List ℕ} → All (λ b. b ≢ 32) f → (r : List ℕ) → until 32 (f ++ (32 ∷ r)) ≡ length f
 unfolding until

@@ -21,7 +21,7 @@ joined (f ∷ g ∷ fs) = f ++ (space ∷ joined (g ∷ fs))
 
 -- the line that says a: its values in decimal
 abbrev pub lineText : ActLine → List ℕ
-lineText a = joined (text (a .act) ∷ text (a .id) ∷ text (a .k) ∷ map signedText (take (a .d) (a .coords)))
+lineText a = joined (text (a .act) ∷ text (a .id) ∷ text (a .k) ∷ text (a .stage) ∷ text (a .stamp) ∷ map signedText (take (a .d) (a .coords)))
 
 -- a coordinate of the text: -32,768 to 32,767
 abbrev pub Coordinate : ℤ → Type 0
@@ -34,6 +34,8 @@ pub record Ranged (d : ℕ) (a : ActLine) : Type 0 where
   pub acts : (1 ≤ a .act) × (a .act ≤ 3)
   pub ids : a .id ≤ 4294967295
   pub ks : a .k ≤ 4294967295
+  pub stages : a .stage ≤ 4294967295
+  pub stamps : a .stamp ≤ 4294967295
   pub named : (a .d ≡ d) × (d ≤ maxFeatures)
   pub coordinate : All Coordinate (take d (a .coords))
   pub slots : (length (a .coords) ≡ maxFeatures) × (drop d (a .coords) ≡ replicate (maxFeatures - d) (pos 0))

@@ -1,6 +1,6 @@
--- A line of values: `act id k`, then the coordinates, one space between.
+-- A line of values: `act id k stage stamp`, then the coordinates, one space between.
 -- How a line is read; `Grammar` says which lines are readable.
-use Prim.Native.Nat.{ℕ, zero, suc, _+_}
+use Prim.Native.Nat.{ℕ, zero, suc, _+_, _≤_}
 use mathlib.Core.Bool.{Bool, true, false}
 use mathlib.Core.List.{List, [], _∷_}
 use lib.Dec.{ltb, eqb}
@@ -20,9 +20,9 @@ limit = 256
 abbrev pub maxFeatures : ℕ
 maxFeatures = 16
 
--- the columns before the coordinates: act, id, k
+-- the columns before the coordinates: act, id, k, stage, stamp
 abbrev pub leading : ℕ
-leading = 3
+leading = 5
 
 -- the length of a field behind which n more fields come: up to the first space, and of the last field all that is left
 unfoldable pub fieldLength : ℕ → List ℕ → ℕ
@@ -54,13 +54,17 @@ readableCells vs = if (eqb (getD vs 0 0) 0) false (noneBad vs)
 unfoldable pub coordinates : List ℕ → List ℤ
 coordinates vs = tabulate maxFeatures (λ i. ofBits (getD vs (leading + i) 0))
 
+-- every value has 32 bits
+abbrev pub Narrow : List ℕ → Type 0
+Narrow vs = (m : ℕ) → getD vs m 0 ≤ 4294967295
+
 -- what an unreadable line gives
 abbrev pub unreadable : ActLine
-unreadable = record { readable = false; act = 0; id = 0; k = 0; d = 0; coords = replicate maxFeatures (pos 0) }
+unreadable = record { readable = false; act = 0; id = 0; k = 0; stage = 0; stamp = 0; d = 0; coords = replicate maxFeatures (pos 0) }
 
 -- what readable values say, d of them coordinates
 abbrev pub lineOf : ℕ → List ℕ → ActLine
-lineOf d vs = record { readable = true; act = getD vs 0 0; id = getD vs 1 0; k = getD vs 2 0; d = d; coords = coordinates vs }
+lineOf d vs = record { readable = true; act = getD vs 0 0; id = getD vs 1 0; k = getD vs 2 0; stage = getD vs 3 0; stamp = getD vs 4 0; d = d; coords = coordinates vs }
 
 -- what a line says, where d coordinates are named
 unfoldable pub actOf : ℕ → List ℕ → ActLine

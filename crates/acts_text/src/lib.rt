@@ -12,6 +12,8 @@ pub struct ActLine {
     pub act: u32,
     pub id: u32,
     pub k: u32,
+    pub stage: u32,
+    pub stamp: u32,
     pub d: usize,
     pub coords: [i16; MAX_FEATURES],
 }

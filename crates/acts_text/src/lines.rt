@@ -1,9 +1,9 @@
-// Lines of values: leading columns `act id k`, then the coordinates.
+// Lines of values: leading columns `act id k stage stamp`, then the coordinates.
 ghost use mathlib.Core.Path.{_≡_};
 ghost use Prim.Native.Nat.{_+_, _≤_};
 ghost use lib.ListN.{length, drop};
 ghost use Rattle.acts_text.specs.Lines.{leading, maxFeatures, fieldLength, cell, cells, noneBad, readableCells};
-ghost use Rattle.acts_text.specs.Lines.{coordinates, unreadable, actOf};
+ghost use Rattle.acts_text.specs.Lines.{coordinates, Narrow, unreadable, lineOf, actOf};
 use crate::ActLine;
 use acts_fields::bytes::SPACE;
 use acts_fields::bytes::find;
@@ -17,8 +17,8 @@ use acts_fields::fields::read_signed;
 pub const LIMIT: usize = 256;
 // The most coordinates.
 pub const MAX_FEATURES: usize = 16;
-// The columns before the coordinates: act, id, k.
-pub const LEADING: usize = 3;
+// The columns before the coordinates: act, id, k, stage, stamp.
+pub const LEADING: usize = 5;
 // The columns of a line with the most coordinates.
 const COLUMNS: usize = LEADING + MAX_FEATURES;
 
@@ -34,7 +34,7 @@ fn field_end(line: &[u8], at: usize, n: usize) -> usize
     }
 }
 
-// The value of a field in column j: an act up to 3, `id` and `k` of 32 bits, then coordinates.
+// The value of a field in column j: an act up to 3, the other leading ones of 32 bits, then coordinates.
 fn read_cell(f: &[u8], j: usize) -> u64
     ensures { λ r. ⌜ (r ≡ cell j (now (f .entry))) × (r ≤ 4294967296) ⌝ }
 {
@@ -119,8 +119,28 @@ fn no_line() -> ActLine
         act: 0,
         id: 0,
         k: 0,
+        stage: 0,
+        stamp: 0,
         d: 0,
         coords: [0i16; MAX_FEATURES],
+    }
+}
+
+// What readable values say, d of them coordinates.
+fn line_of(v: &[u64], d: usize) -> ActLine
+    requires { ⌜ (length (now v) ≡ leading + maxFeatures) × Narrow (now v) ⌝ }
+    ensures { λ r. ⌜ r ≡ lineOf d (now (v .entry)) ⌝ }
+{
+    let coords = coordinates_of(v);
+    ActLine {
+        readable: true,
+        act: narrow(v[0]),
+        id: narrow(v[1]),
+        k: narrow(v[2]),
+        stage: narrow(v[3]),
+        stamp: narrow(v[4]),
+        d: d,
+        coords: coords,
     }
 }
 
@@ -138,13 +158,5 @@ pub fn read_act(line: &[u8], d: usize) -> ActLine
     if !readable_cells(&v) {
         return no_line();
     }
-    let coords = coordinates_of(&v);
-    ActLine {
-        readable: true,
-        act: narrow(v[0]),
-        id: narrow(v[1]),
-        k: narrow(v[2]),
-        d: d,
-        coords: coords,
-    }
+    line_of(&v, d)
 }

@@ -19,8 +19,8 @@ fn is_prefix(l: &[u8], t: &[u8]) -> bool
     true
 }
 
-// The bytes of `act id k`; behind them a coordinate takes 3 up to c9, and 4 from c10 on.
-const LEAD: usize = 8;
+// The bytes of `act id k stage stamp`; behind them a coordinate takes 3 up to c9, and 4 from c10 on.
+const LEAD: usize = 20;
 // The bytes of a line of ten names.
 const TEN: usize = LEAD + 30;
 
@@ -49,7 +49,7 @@ pub fn read_names(line: &[u8]) -> usize
 {
     if is_prefix(
         line,
-        b"act id k c0 c1 c2 c3 c4 c5 c6 c7 c8 c9 c10 c11 c12 c13 c14 c15",
+        b"act id k stage stamp c0 c1 c2 c3 c4 c5 c6 c7 c8 c9 c10 c11 c12 c13 c14 c15",
     ) {
         features_in(line.len())
     } else {

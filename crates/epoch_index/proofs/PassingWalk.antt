@@ -1,4 +1,4 @@
--- A question for C: a walk of the MIR, by hand, for any question that takes its criteria by value. The number k becomes the criteria; the shared slices are copied, the rows
+-- A question for C: a walk of the MIR, by hand, for any question that takes its criteria by value. The number k and the set of stages become the criteria; the shared slices are copied, the rows
 -- and the tally go to the callee, each at its own lifetime, share and ghost name, so both are given up for good. What the callee returns is returned.
 -- All that the walk knows of the callee is that it meets its contract. Assumes nothing.
 use mathlib.Core.Path.{_≡_, refl}
@@ -60,7 +60,7 @@ abbrev Y : RattleType
 Y = Tally′.the-row
 
 abbrev stayed : Stays (f.ended .signature .params) (f.ended .kept)
-stayed = (stay-none-slice (0 ∷ []) tt (plain (λ _. u8)) yes, (stay-none-slice (1 ∷ []) tt (plain (λ _. i16)) yes, (stay-none (λ _. usize) yes, (gave-slice (2 ∷ []) tt (plain (λ _. R)), (gave-ref (3 ∷ []) tt (plain (λ _. Y)), tt)))))
+stayed = (stay-none-slice (0 ∷ []) tt (plain (λ _. u8)) yes, (stay-none-slice (1 ∷ []) tt (plain (λ _. i16)) yes, (stay-none (λ _. usize) yes, (stay-none (λ _. u8) yes, (gave-slice (2 ∷ []) tt (plain (λ _. R)), (gave-ref (3 ∷ []) tt (plain (λ _. Y)), tt))))))
 
 -- the types of the locals that hold references
 abbrev bytesT : Ty
@@ -91,18 +91,18 @@ module _ (name : Name) where
 
   abbrev t-1 : Body
   t-1 =
-      seq (assign (place 6 []) (aggregate (copy (place 3 []) ∷ [])))
-      (seq (assign (place 7 []) (addrOf (place 4 (field 0 ∷ deref Row″.mir ∷ []))))
-      (seq (assign (place 8 []) (aggregate (copy (place 7 []) ∷ copy (place 4 (field 1 ∷ [])) ∷ [])))
-      (seq (assign (place 9 []) (addrOf (place 5 (deref Tally″.mir ∷ []))))
-      (seq (call name (copy (place 1 []) ∷ copy (place 2 []) ∷ copy (place 6 []) ∷ copy (place 8 []) ∷ copy (place 9 []) ∷ []) (place 0 [])) t-6))))
+      seq (assign (place 7 []) (aggregate (copy (place 3 []) ∷ copy (place 4 []) ∷ [])))
+      (seq (assign (place 8 []) (addrOf (place 5 (field 0 ∷ deref Row″.mir ∷ []))))
+      (seq (assign (place 9 []) (aggregate (copy (place 8 []) ∷ copy (place 5 (field 1 ∷ [])) ∷ [])))
+      (seq (assign (place 10 []) (addrOf (place 6 (deref Tally″.mir ∷ []))))
+      (seq (call name (copy (place 1 []) ∷ copy (place 2 []) ∷ copy (place 7 []) ∷ copy (place 9 []) ∷ copy (place 10 []) ∷ []) (place 0 [])) t-6))))
 
   abbrev pub function : Fn
   function = record {
     lifetimes = 4;
     outlives = [];
-    params = 5;
-    locals = local N′.mir valueLocal ∷ local bytesT valueLocal ∷ local pointT valueLocal ∷ local (tyInt w64) valueLocal ∷ local rowsT valueLocal ∷ local tallyT valueLocal ∷ local U′.mir valueLocal
+    params = 6;
+    locals = local N′.mir valueLocal ∷ local bytesT valueLocal ∷ local pointT valueLocal ∷ local (tyInt w64) valueLocal ∷ local (tyInt w8) valueLocal ∷ local rowsT valueLocal ∷ local tallyT valueLocal ∷ local U′.mir valueLocal
         ∷ local rowT′ valueLocal ∷ local rowsT′ valueLocal ∷ local tallyT′ valueLocal ∷ [];
     body = t-1;
   }
@@ -114,7 +114,7 @@ module _ (name : Name) (Ends : List ℕ → Question → List Row → Tally → 
     clauses κs a = record {
       ghost = Unit {0};
       requires = λ g. emp 𝓤;
-      ensures = λ g r z. fact 𝓤 (Ends (now (a .0)) (nearestOf (now (a .1 .0)) (a .1 .1 .0)) (now (a .1 .1 .1 .0)) (now (a .1 .1 .1 .1 .0)) r (now (z .1 .1 .1 .0)) (now (z .1 .1 .1 .1 .0)));
+      ensures = λ g r z. fact 𝓤 (Ends (now (a .0)) (nearestOf (now (a .1 .0)) (a .1 .1 .0) (a .1 .1 .1 .0)) (now (a .1 .1 .1 .1 .0)) (now (a .1 .1 .1 .1 .1 .0)) r (now (z .1 .1 .1 .1 .0)) (now (z .1 .1 .1 .1 .1 .0)));
     }
 
     abbrev callee-clauses : Clauses 𝓤 callee.ended
@@ -130,7 +130,7 @@ module _ (name : Name) (Ends : List ℕ → Question → List Row → Tally → 
     Asks = tripleOf 𝓤 H A callee.signature (closing 𝓤 H A callee.ended (callee-clauses 𝓤))
 
   module _ {M : Type 1} (𝓤 : URA M) (H : Heap 𝓤) (A : Atoms 𝓤) (W : Given 𝓤 H A) (at-mem : Memory → SProp 𝓤) (run : Routine → Fun 𝓤) (κ₀ κ₁ κ₂ κ₃ : Lft) (q₀ q₁ q₂ q₃ : Share)
-      (xi : RefT (List ℕ)) (xp : RefT (List (i16 .Denot))) (n : ℕ) (b o : ℕ) (γ : GName) (xs : List Row) (bt ot : ℕ) (γt : GName) (h : Tally) where
+      (xi : RefT (List ℕ)) (xp : RefT (List (i16 .Denot))) (n g : ℕ) (b o : ℕ) (γ : GName) (xs : List Row) (bt ot : ℕ) (γt : GName) (h : Tally) where
     abbrev xr : RefT (List Row)
     xr = record { ptr = (b, o); name = γ; now = xs }
 
@@ -138,7 +138,7 @@ module _ (name : Name) (Ends : List ℕ → Question → List Row → Tally → 
     xt = record { ptr = (bt, ot); name = γt; now = h }
 
     abbrev what : Criteria
-    what = record { k = n }
+    what = record { k = n; stages = g }
 
     -- the machine values of the parameters, and of the what
     abbrev si : Val
@@ -150,18 +150,21 @@ module _ (name : Name) (Ends : List ℕ → Question → List Row → Tally → 
     abbrev sn : Val
     sn = vint w64 n
 
+    abbrev sg : Val
+    sg = vint w8 g
+
     abbrev sr : Val
     sr = sliceVal (b, o) (length xs)
 
     abbrev sq : Val
     sq = LL.val U.the-type U′.the-laws what
 
-    module _ (pi : Is (ShrSlice (named 0) κ₀ u8) xi (si ∷ [])) (pp : Is (ShrSlice (named 1) κ₁ i16) xp (sp ∷ [])) (pn : Is usize n (sn ∷ [])) (room : Room R (length xs)) where
-      abbrev a : RefT (List ℕ) × (RefT (List (i16 .Denot)) × (ℕ × (RefT (List Row) × (RefT Tally × Unit {0}))))
-      a = (xi, (xp, (n, (xr, (xt, tt)))))
+    module _ (pi : Is (ShrSlice (named 0) κ₀ u8) xi (si ∷ [])) (pp : Is (ShrSlice (named 1) κ₁ i16) xp (sp ∷ [])) (pn : Is usize n (sn ∷ [])) (pg : Is u8 g (sg ∷ [])) (room : Room R (length xs)) where
+      abbrev a : RefT (List ℕ) × (RefT (List (i16 .Denot)) × (ℕ × (ℕ × (RefT (List Row) × (RefT Tally × Unit {0})))))
+      a = (xi, (xp, (n, (g, (xr, (xt, tt))))))
 
-      abbrev vals : List Val × (List Val × (List Val × (List Val × (List Val × Unit {0}))))
-      vals = (si ∷ [], (sp ∷ [], (sn ∷ [], (sr ∷ [], (vptr bt ot ∷ [], tt)))))
+      abbrev vals : List Val × (List Val × (List Val × (List Val × (List Val × (List Val × Unit {0})))))
+      vals = (si ∷ [], (sp ∷ [], (sn ∷ [], (sg ∷ [], (sr ∷ [], (vptr bt ot ∷ [], tt))))))
 
       -- the same as the callee takes them
       abbrev a′ : RefT (List ℕ) × (RefT (List (i16 .Denot)) × (Criteria × (RefT (List Row) × (RefT Tally × Unit {0}))))
@@ -177,7 +180,7 @@ module _ (name : Name) (Ends : List ℕ → Question → List Row → Tally → 
       qs = (q₀, (q₁, (q₂, (q₃, tt))))
 
       abbrev pq : Is U.the-row what (sq ∷ [])
-      pq = LL.owes U.the-type U′.the-laws what (pn, tt)
+      pq = LL.owes U.the-type U′.the-laws what (pn, (pg, tt))
 
       abbrev Entered : SProp 𝓤
       Entered = onEntry 𝓤 H A f.signature κs qs a vals
@@ -203,10 +206,10 @@ module _ (name : Name) (Ends : List ℕ → Question → List Row → Tally → 
 
       goes-callee : ent 𝓤 Entered (sep 𝓤 (Asks 𝓤 H A at-mem run .pre to-callee) (⋆ 𝓤 H A (Kept ∷ [])))
       goes-callee =
-          qed W (Tokens ∷ ‵ (owns (ShrSlice (named 0) κ₀ u8 ∷ ShrSlice (named 1) κ₁ i16 ∷ usize ∷ MutSlice (named 2) κ₂ R ∷ MutRef (named 3) κ₃ Y ∷ []) a vals) ∷ []) ∵
+          qed W (Tokens ∷ ‵ (owns (ShrSlice (named 0) κ₀ u8 ∷ ShrSlice (named 1) κ₁ i16 ∷ usize ∷ u8 ∷ MutSlice (named 2) κ₂ R ∷ MutRef (named 3) κ₃ Y ∷ []) a vals) ∷ []) ∵
           move ! (1 ∷ []) $ fsplit ! $ use1 W (‵ Index ⊛ ‵ Index) (shr-slice-copy 𝓤 H A W (named 0) κ₀ u8 .twice xi (si ∷ [])) $ split ! $
           move ! (2 ∷ []) $ fsplit ! $ use1 W (‵ Point ⊛ ‵ Point) (shr-slice-copy 𝓤 H A W (named 1) κ₁ i16 .twice xp (sp ∷ [])) $ split ! $
-          move ! (2 ∷ []) $ fsplit ! $ drop ! $
+          move ! (2 ∷ []) $ fsplit ! $ drop ! $ fsplit ! $ drop ! $
           -- [rows and tally; point; point; index; index; tokens]
           owned ! U.the-row (Is U.the-row) (LL.makes U.the-type U′.the-plain 𝓤 H A) what _ pq $ fjoin ! $ move ! (1 ∷ 0 ∷ []) $ fjoin ! $ move ! (2 ∷ 0 ∷ []) $ fjoin ! $
           -- [what the callee takes; point; index; tokens]
@@ -216,85 +219,86 @@ module _ (name : Name) (Ends : List ℕ → Question → List Row → Tally → 
       abbrev Had : Answer → Val → List Row → Tally → List (Item 𝓤) → List (Item 𝓤)
       Had r w zs t Γ = ‵ (N.the-row .own r (w ∷ [])) ∷ Tokens ∷ ‵ (fres γt (Y .coded .code t)) ∷ ‵ (finally R γ zs) ∷ Kept ∷ Γ
 
-      exits : (r : Answer) (w : Val) (zs : List Row) (t : Tally) → length zs ≡ length xs → Ends (xi .now) (nearestOf (xp .now) n) xs h r zs t → ent 𝓤 (⋆ 𝓤 H A (Had r w zs t [])) (Post w)
+      exits : (r : Answer) (w : Val) (zs : List Row) (t : Tally) → length zs ≡ length xs → Ends (xi .now) (nearestOf (xp .now) n g) xs h r zs t → ent 𝓤 (⋆ 𝓤 H A (Had r w zs t [])) (Post w)
       exits r w zs t len e =
           qed W (Had r w zs t []) ∵
-          suffices ! _ (ends-at 𝓤 H A f.ended stayed (clauses 𝓤) W ((κs, qs, tt, a, vals), tt) w r (tt, (tt, (tt, (zs, (t, tt))))) (tt, (tt, (tt, (len, (tt, tt)))))) $ says ! e $
+          suffices ! _ (ends-at 𝓤 H A f.ended stayed (clauses 𝓤) W ((κs, qs, tt, a, vals), tt) w r (tt, (tt, (tt, (tt, (zs, (t, tt)))))) (tt, (tt, (tt, (tt, (len, (tt, tt))))))) $ says ! e $
           move ! (1 ∷ []) $ frame ! $ nothing ! $
           -- [true; the answer; the tally's value; the rows' list; the shared slices]
-          move ! (2 ∷ 0 ∷ []) $ fjoin ! $ move ! (2 ∷ 0 ∷ []) $ fjoin ! $ owned ! usize (Is usize) (uint-makes 𝓤 H A W w64) n _ pn $ fjoin ! $
+          move ! (2 ∷ 0 ∷ []) $ fjoin ! $ move ! (2 ∷ 0 ∷ []) $ fjoin ! $ owned ! u8 (Is u8) (uint-makes 𝓤 H A W w8) g _ pg $ fjoin ! $ owned ! usize (Is usize) (uint-makes 𝓤 H A W w64) n _ pn $ fjoin ! $
           move ! (2 ∷ []) $ split ! $ move ! (1 ∷ 2 ∷ []) $ fjoin ! $ move ! (1 ∷ 0 ∷ []) $ fjoin ! $ frame ! $ done !
 
       module _ (C : Calls 𝓤 H) (Λ : Loops 𝓤 H) (fm : FmC 𝓤 H (W .laws) C) (known : Triple 𝓤 (C name) (Asks 𝓤 H A at-mem run)) where
-        module _ (l₀ l₁ l₂ l₃ l₄ l₅ l₆ l₇ l₈ l₉ : ℕ) where
+        module _ (l₀ l₁ l₂ l₃ l₄ l₅ l₆ l₇ l₈ l₉ l₁₀ : ℕ) where
           abbrev En : Env 𝓤 H
-          En = (N′.mir, l₀) ∷ (bytesT, l₁) ∷ (pointT, l₂) ∷ (tyInt w64, l₃) ∷ (rowsT, l₄) ∷ (tallyT, l₅) ∷ (U′.mir, l₆) ∷ (rowT′, l₇) ∷ (rowsT′, l₈) ∷ (tallyT′, l₉) ∷ []
+          En = (N′.mir, l₀) ∷ (bytesT, l₁) ∷ (pointT, l₂) ∷ (tyInt w64, l₃) ∷ (tyInt w8, l₄) ∷ (rowsT, l₅) ∷ (tallyT, l₆) ∷ (U′.mir, l₇) ∷ (rowT′, l₈) ∷ (rowsT′, l₉) ∷ (tallyT′, l₁₀) ∷ []
 
-          -- the locals, with an item for each of _0 to _6
-          abbrev Locals : Item 𝓤 → Item 𝓤 → Item 𝓤 → Item 𝓤 → Item 𝓤 → Item 𝓤 → Item 𝓤 → List (Item 𝓤) → List (Item 𝓤)
-          Locals j₀ j₁ j₂ j₃ j₄ j₅ j₆ Γ = ‵ (froom tallyT′ l₉ 0) ∷ ‵ (fdies tallyT′ l₉) ∷ ‵ (froom rowsT′ l₈ 0) ∷ ‵ (fdies rowsT′ l₈) ∷ ‵ (froom rowT′ l₇ 0) ∷ ‵ (fdies rowT′ l₇) ∷ j₆ ∷ ‵ (fdies U′.mir l₆)
-              ∷ j₅ ∷ ‵ (fdies tallyT l₅) ∷ j₄ ∷ ‵ (fdies rowsT l₄) ∷ j₃ ∷ ‵ (fdies (tyInt w64) l₃) ∷ j₂ ∷ ‵ (fdies pointT l₂) ∷ j₁ ∷ ‵ (fdies bytesT l₁) ∷ j₀ ∷ ‵ (fdies N′.mir l₀) ∷ Γ
+          -- the locals, with an item for each of _0 to _7
+          abbrev Locals : Item 𝓤 → Item 𝓤 → Item 𝓤 → Item 𝓤 → Item 𝓤 → Item 𝓤 → Item 𝓤 → Item 𝓤 → List (Item 𝓤) → List (Item 𝓤)
+          Locals j₀ j₁ j₂ j₃ j₄ j₅ j₆ j₇ Γ = ‵ (froom tallyT′ l₁₀ 0) ∷ ‵ (fdies tallyT′ l₁₀) ∷ ‵ (froom rowsT′ l₉ 0) ∷ ‵ (fdies rowsT′ l₉) ∷ ‵ (froom rowT′ l₈ 0) ∷ ‵ (fdies rowT′ l₈) ∷ j₇ ∷ ‵ (fdies U′.mir l₇)
+              ∷ j₆ ∷ ‵ (fdies tallyT l₆) ∷ j₅ ∷ ‵ (fdies rowsT l₅) ∷ j₄ ∷ ‵ (fdies (tyInt w8) l₄) ∷ j₃ ∷ ‵ (fdies (tyInt w64) l₃) ∷ j₂ ∷ ‵ (fdies pointT l₂) ∷ j₁ ∷ ‵ (fdies bytesT l₁) ∷ j₀ ∷ ‵ (fdies N′.mir l₀) ∷ Γ
 
           abbrev Passed : Item 𝓤 → Item 𝓤 → List (Item 𝓤) → List (Item 𝓤)
-          Passed j₀ = Locals j₀ (‵ (fat fullShare bytesT l₁ 0 si)) (‵ (fat fullShare pointT l₂ 0 sp)) (‵ (fat fullShare (tyInt w64) l₃ 0 sn)) (‵ (fat fullShare rowsT l₄ 0 sr)) (‵ (fat fullShare tallyT l₅ 0 (vptr bt ot)))
+          Passed j₀ = Locals j₀ (‵ (fat fullShare bytesT l₁ 0 si)) (‵ (fat fullShare pointT l₂ 0 sp)) (‵ (fat fullShare (tyInt w64) l₃ 0 sn)) (‵ (fat fullShare (tyInt w8) l₄ 0 sg)) (‵ (fat fullShare rowsT l₅ 0 sr)) (‵ (fat fullShare tallyT l₆ 0 (vptr bt ot)))
 
           -- the answer is returned
-          leaves : (r : Answer) (w : Val) (zs : List Row) (t : Tally) → length zs ≡ length xs → Ends (xi .now) (nearestOf (xp .now) n) xs h r zs t
-              → ent 𝓤 (⋆ 𝓤 H A (Had r w zs t (Passed (‵ (fat fullShare N′.mir l₀ 0 w)) (‵ (fat fullShare U′.mir l₆ 0 sq)) []))) (Wp 𝓤 H C Λ En (t-6 name) (atReturn 𝓤 H En Post))
+          leaves : (r : Answer) (w : Val) (zs : List Row) (t : Tally) → length zs ≡ length xs → Ends (xi .now) (nearestOf (xp .now) n g) xs h r zs t
+              → ent 𝓤 (⋆ 𝓤 H A (Had r w zs t (Passed (‵ (fat fullShare N′.mir l₀ 0 w)) (‵ (fat fullShare U′.mir l₇ 0 sq)) []))) (Wp 𝓤 H C Λ En (t-6 name) (atReturn 𝓤 H En Post))
           leaves r w zs t len e =
-              qed W (Had r w zs t (Passed (‵ (fat fullShare N′.mir l₀ 0 w)) (‵ (fat fullShare U′.mir l₆ 0 sq)) [])) ∵ exec ! C Λ En (t-6 name) (atRet En Post) $
-              returns ! (look ! 23 refl) $ forget ! 11 refl $ forget ! 13 refl $ forget ! 15 refl $ forget ! 17 refl $ forget ! 19 refl $ forget ! 21 refl $ forget ! 23 refl $
-              move ! (23 ∷ 24 ∷ []) $ free1 ! $ move ! (21 ∷ 22 ∷ []) $ free1 ! $ move ! (19 ∷ 20 ∷ []) $ free1 ! $ move ! (17 ∷ 18 ∷ []) $ free1 ! $ move ! (15 ∷ 16 ∷ []) $ free1 ! $
+              qed W (Had r w zs t (Passed (‵ (fat fullShare N′.mir l₀ 0 w)) (‵ (fat fullShare U′.mir l₇ 0 sq)) [])) ∵ exec ! C Λ En (t-6 name) (atRet En Post) $
+              returns ! (look ! 25 refl) $ forget ! 11 refl $ forget ! 13 refl $ forget ! 15 refl $ forget ! 17 refl $ forget ! 19 refl $ forget ! 21 refl $ forget ! 23 refl $ forget ! 25 refl $
+              move ! (25 ∷ 26 ∷ []) $ free1 ! $ move ! (23 ∷ 24 ∷ []) $ free1 ! $ move ! (21 ∷ 22 ∷ []) $ free1 ! $ move ! (19 ∷ 20 ∷ []) $ free1 ! $ move ! (17 ∷ 18 ∷ []) $ free1 ! $ move ! (15 ∷ 16 ∷ []) $ free1 ! $
               move ! (13 ∷ 14 ∷ []) $ free1 ! $ move ! (11 ∷ 12 ∷ []) $ free1 ! $ move ! (9 ∷ 10 ∷ []) $ free1 ! $ move ! (7 ∷ 8 ∷ []) $ free1 ! $ move ! (5 ∷ 6 ∷ []) $ free1 ! $ free0 ! $
               by ! (exits r w zs t len e)
 
           -- the what is made, and the callee asked
-          asks : ent 𝓤 (⋆ 𝓤 H A (Passed (‵ (froom N′.mir l₀ 0)) (‵ (froom U′.mir l₆ 0)) (raw Entered ∷ []))) (Wp 𝓤 H C Λ En (t-1 name) (atReturn 𝓤 H En Post))
+          asks : ent 𝓤 (⋆ 𝓤 H A (Passed (‵ (froom N′.mir l₀ 0)) (‵ (froom U′.mir l₇ 0)) (raw Entered ∷ []))) (Wp 𝓤 H C Λ En (t-1 name) (atReturn 𝓤 H En Post))
           asks =
-              qed W (Passed (‵ (froom N′.mir l₀ 0)) (‵ (froom U′.mir l₆ 0)) (raw Entered ∷ [])) ∵ exec ! C Λ En (t-1 name) (atRet En Post) $
-              assigns ! (agg ! (and-then ! (load ! (from ! (stop !)) (look ! 12 refl)) (no-more !))) (from ! (stop !)) (init ! 6 refl (LL.lawful U.the-type U′.the-laws 𝓤 H A W .typed what _ pq .0)) $
+              qed W (Passed (‵ (froom N′.mir l₀ 0)) (‵ (froom U′.mir l₇ 0)) (raw Entered ∷ [])) ∵ exec ! C Λ En (t-1 name) (atRet En Post) $
+              assigns ! (agg ! (and-then ! (load ! (from ! (stop !)) (look ! 14 refl)) (and-then ! (load ! (from ! (stop !)) (look ! 12 refl)) (no-more !)))) (from ! (stop !)) (init ! 6 refl (LL.lawful U.the-type U′.the-laws 𝓤 H A W .typed what _ pq .0)) $
               assigns ! (addr ! (from ! (fld ! refl (hop ! (look-in ! 10 (sub ! 0 refl (whole !))) (stop !))))) (from ! (stop !)) (init ! 4 refl (tt, tt)) $
               assigns ! (agg ! (and-then ! (load ! (from ! (stop !)) (look ! 4 refl)) (and-then ! (load ! (from ! (fld ! refl (stop !))) (look-in ! 10 (sub ! 1 refl (whole !)))) (no-more !)))) (from ! (stop !)) (init ! 2 refl (tt, (tt, (record { fits = room .0 }, tt)))) $
               assigns ! (addr ! (from ! (hop ! (look ! 8 refl) (stop !)))) (from ! (stop !)) (init ! 0 refl (tt, tt)) $
-              move ! (20 ∷ []) $ use1 W (raw (Asks 𝓤 H A at-mem run .pre to-callee) ⊛ Kept) goes-callee $ split ! $
+              move ! (22 ∷ []) $ use1 W (raw (Asks 𝓤 H A at-mem run .pre to-callee) ⊛ Kept) goes-callee $ split ! $
               -- [what the callee takes; Kept; _9; …]
               calls-at ! fm (Asks 𝓤 H A at-mem run) known to-callee
-              (and-then ! (load ! (from ! (stop !)) (look ! 18 refl)) (and-then ! (load ! (from ! (stop !)) (look ! 16 refl)) (and-then ! (load ! (from ! (stop !)) (look ! 8 refl)) (and-then ! (load ! (from ! (stop !)) (look ! 4 refl)) (and-then ! (load ! (from ! (stop !)) (look ! 2 refl)) (no-more !)))))) (λ w.
+              (and-then ! (load ! (from ! (stop !)) (look ! 20 refl)) (and-then ! (load ! (from ! (stop !)) (look ! 18 refl)) (and-then ! (load ! (from ! (stop !)) (look ! 8 refl)) (and-then ! (load ! (from ! (stop !)) (look ! 4 refl)) (and-then ! (load ! (from ! (stop !)) (look ! 2 refl)) (no-more !)))))) (λ w.
               use1 W (later (some (λ (r : Answer). (Tokens ⊛ ‵ (N.the-row .own r (w ∷ []))) ⊛ raw (ensured 𝓤 H A callee.ended (callee-clauses 𝓤) κs a′ tt r)))) (id⊢ 𝓤 _) $ await ! tt $ pick ! (λ r.
-              split ! $ move ! (1 ∷ []) $ use1 W (some (λ (zs : Unit {0} × (Unit {0} × (Unit {0} × (List Row × (Tally × Unit {0}))))). ‵ (lasts callee.ended κs a′ zs) ⊛ raw (fact 𝓤 (Ends (xi .now) (nearestOf (xp .now) n) xs h r (zs .1 .1 .1 .0) (zs .1 .1 .1 .1 .0))))) (id⊢ 𝓤 _) $ pick ! (λ zs.
-              split ! $ move ! (1 ∷ []) $ heard ! (Ends (xi .now) (nearestOf (xp .now) n) xs h r (zs .1 .1 .1 .0) (zs .1 .1 .1 .1 .0)) (λ e. fsplit ! $ drop ! $ fsplit ! $ drop ! $ fsplit ! $ drop ! $
+              split ! $ move ! (1 ∷ []) $ use1 W (some (λ (zs : Unit {0} × (Unit {0} × (Unit {0} × (List Row × (Tally × Unit {0}))))). ‵ (lasts callee.ended κs a′ zs) ⊛ raw (fact 𝓤 (Ends (xi .now) (nearestOf (xp .now) n g) xs h r (zs .1 .1 .1 .0) (zs .1 .1 .1 .1 .0))))) (id⊢ 𝓤 _) $ pick ! (λ zs.
+              split ! $ move ! (1 ∷ []) $ heard ! (Ends (xi .now) (nearestOf (xp .now) n g) xs h r (zs .1 .1 .1 .0) (zs .1 .1 .1 .1 .0)) (λ e. fsplit ! $ drop ! $ fsplit ! $ drop ! $ fsplit ! $ drop ! $
               fsplit ! $ fsplit ! $ move ! (1 ∷ []) $ feqL ! (λ len. move ! (1 ∷ []) $ fsplit ! $ move ! (1 ∷ []) $ drop ! $
               -- [the tally's value; the rows' list; tokens and answer; Kept; _9; …]
               move ! (2 ∷ []) $ split ! $ move ! (1 ∷ []) $ peeks ! N.the-row (Is N.the-row) (shows 𝓤 H A N.the-row) r (w ∷ []) (λ ans.
               -- [the answer; tokens; the tally's value; the rows' list; Kept; _9; …]
-              land ! (from ! (stop !)) (init ! 23 refl (LL.lawful N.the-type N′.the-laws 𝓤 H A W .typed r _ ans .0)) $
+              land ! (from ! (stop !)) (init ! 25 refl (LL.lawful N.the-type N′.the-laws 𝓤 H A W .typed r _ ans .0)) $
               forget ! 5 refl $ forget ! 7 refl $ forget ! 9 refl $
               by ! (leaves r w (zs .1 .1 .1 .0) (zs .1 .1 .1 .1 .0) len e)))))))
 
-          passes : Sq W (Locals (‵ (froom N′.mir l₀ 0)) (‵ (froom bytesT l₁ 0)) (‵ (froom pointT l₂ 0)) (‵ (froom (tyInt w64) l₃ 0)) (‵ (froom rowsT l₄ 0)) (‵ (froom tallyT l₅ 0)) (‵ (froom U′.mir l₆ 0)) (raw Entered ∷ []))
-              (params′ En (si ∷ sp ∷ sn ∷ sr ∷ vptr bt ot ∷ []) (runs C Λ En (function name .body) (atRet En Post)))
+          passes : Sq W (Locals (‵ (froom N′.mir l₀ 0)) (‵ (froom bytesT l₁ 0)) (‵ (froom pointT l₂ 0)) (‵ (froom (tyInt w64) l₃ 0)) (‵ (froom (tyInt w8) l₄ 0)) (‵ (froom rowsT l₅ 0)) (‵ (froom tallyT l₆ 0)) (‵ (froom U′.mir l₇ 0)) (raw Entered ∷ []))
+              (params′ En (si ∷ sp ∷ sn ∷ sg ∷ sr ∷ vptr bt ot ∷ []) (runs C Λ En (function name .body) (atRet En Post)))
           passes =
-              params1 ! $ pass1 ! (init ! 16 refl (shr-slice-lawful 𝓤 H A W (named 0) κ₀ u8 .typed xi _ pi .0)) $ pass1 ! (init ! 14 refl (shr-slice-lawful 𝓤 H A W (named 1) κ₁ i16 .typed xp _ pp .0)) $
-              pass1 ! (init ! 12 refl (tt, record { fits = pn .1 })) $ pass1 ! (init ! 10 refl (tt, (tt, (record { fits = room .0 }, tt)))) $ pass1 ! (init ! 8 refl (tt, tt)) $ pass0 ! $ by ! asks
+              params1 ! $ pass1 ! (init ! 18 refl (shr-slice-lawful 𝓤 H A W (named 0) κ₀ u8 .typed xi _ pi .0)) $ pass1 ! (init ! 16 refl (shr-slice-lawful 𝓤 H A W (named 1) κ₁ i16 .typed xp _ pp .0)) $
+              pass1 ! (init ! 14 refl (tt, record { fits = pn .1 })) $ pass1 ! (init ! 12 refl (tt, record { fits = pg .1 })) $ pass1 ! (init ! 10 refl (tt, (tt, (record { fits = room .0 }, tt)))) $ pass1 ! (init ! 8 refl (tt, tt)) $ pass0 ! $ by ! asks
 
-        walk : ent 𝓤 Entered (WpFn 𝓤 H C Λ (function name) (si ∷ sp ∷ sn ∷ sr ∷ vptr bt ot ∷ []) Post)
+        walk : ent 𝓤 Entered (WpFn 𝓤 H C Λ (function name) (si ∷ sp ∷ sn ∷ sg ∷ sr ∷ vptr bt ot ∷ []) Post)
         walk =
-            qed W (raw Entered ∷ []) ∵ enter ! C Λ (function name) (si ∷ sp ∷ sn ∷ sr ∷ vptr bt ot ∷ []) _ $
-            alloc1 ! (λ l₀. alloc1 ! (λ l₁. alloc1 ! (λ l₂. alloc1 ! (λ l₃. alloc1 ! (λ l₄. alloc1 ! (λ l₅. alloc1 ! (λ l₆. alloc1 ! (λ l₇. alloc1 ! (λ l₈. alloc1 ! (λ l₉. alloc0 ! $
-            passes l₀ l₁ l₂ l₃ l₄ l₅ l₆ l₇ l₈ l₉))))))))))
+            qed W (raw Entered ∷ []) ∵ enter ! C Λ (function name) (si ∷ sp ∷ sn ∷ sg ∷ sr ∷ vptr bt ot ∷ []) _ $
+            alloc1 ! (λ l₀. alloc1 ! (λ l₁. alloc1 ! (λ l₂. alloc1 ! (λ l₃. alloc1 ! (λ l₄. alloc1 ! (λ l₅. alloc1 ! (λ l₆. alloc1 ! (λ l₇. alloc1 ! (λ l₈. alloc1 ! (λ l₉. alloc1 ! (λ l₁₀. alloc0 ! $
+            passes l₀ l₁ l₂ l₃ l₄ l₅ l₆ l₇ l₈ l₉ l₁₀)))))))))))
 
   module _ {M : Type 1} (𝓤 : URA M) (H : Heap 𝓤) (A : Atoms 𝓤) (W : Given 𝓤 H A) (at-mem : Memory → SProp 𝓤) (run : Routine → Fun 𝓤) where
     question-walks : (C : Calls 𝓤 H) (Λ : Loops 𝓤 H) → FmC 𝓤 H (W .laws) C → Triple 𝓤 (C name) (Asks 𝓤 H A at-mem run)
         → Walks 𝓤 H A f.ended stayed (WpFn 𝓤 H C Λ (function name)) (clauses 𝓤)
-    question-walks C Λ fm known = walked 𝓤 H A f.ended stayed (clauses 𝓤) (WpFn 𝓤 H C Λ (function name)) (λ κs. (slice-vals, (slice-vals, (uint-vals w64, (slice-vals, (ptr-vals, tt))))))
-        (λ κs. (shr-slice-tells (named 0) (κs .0) u8, (shr-slice-tells (named 1) (κs .1 .0) i16, (uint-tells w64, (mut-slice-tells (named 2) (κs .1 .1 .0) R, (mut-tells (named 3) (κs .1 .1 .1 .0) Y, tt))))))
+    question-walks C Λ fm known = walked 𝓤 H A f.ended stayed (clauses 𝓤) (WpFn 𝓤 H C Λ (function name)) (λ κs. (slice-vals, (slice-vals, (uint-vals w64, (uint-vals w8, (slice-vals, (ptr-vals, tt)))))))
+        (λ κs. (shr-slice-tells (named 0) (κs .0) u8, (shr-slice-tells (named 1) (κs .1 .0) i16, (uint-tells w64, (uint-tells w8, (mut-slice-tells (named 2) (κs .1 .1 .0) R, (mut-tells (named 3) (κs .1 .1 .1 .0) Y, tt)))))))
         (λ κs qs bounds a _ are. via 𝓤 _ (fst∗ 𝓤 _ (emp 𝓤)) (walk 𝓤 H A W at-mem run (κs .0) (κs .1 .0) (κs .1 .1 .0) (κs .1 .1 .1 .0) (qs .0) (qs .1 .0) (qs .1 .1 .0) (qs .1 .1 .1 .0)
-        (a .0) (a .1 .0) (a .1 .1 .0) (a .1 .1 .1 .0 .ptr .0) (a .1 .1 .1 .0 .ptr .1) (a .1 .1 .1 .0 .name) (a .1 .1 .1 .0 .now) (a .1 .1 .1 .1 .0 .ptr .0) (a .1 .1 .1 .1 .0 .ptr .1) (a .1 .1 .1 .1 .0 .name) (a .1 .1 .1 .1 .0 .now)
-        (are .0) (are .1 .0) (are .1 .1 .0) (are .1 .1 .1 .0 .0 .1) C Λ fm known))
+        (a .0) (a .1 .0) (a .1 .1 .0) (a .1 .1 .1 .0) (a .1 .1 .1 .1 .0 .ptr .0) (a .1 .1 .1 .1 .0 .ptr .1) (a .1 .1 .1 .1 .0 .name) (a .1 .1 .1 .1 .0 .now)
+        (a .1 .1 .1 .1 .1 .0 .ptr .0) (a .1 .1 .1 .1 .1 .0 .ptr .1) (a .1 .1 .1 .1 .1 .0 .name) (a .1 .1 .1 .1 .1 .0 .now)
+        (are .0) (are .1 .0) (are .1 .1 .0) (are .1 .1 .1 .0) (are .1 .1 .1 .1 .0 .0 .1) C Λ fm known))
 
   pub question-meets : {M : Type 1} (𝓤 : URA M) (H : Heap 𝓤) (A : Atoms 𝓤) → Given 𝓤 H A → (at-mem : Memory → SProp 𝓤) (run : Routine → Fun 𝓤) (𝓣 : Tables 𝓤 H)
       → Triple 𝓤 (𝓣 .C name) (Asks 𝓤 H A at-mem run) → Meets 𝓤 H A f.signature (WpFn 𝓤 H (𝓣 .C) (𝓣 .Λ) (function name)) (closing 𝓤 H A f.ended (clauses 𝓤))
   question-meets 𝓤 H A W at-mem run 𝓣 known =
       walk-meets 𝓤 H A f.ended stayed W
-      (goes-none-slice 𝓤 H A W 4 (0 ∷ []) tt (plain (λ _. u8)) yes, (goes-none-slice 𝓤 H A W 4 (1 ∷ []) tt (plain (λ _. i16)) yes, (goes-none 𝓤 H A W 4 (λ _. usize) yes (λ κs x f. refl), (goes-gave-slice 𝓤 H A W 4 2 tt (plain (λ _. R)), (goes-gave-ref 𝓤 H A W 4 3 tt (plain (λ _. Y)), tt)))))
+      (goes-none-slice 𝓤 H A W 4 (0 ∷ []) tt (plain (λ _. u8)) yes, (goes-none-slice 𝓤 H A W 4 (1 ∷ []) tt (plain (λ _. i16)) yes, (goes-none 𝓤 H A W 4 (λ _. usize) yes (λ κs x f. refl), (goes-none 𝓤 H A W 4 (λ _. u8) yes (λ κs x f. refl), (goes-gave-slice 𝓤 H A W 4 2 tt (plain (λ _. R)), (goes-gave-ref 𝓤 H A W 4 3 tt (plain (λ _. Y)), tt))))))
       (clauses 𝓤) (WpFn 𝓤 H (𝓣 .C) (𝓣 .Λ) (function name)) (WpFn-mono 𝓤 H (W .laws) 𝓣 (function name)) (question-walks 𝓤 H A W at-mem run (𝓣 .C) (𝓣 .Λ) (fmOf 𝓤 H (W .laws) 𝓣) known)

@@ -10,6 +10,7 @@ ghost use Rattle.index.specs.Questions.{Questioned};
 use index_answer::Answer;
 use index_answer::Tally;
 use index_query::Criteria;
+use index_refusals::Epoch;
 use search_rows::Row;
 
 // Makes an empty index of some features in the bytes lent.
@@ -20,15 +21,23 @@ pub extern "C" fn epoch_index_make(index: &mut [u8], features: u8) -> u32
     index::make(index, features)
 }
 
-// Inserts an identifier with its point.
+// Inserts an identifier with its stage, its stamp and its point.
 #[no_mangle]
-pub extern "C" fn epoch_index_insert(index: &mut [u8], id: u32, point: &[i16]) -> u32
-    ensures { λ r. ⌜ Inserted (now (index .entry)) id (now (point .entry)) r (now (index .exit)) ⌝ }
+pub extern "C" fn epoch_index_insert(
+    index: &mut [u8],
+    id: u32,
+    stage: u8,
+    stamp: u32,
+    point: &[i16],
+) -> u32
+    ensures { λ r. ⌜ Inserted (now (index .entry)) (record { id = id; stage = stage; stamp = stamp }) (now (point .entry))
+        r (now (index .exit)) ⌝ }
 {
-    index::insert(index, id, point)
+    let epoch = Epoch { id, stage, stamp };
+    index::insert(index, epoch, point)
 }
 
-// Deletes an identifier with its point.
+// Deletes the epoch of an identifier.
 #[no_mangle]
 pub extern "C" fn epoch_index_delete(index: &mut [u8], id: u32) -> u32
     ensures { λ r. ⌜ Deleted (now (index .entry)) id r (now (index .exit)) ⌝ }
@@ -46,31 +55,40 @@ pub extern "C" fn epoch_index_check(index: &[u8], page: &mut u32) -> u32
     checked.code as u32
 }
 
-// The question for the k nearest records of a point: its rows go to those lent, and the caller's tally counts it.
+// The question for the k nearest records of a point among those whose stage is in a set: its rows go to those lent, and the caller's tally counts it.
 #[no_mangle]
 pub extern "C" fn epoch_index_question(
     index: &[u8],
     point: &[i16],
     k: usize,
+    stages: u8,
     rows: &mut [Row],
     tally: &mut Tally,
 ) -> Answer
-    ensures { λ r. ⌜ Questioned (now (index .entry)) (nearestOf (now (point .entry)) k)
+    ensures { λ r. ⌜ Questioned (now (index .entry)) (nearestOf (now (point .entry)) k stages)
         (now (rows .entry)) (now (tally .entry)) r (now (rows .exit)) (now (tally .exit)) ⌝ }
 {
-    let what = Criteria { k: k };
+    let what = Criteria { k, stages };
     index::question(index, point, what, rows, tally)
 }
 
-// Inserts an identifier with its point, without the check.
+// Inserts an identifier with its stage, its stamp and its point, without the check.
 #[no_mangle]
-pub extern "C" fn epoch_index_trusted_insert(index: &mut [u8], id: u32, point: &[i16]) -> u32
-    ensures { λ r. ⌜ TrustedInserted (now (index .entry)) id (now (point .entry)) r (now (index .exit)) ⌝ }
+pub extern "C" fn epoch_index_trusted_insert(
+    index: &mut [u8],
+    id: u32,
+    stage: u8,
+    stamp: u32,
+    point: &[i16],
+) -> u32
+    ensures { λ r. ⌜ TrustedInserted (now (index .entry)) (record { id = id; stage = stage; stamp = stamp }) (now (point .entry))
+        r (now (index .exit)) ⌝ }
 {
-    index_trusted::insert(index, id, point)
+    let epoch = Epoch { id, stage, stamp };
+    index_trusted::insert(index, epoch, point)
 }
 
-// Deletes an identifier with its point, without the check.
+// Deletes the epoch of an identifier, without the check.
 #[no_mangle]
 pub extern "C" fn epoch_index_trusted_delete(index: &mut [u8], id: u32) -> u32
     ensures { λ r. ⌜ TrustedDeleted (now (index .entry)) id r (now (index .exit)) ⌝ }
@@ -84,25 +102,34 @@ pub extern "C" fn epoch_index_trusted_question(
     index: &[u8],
     point: &[i16],
     k: usize,
+    stages: u8,
     rows: &mut [Row],
     tally: &mut Tally,
 ) -> Answer
-    ensures { λ r. ⌜ TrustedQuestioned (now (index .entry)) (nearestOf (now (point .entry)) k) (now (rows .entry))
+    ensures { λ r. ⌜ TrustedQuestioned (now (index .entry)) (nearestOf (now (point .entry)) k stages) (now (rows .entry))
         (now (tally .entry)) r (now (rows .exit)) (now (tally .exit)) ⌝ }
 {
-    let what = Criteria { k: k };
+    let what = Criteria { k, stages };
     index_trusted::question(index, point, what, rows, tally)
 }
 
-// Inserts an identifier, which the caller vouches is not live, with its point, without the check.
+// Inserts an identifier, which the caller vouches is not live, with its stage, its stamp and its point, without the check.
 #[no_mangle]
-pub extern "C" fn epoch_index_vouched_insert(index: &mut [u8], id: u32, point: &[i16]) -> u32
-    ensures { λ r. ⌜ VouchedInserted (now (index .entry)) id (now (point .entry)) r (now (index .exit)) ⌝ }
+pub extern "C" fn epoch_index_vouched_insert(
+    index: &mut [u8],
+    id: u32,
+    stage: u8,
+    stamp: u32,
+    point: &[i16],
+) -> u32
+    ensures { λ r. ⌜ VouchedInserted (now (index .entry)) (record { id = id; stage = stage; stamp = stamp }) (now (point .entry))
+        r (now (index .exit)) ⌝ }
 {
-    index_vouched::insert(index, id, point)
+    let epoch = Epoch { id, stage, stamp };
+    index_vouched::insert(index, epoch, point)
 }
 
-// Deletes an identifier with its point, both told by the caller, without the check.
+// Deletes the epoch of an identifier with its point, both told by the caller, without the check.
 #[no_mangle]
 pub extern "C" fn epoch_index_vouched_delete(index: &mut [u8], id: u32, point: &[i16]) -> u32
     ensures { λ r. ⌜ VouchedDeleted (now (index .entry)) id (now (point .entry)) r (now (index .exit)) ⌝ }

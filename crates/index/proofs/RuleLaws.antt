@@ -7,6 +7,7 @@ use lib.IntN.{ℤ}
 use Rattle.tree_model.specs.Sound.{SoundIndex}
 use Rattle.index_query.specs.Asking.{Question}
 use Rattle.index_refusals.specs.Refusals.{First, checkRules, insertRules, deleteRules, questionRules}
+use Rattle.index_refusals.specs.declared.Epoch.{Epoch}
 use Rattle.index_refusals.specs.RefusalLaws.{refused-before, later}
 use Rattle.index_refusals.proofs.RuleLaws.{none-refuses}
 
@@ -16,8 +17,8 @@ module _ (b : List ℕ) (n : ℕ) (f : First (checkRules b) n) where
 
   -- an act begins with the check's rules
   module _ (z : n ≢ 0) where
-    pub insert-unsound : (i : ℕ) (p : List ℤ) → First (insertRules b i p) n
-    insert-unsound i p = refused-before (checkRules b) (later (later (insertRules b i p))) n z f
+    pub insert-unsound : (x : Epoch) (p : List ℤ) → First (insertRules b x p) n
+    insert-unsound x p = refused-before (checkRules b) (later (later (insertRules b x p))) n z f
 
     pub delete-unsound : (i : ℕ) → First (deleteRules b i) n
     delete-unsound i = refused-before (checkRules b) (later (later (deleteRules b i))) n z f

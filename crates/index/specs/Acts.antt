@@ -8,12 +8,17 @@ use Rattle.tree_model.specs.Inserting.{insertRecord}
 use Rattle.tree_model.specs.Deleting.{deleteRecord}
 use Rattle.search_model.specs.Visit.{Answer as Found}
 use Rattle.index_query.specs.Asking.{Question}
+use Rattle.index_refusals.specs.declared.Epoch.{Epoch}
 use Rattle.index_refusals.specs.Refusals.{First, insertRules, deleteRules, questionRules, checkRules, recordOf}
 use Rattle.index_refusals.specs.Outcomes.{unlessRefused, insertedWith, deletedWith, foundWith}
 
--- insert an identifier with its point; delete an identifier; ask a question, with n rows lent; check
+-- what fits the types that an epoch is given in: identifier and stamp have 32 bits (its stage is in the table)
+abbrev pub EpochFits : Epoch → Type 0
+EpochFits e = (e .id < 2 ^ 32) × (e .stamp < 2 ^ 32)
+
+-- insert an epoch with its point; delete an identifier; ask a question, with n rows lent; check
 pub data Act : Type 0 where
-  insert : (i : ℕ) → List ℤ → Act
+  insert : Epoch → List ℤ → Act
   delete : (i : ℕ) → Act
   question : Question → (n : ℕ) → Act
   check : Act
@@ -24,9 +29,9 @@ pub record Done : Type 0 where
   pub code : ℕ
   pub answer : Found
 
--- the act done on index b leaves index c; an identifier has 32 bits
+-- the act done on index b leaves index c
 abbrev pub does : Act → List ℕ → ℕ → Found → List ℕ → Type 0
-does (insert i p) b code answer c = (i < 2 ^ 32) × (First (insertRules b i p) code) × (c ≡ insertedWith code b i p)
+does (insert e p) b code answer c = EpochFits e × (First (insertRules b e p) code) × (c ≡ insertedWith code b e p)
 does (delete i) b code answer c = (First (deleteRules b i) code) × (c ≡ deletedWith code b i)
 does (question w n) b code answer c = (First (questionRules b w n) code) × (answer ≡ foundWith code b w) × (c ≡ b)
 does check b code answer c = (First (checkRules b) code) × (c ≡ b)
@@ -41,7 +46,7 @@ pub data Series : List ℕ → List Done → List ℕ → Type 0 where
 
 -- the records held, in key order, after an act on an index of d features: an insert brings its record, a delete takes one away
 abbrev pub changedBy : ℕ → Act → List Record → List Record
-changedBy d (insert i p) rs = insertRecord d (recordOf i p) rs
+changedBy d (insert e p) rs = insertRecord d (recordOf e p) rs
 changedBy d (delete i) rs = deleteRecord i rs
 changedBy d (question w n) rs = rs
 changedBy d check rs = rs

@@ -24,16 +24,16 @@ true? t = by-cases t (λ e. inl e) (λ e. inr (λ h. false-true (sym e ∙ h)))
 
 -- the rules of an act on index b
 abbrev pub rulesOf : Act → List ℕ → List Rule
-rulesOf (insert i p) b = insertRules b i p
+rulesOf (insert e p) b = insertRules b e p
 rulesOf (delete i) b = deleteRules b i
 rulesOf (question w n) b = questionRules b w n
 rulesOf check b = checkRules b
 
 asked? : (w : Question) (n : ℕ) → Decided (askedRules w n)
-asked? w n = (both? (le? _ _) (le? _ _), (le? _ _, tt))
+asked? w n = (both? (le? _ _) (le? _ _), (le? _ _, (both? (le? _ _) (le? _ _), tt)))
 
 decided : (a : Act) (b : List ℕ) → Decided (rulesOf a b)
-decided (insert i p) b = (permitted? _, (sound-index? b, (eq? _ _, (true? _, (le? _ _, (eq? _ _, (le? _ _, (le? _ _, tt))))))))
+decided (insert e p) b = (permitted? _, (sound-index? b, (eq? _ _, (true? _, (le? _ _, (le? _ _, (eq? _ _, (le? _ _, (le? _ _, tt)))))))))
 decided (delete i) b = (permitted? _, (sound-index? b, (le? _ _, (le? _ _, tt))))
 decided (question w n) b = (permitted? _, (sound-index? b, (eq? _ _, (true? _, asked? w n))))
 decided check b = (permitted? _, (sound-index? b, tt))

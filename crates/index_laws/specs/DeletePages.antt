@@ -20,6 +20,7 @@ use Rattle.tree_laws.specs.SpacePromises.{pages-given}
 use Rattle.search_model.specs.Visit.{Answer as Found}
 use Rattle.search_model.specs.Questions.{AgreeBut}
 use Rattle.index_query.specs.Asking.{Question}
+use Rattle.index_refusals.specs.declared.Epoch.{Epoch}
 use Rattle.index_refusals.specs.Refusals.{Rule, First, numbers, liveTimes, makeRules, insertRules, deleteRules, questionRules, checkRules}
 use Rattle.index_refusals.specs.RefusalLaws.{first-one, all-hold, not-given, delete-passes}
 use Rattle.index_refusals.specs.Outcomes.{nothingFound}
@@ -96,20 +97,20 @@ never : (rules : List Rule) → mult 12 (numbers rules) ≡ 0 → Never 12 rules
 never rules z code f = not-given rules 12 code (omega arith) z f
 
 -- no table gives 12: of the acts, of those without the check, and of those that are vouched for. A contract says of each that its number is its table's.
-pub never-twelve : (bytes d : ℕ) (b : List ℕ) (i : ℕ) (p : List ℤ) (w : Question) (n : ℕ)
-    → Never 12 (makeRules bytes d) × Never 12 (insertRules b i p) × Never 12 (deleteRules b i) × Never 12 (questionRules b w n) × Never 12 (checkRules b)
-    × Never 12 (trustedInsert b i p) × Never 12 (trustedDelete b i) × Never 12 (trustedQuestion b w n)
-    × Never 12 (vouchedInsert b i p) × Never 12 (vouchedDelete b i p)
+pub never-twelve : (bytes d : ℕ) (b : List ℕ) (x : Epoch) (i : ℕ) (p : List ℤ) (w : Question) (n : ℕ)
+    → Never 12 (makeRules bytes d) × Never 12 (insertRules b x p) × Never 12 (deleteRules b i) × Never 12 (questionRules b w n) × Never 12 (checkRules b)
+    × Never 12 (trustedInsert b x p) × Never 12 (trustedDelete b i) × Never 12 (trustedQuestion b w n)
+    × Never 12 (vouchedInsert b x p) × Never 12 (vouchedDelete b i p)
 unfolding mult
-never-twelve bytes d b i p w n = (
+never-twelve bytes d b x i p w n = (
   never (makeRules bytes d) refl,
-  never (insertRules b i p) refl,
+  never (insertRules b x p) refl,
   never (deleteRules b i) refl,
   never (questionRules b w n) refl,
   never (checkRules b) refl,
-  never (trustedInsert b i p) refl,
+  never (trustedInsert b x p) refl,
   never (trustedDelete b i) refl,
   never (trustedQuestion b w n) refl,
-  never (vouchedInsert b i p) refl,
+  never (vouchedInsert b x p) refl,
   never (vouchedDelete b i p) refl,
 )

@@ -16,6 +16,7 @@ use Rattle.geometry.proofs.ExampleLaws as geometry-laws
 use Rattle.geometry.specs.Stored.{inRange}
 use Rattle.pagestore.specs.Store.{viewOf, pagesIn}
 use Rattle.tree_model.specs.Sound.{Permitted}
+use Rattle.search_model.specs.Asked.{fullSet}
 use Rattle.search_model.specs.Examples as search
 use Rattle.search_model.specs.Examples.{recordNo}
 use Rattle.search_model.proofs.ExampleLaws as search-laws
@@ -30,9 +31,9 @@ pub data Example : Type 0 where
   figure : geometry.Example → Example
   asked : search.Example → Example
 
--- the question for the k nearest of a point
+-- the question for the k nearest of a point, of all stages
 abbrev pub askedBy : search.Example → Question
-askedBy e = nearestOf (pos (e .point) ∷ []) (e .k)
+askedBy e = nearestOf (pos (e .point) ∷ []) (e .k) fullSet
 
 -- it, on the index c with k rows lent: it is carried out, the identifiers of its rows, in order, and the number of leaves read
 abbrev pub Gives : List ℕ → search.Example → Type 0
@@ -69,7 +70,7 @@ upward-seventeen e (f, h) b lent four =
     let d = seventeen-features b lent four in
     let r : inRange (pos (e .point) ∷ []) ≡ true = rw (le-leb (e .point) 1000 (f .0)) in
     let a = h (upward b 17) s (record { d = d; first = 1; second = 2; leaves = seventeen-leaves b lent four }) in
-    let c : Carried 1 (askedBy e) (e .k) = record { features = refl; ranges = r; some = f .1; most = f .2; lent = le-refl (e .k) } in
+    let c : Carried 1 (askedBy e) (e .k) = record { features = refl; ranges = r; some = f .1; most = f .2; lent = le-refl (e .k); set = (lit≤ tt, lit≤ tt) } in
     (none-fails (questionRules (upward b 17) (askedBy e) (e .k)) (s .lent, (s, (sym d, (r, carried-asked 1 (askedBy e) (e .k) c)))), a .0, a .1)
 
 -- p-examples: every example of the list holds

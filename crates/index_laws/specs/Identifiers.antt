@@ -25,7 +25,7 @@ use Rattle.index_laws.specs.Series.{Stands, act-stands, new-stands, seri
 
 -- how often an identifier is live after an act that is carried out, having been live n times
 abbrev pub timesBy : ℕ → Act → ℕ → ℕ
-timesBy i (insert j p) n = if (eqb i j) 1 n
+timesBy i (insert x p) n = if (eqb i (x .id)) 1 n
 timesBy i (delete j) n = if (eqb i j) 0 n
 timesBy i (question w m) n = n
 timesBy i check n = n
@@ -54,15 +54,16 @@ module _ (d : ℕ) (rs : List Record) (b : List ℕ) (s : Stands d rs b) (i : �
 
   act-times : (a : Act) (code : ℕ) (f : Found) (c : List ℕ) → does a b code f c
       → mult i (map identOf (unlessRefused code (changedBy d a rs) rs)) ≡ unlessRefused code (timesBy i a times) times
-  act-times (insert j p) zero f c h =
-      let w = all-hold (insertRules b j p) refl (h .1) in
-      let none : liveTimes b j ≡ 0 = w .1 .1 .1 .1 .1 .0 in
-      ident-ins d (recordOf j p) rs i
+  act-times (insert x p) zero f c h =
+      let w = all-hold (insertRules b x p) refl (h .1) in
+      let j = x .id in
+      let none : liveTimes b j ≡ 0 = w .1 .1 .1 .1 .1 .1 .0 in
+      ident-ins d (recordOf x p) rs i
       ∙ by-cases (eqb i j)
       (λ e. let same : i ≡ j = eqb-true i j e in
       let z : mult i (map identOf rs) ≡ 0 = ap (λ (x : ℕ). mult x (map identOf rs)) same ∙ sym (held-times j) ∙ none in rw e (omega arith))
       (λ e. rw e (omega arith))
-  act-times (insert j p) (suc n) f c h = refl
+  act-times (insert x p) (suc n) f c h = refl
   act-times (delete j) zero f c h =
       let w = all-hold (deleteRules b j) refl (h .0) in
       let some : 0 < liveTimes b j = w .1 .1 .1 .0 in

@@ -1,5 +1,6 @@
 pub mod NewRecords
 pub mod Answers
+pub mod FullSet
 pub mod Series
 pub mod Identifiers
 pub mod TrustedActs

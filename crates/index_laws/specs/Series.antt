@@ -1,8 +1,8 @@
 -- series (01, demand 2): after any list of acts on a newly made index, make apart, the index is sound, the live records are those
--- inserted and not deleted since, and each question returns the k nearest of them with the exact number of leaves.
+-- inserted and not deleted since, and each question returns the k nearest of those whose stage is in its set, with the exact number of leaves.
 use mathlib.Core.Path.{_≡_, refl, sym, ap, subst, _∙_}
 use mathlib.Core.List.{List, [], _∷_, _++_}
-use Prim.Native.Nat.{ℕ, zero, suc, _^_, _≤_, _<_}
+use Prim.Native.Nat.{ℕ, zero, suc, _≤_, _<_}
 use native.Mathlib.Omega.{arith}
 use lib.IntN.{ℤ}
 use lib.ListN.{length}
@@ -20,10 +20,11 @@ use Rattle.tree_laws.specs.DeletePromises.{delete-sound, delete-live, delete-fe
 use Rattle.tree_laws.specs.NewPromises.{new-sound, new-live, new-features}
 use Rattle.search_model.specs.Visit.{Answer as Found}
 use Rattle.index_query.specs.Asking.{Question}
+use Rattle.index_refusals.specs.declared.Epoch.{Epoch}
 use Rattle.index_refusals.specs.Refusals.{First, insertRules, deleteRules, recordOf}
 use Rattle.index_refusals.specs.RefusalLaws.{all-hold}
 use Rattle.index_refusals.specs.Outcomes.{unlessRefused}
-use Rattle.index.specs.Acts.{Act, insert, delete, question, check, Done, does, Does, Series, end, next, changedBy, heldAfter, heldBy}
+use Rattle.index.specs.Acts.{EpochFits, Act, insert, delete, question, check, Done, does, Does, Series, end, next, changedBy, heldAfter, heldBy}
 use Rattle.index_laws.specs.NewRecords.{record-fits, record-ok}
 use Rattle.index_query.specs.Answers.{Answers}
 use Rattle.index_laws.specs.Answers.{question-answers}
@@ -37,24 +38,25 @@ pub record Stands (d : ℕ) (rs : List Record) (b : List ℕ) : Type 0 where
 -- ---- ONE ACT
 
 module _ (d : ℕ) (rs : List Record) (b : List ℕ) (s : Stands d rs b) where
-  insert-stands : (i : ℕ) (p : List ℤ) → i < 2 ^ 32 → First (insertRules b i p) 0 → Stands d (insertRecord d (recordOf i p) rs) (insertInto b (recordOf i p))
-  insert-stands i p low first =
-      let h = all-hold (insertRules b i p) refl first in
+  insert-stands : (x : Epoch) (p : List ℤ) → EpochFits x → First (insertRules b x p) 0 → Stands d (insertRecord d (recordOf x p) rs) (insertInto b (recordOf x p))
+  insert-stands x p low first =
+      let h = all-hold (insertRules b x p) refl first in
       let e : length p ≡ viewOf b .d = h .1 .1 .0 in
       let top : viewOf b .d ≤ 16 = s .sound .d .1 in
-      let room : length (live (viewOf b)) < 65535 = h .1 .1 .1 .1 .1 .1 .0 in
-      let may : MayInsert b (recordOf i p) =
+      let stage : x .stage ≤ 5 = h .1 .1 .1 .1 .1 .0 in
+      let room : length (live (viewOf b)) < 65535 = h .1 .1 .1 .1 .1 .1 .1 .0 in
+      let may : MayInsert b (recordOf x p) =
       record {
-        fits = record-fits i p (h .1 .1 .1 .0) low (omega arith);
-        ranges = record-ok i p (h .1 .1 .1 .0) (viewOf b .d) e (h .1 .1 .1 .1 .0);
-        new = h .1 .1 .1 .1 .1 .0;
+        fits = record-fits x p (h .1 .1 .1 .0) stage low (omega arith);
+        ranges = record-ok x p (h .1 .1 .1 .0) stage (viewOf b .d) e (h .1 .1 .1 .1 .0);
+        new = h .1 .1 .1 .1 .1 .1 .0;
         room = omega (arith, s .sound .total);
-        free = h .1 .1 .1 .1 .1 .1 .1 .0;
+        free = h .1 .1 .1 .1 .1 .1 .1 .1 .0;
       } in
       record {
-        sound = insert-sound b (recordOf i p) (s .sound) may;
-        features = insert-features b (recordOf i p) (s .sound) may ∙ s .features;
-        holds = insert-live b (recordOf i p) (s .sound) may ∙ (λ t. insertRecord (s .features t) (recordOf i p) (s .holds t));
+        sound = insert-sound b (recordOf x p) (s .sound) may;
+        features = insert-features b (recordOf x p) (s .sound) may ∙ s .features;
+        holds = insert-live b (recordOf x p) (s .sound) may ∙ (λ t. insertRecord (s .features t) (recordOf x p) (s .holds t));
       }
 
   delete-stands : (i : ℕ) → First (deleteRules b i) 0 → Stands d (deleteRecord i rs) (deleteFrom b (findIn b i))
@@ -70,8 +72,8 @@ module _ (d : ℕ) (rs : List Record) (b : List ℕ) (s : Stands d rs b) where
   same-stands c e = rw e s
 
   pub act-stands : (a : Act) (code : ℕ) (f : Found) (c : List ℕ) → does a b code f c → Stands d (unlessRefused code (changedBy d a rs) rs) c
-  act-stands (insert i p) zero f c h = rw (h .2) (insert-stands i p (h .0) (h .1))
-  act-stands (insert i p) (suc n) f c h = same-stands c (h .2)
+  act-stands (insert x p) zero f c h = rw (h .2) (insert-stands x p (h .0) (h .1))
+  act-stands (insert x p) (suc n) f c h = same-stands c (h .2)
   act-stands (delete i) zero f c h = rw (h .1) (delete-stands i (h .0))
   act-stands (delete i) (suc n) f c h = same-stands c (h .1)
   act-stands (question w n) zero f c h = same-stands c (h .2)
@@ -118,7 +120,8 @@ abbrev pub asked : Question → ℕ → Found → Done
 asked w n f = record { act = question w n; code = 0; answer = f }
 
 module _ (b : List ℕ) (d : ℕ) (lent : Permitted (length b)) (low : 1 ≤ d) (high : d ≤ 16) where
-  -- each question in a series returns the k nearest of the records inserted and not deleted before it, and reads the leaves of the exact set
+  -- each question in a series returns the k nearest of the records inserted and not deleted before it whose stage is in its set, and reads the leaves of
+  -- the exact set
   pub series-question : (xs ys : List Done) (w : Question) (n : ℕ) (f : Found) (c : List ℕ) → Series (newIndex b d) (xs ++ (asked w n f ∷ ys)) c
       → (m : List ℕ) × (Series (newIndex b d) xs m × (Stands d (heldBy d xs []) m × Answers m w f))
   series-question xs ys w n f c h =

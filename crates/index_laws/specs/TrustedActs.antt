@@ -2,7 +2,7 @@
 -- it once: from a sound index on, any series of trusted acts is the series of the acts.
 use mathlib.Core.Path.{_≡_, sym, ap, _∙_, subst}
 use mathlib.Core.List.{List, [], _∷_}
-use Prim.Native.Nat.{ℕ, _^_, _≤_, _<_}
+use Prim.Native.Nat.{ℕ, _≤_}
 use native.Mathlib.Omega.{arith}
 use lib.ListN.{length}
 use Rattle.pagestore.specs.Store.{viewOf, Field, fieldAt, features, level, newIndex}
@@ -18,12 +18,12 @@ use Rattle.index_refusals.specs.RefusalLaws.{first-one, none-fails, Carried, ca
 use Rattle.index_refusals.specs.Outcomes.{insertedWith, deletedWith, foundWith}
 use Rattle.index_refusals.specs.Trusted.{Suits, trustedInsert, trustedDelete, trustedQuestion}
 use Rattle.index_refusals.specs.TrustedLaws.{insert-same, delete-same, question-same}
-use Rattle.index.specs.Acts.{Act, insert, delete, question, check, Done, does, Series, end, next, heldBy}
+use Rattle.index.specs.Acts.{EpochFits, Act, insert, delete, question, check, Done, does, Series, end, next, heldBy}
 use Rattle.index_laws.specs.Series.{Stands, sound-after, new-stands, series}
 
 -- what a trusted act on index b returns and leaves, as its contract says; check is the act itself
 abbrev pub trustedDoes : Act → List ℕ → ℕ → Found → List ℕ → Type 0
-trustedDoes (insert i p) b code answer c = (i < 2 ^ 32) × (First (trustedInsert b i p) code) × (c ≡ insertedWith code b i p)
+trustedDoes (insert x p) b code answer c = EpochFits x × (First (trustedInsert b x p) code) × (c ≡ insertedWith code b x p)
 trustedDoes (delete i) b code answer c = (First (trustedDelete b i) code) × (c ≡ deletedWith code b i)
 trustedDoes (question w n) b code answer c = (First (trustedQuestion b w n) code) × (answer ≡ foundWith code b w) × (c ≡ b)
 trustedDoes check b code answer c = does check b code answer c
@@ -31,20 +31,20 @@ trustedDoes check b code answer c = does check b code answer c
 module _ (b : List ℕ) (s : SoundIndex b) where
   -- number, rows, count and every byte are the act's
   pub trusted-same : (a : Act) (code : ℕ) (f : Found) (c : List ℕ) → trustedDoes a b code f c → does a b code f c
-  trusted-same (insert i p) code f c h = (h .0, insert-same b s i p code (h .1), h .2)
+  trusted-same (insert x p) code f c h = (h .0, insert-same b s x p code (h .1), h .2)
   trusted-same (delete i) code f c h = (delete-same b s i code (h .0), h .1)
   trusted-same (question w n) code f c h = (question-same b s w n code (h .0), h .1, h .2)
   trusted-same check code f c h = h
 
   -- an act has one number on an index, and leaves one index
   one-number : (a : Act) (m n : ℕ) (f g : Found) (c e : List ℕ) → does a b m f c → does a b n g e → m ≡ n
-  one-number (insert i p) m n f g c e h k = first-one (insertRules b i p) m n (h .1) (k .1)
+  one-number (insert x p) m n f g c e h k = first-one (insertRules b x p) m n (h .1) (k .1)
   one-number (delete i) m n f g c e h k = first-one (deleteRules b i) m n (h .0) (k .0)
   one-number (question w l) m n f g c e h k = first-one (questionRules b w l) m n (h .0) (k .0)
   one-number check m n f g c e h k = first-one (checkRules b) m n (h .0) (k .0)
 
   one-index : (a : Act) (n : ℕ) (f g : Found) (c e : List ℕ) → does a b n f c → does a b n g e → c ≡ e
-  one-index (insert i p) n f g c e h k = h .2 ∙ sym (k .2)
+  one-index (insert x p) n f g c e h k = h .2 ∙ sym (k .2)
   one-index (delete i) n f g c e h k = h .1 ∙ sym (k .1)
   one-index (question w l) n f g c e h k = h .2 ∙ sym (k .2)
   one-index check n f g c e h k = h .1 ∙ sym (k .1)

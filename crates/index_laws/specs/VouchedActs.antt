@@ -5,44 +5,43 @@
 use mathlib.Core.Path.{_≡_, refl, sym, ap, _∙_, subst}
 use mathlib.Core.Logic.{_≢_}
 use mathlib.Core.List.{List, [], _∷_}
-use Prim.Native.Nat.{ℕ, zero, suc, _^_, _≤_, _<_}
+use Prim.Native.Nat.{ℕ, zero, suc, _≤_}
 use native.Mathlib.Omega.{arith}
 use lib.IntN.{ℤ}
 use lib.ListN.{length}
 use Rattle.pagestore.specs.Store.{newIndex}
 use Rattle.tree_model.specs.Sound.{Permitted, SoundIndex}
+use Rattle.index_refusals.specs.declared.Epoch.{Epoch}
 use Rattle.index_refusals.specs.Refusals.{First, liveTimes, insertRules, deleteRules}
 use Rattle.index_refusals.specs.RefusalLaws.{first-one}
 use Rattle.index_refusals.specs.Outcomes.{unlessRefused, insertedWith, deletedWith, nothingFound}
 use Rattle.index_vouched.specs.Vouched.{vouchedInsert, vouchedDelete, vouchedDeletedWith, LiveAt}
 use Rattle.index_vouched.specs.VouchedLaws.{insert-vouched, delete-vouched, deleted-vouched, vouched-live, vouched-number}
-use Rattle.index.specs.Acts.{insert, delete, Done, does, Series, end, next, heldBy}
+use Rattle.index.specs.Acts.{EpochFits, insert, delete, Done, does, Series, end, next, heldBy}
 use Rattle.index_laws.specs.Series.{Stands, sound-after, new-stands, series}
 use Rattle.index_laws.specs.TrustedActs.{trustedDoes, trusted-same}
 
 -- what a vouched insert and a vouched delete on index b return and leave, as their contracts say
-abbrev pub vouchedInserts : List ℕ → ℕ → List ℤ → ℕ → List ℕ → Type 0
-vouchedInserts b i p code c = (i < 2 ^ 32) × (First (vouchedInsert b i p) code) × (c ≡ insertedWith code b i p)
+abbrev pub vouchedInserts : List ℕ → Epoch → List ℤ → ℕ → List ℕ → Type 0
+vouchedInserts b x p code c = EpochFits x × (First (vouchedInsert b x p) code) × (c ≡ insertedWith code b x p)
 
 abbrev pub vouchedDeletes : List ℕ → ℕ → List ℤ → ℕ → List ℕ → Type 0
 vouchedDeletes b i p code c = (First (vouchedDelete b i p) code) × (c ≡ vouchedDeletedWith code b i p)
 
-module _ (b : List ℕ) (s : SoundIndex b) (i : ℕ) (p : List ℤ) (code : ℕ) (c : List ℕ) where
+module _ (b : List ℕ) (s : SoundIndex b) (x : Epoch) (p : List ℤ) (code : ℕ) (c : List ℕ) (z : liveTimes b (x .id) ≡ 0) (h : vouchedInserts b x p code c) where
   -- number and every byte are the act's
-  pub vouched-insert-same : liveTimes b i ≡ 0 → vouchedInserts b i p code c → does (insert i p) b code nothingFound c
-  vouched-insert-same z h = (h .0, insert-vouched b s i p z code (h .1), h .2)
-
-  pub vouched-delete-same : LiveAt b i p → vouchedDeletes b i p code c → does (delete i) b code nothingFound c
-  vouched-delete-same l h = (delete-vouched b s i p l code (h .0), h .1 ∙ ap (λ (x : List ℕ). unlessRefused code x b) (deleted-vouched b s i p l))
-
-  pub vouched-same : (liveTimes b i ≡ 0 → vouchedInserts b i p code c → does (insert i p) b code nothingFound c) × (LiveAt b i p → vouchedDeletes b i p code c → does (delete i) b code nothingFound c)
-  vouched-same = (vouched-insert-same, vouched-delete-same)
+  pub vouched-insert-same : does (insert x p) b code nothingFound c
+  vouched-insert-same = (h .0, insert-vouched b s x p z code (h .1), h .2)
 
   -- side by side with the act's
-  pub vouched-insert-equal : liveTimes b i ≡ 0 → vouchedInserts b i p code c → (n : ℕ) (e : List ℕ) → does (insert i p) b n nothingFound e → (code ≡ n) × (c ≡ e)
-  vouched-insert-equal z h n e k =
-      let t = vouched-insert-same z h in
-      let m = first-one (insertRules b i p) code n (t .1) (k .1) in (m, t .2 ∙ ap (λ (x : ℕ). insertedWith x b i p) m ∙ sym (k .2))
+  pub vouched-insert-equal : (n : ℕ) (e : List ℕ) → does (insert x p) b n nothingFound e → (code ≡ n) × (c ≡ e)
+  vouched-insert-equal n e k =
+      let t = vouched-insert-same in
+      let m = first-one (insertRules b x p) code n (t .1) (k .1) in (m, t .2 ∙ ap (λ (y : ℕ). insertedWith y b x p) m ∙ sym (k .2))
+
+module _ (b : List ℕ) (s : SoundIndex b) (i : ℕ) (p : List ℤ) (code : ℕ) (c : List ℕ) where
+  pub vouched-delete-same : LiveAt b i p → vouchedDeletes b i p code c → does (delete i) b code nothingFound c
+  vouched-delete-same l h = (delete-vouched b s i p l code (h .0), h .1 ∙ ap (λ (x : List ℕ). unlessRefused code x b) (deleted-vouched b s i p l))
 
   pub vouched-delete-equal : LiveAt b i p → vouchedDeletes b i p code c → (n : ℕ) (e : List ℕ) → does (delete i) b n nothingFound e → (code ≡ n) × (c ≡ e)
   vouched-delete-equal l h n e k =
@@ -61,12 +60,16 @@ module _ (b : List ℕ) (s : SoundIndex b) (i : ℕ) (p : List ℤ) (code : ℕ)
   pub vouched-delete-true : code ≡ 0 → vouchedDeletes b i p code c → LiveAt b i p
   vouched-delete-true e h = vouched-live b s i p (subst (First (vouchedDelete b i p)) e (h .0))
 
+pub vouched-same : (b : List ℕ) → SoundIndex b → (x : Epoch) (i : ℕ) (p : List ℤ) (code : ℕ) (c : List ℕ)
+    → (liveTimes b (x .id) ≡ 0 → vouchedInserts b x p code c → does (insert x p) b code nothingFound c) × (LiveAt b i p → vouchedDeletes b i p code c → does (delete i) b code nothingFound c)
+vouched-same b s x i p code c = (vouched-insert-same b s x p code c, vouched-delete-same b s i p code c)
+
 -- Acts done one after the other, from index b to index c, with the list of acts that they are. A vouched insert is of an identifier that is not
 -- live before it. Of a vouched delete nothing is asked; refused, it is no act.
 pub data VouchedSeries : List ℕ → List Done → List ℕ → Type 0 where
   stop : {b : List ℕ} → VouchedSeries b [] b
-  inserts : {b m c : List ℕ} {os : List Done} (i : ℕ) (p : List ℤ) (code : ℕ) → liveTimes b i ≡ 0 → vouchedInserts b i p code m → VouchedSeries m os c
-      → VouchedSeries b (record { act = insert i p; code = code; answer = nothingFound } ∷ os) c
+  inserts : {b m c : List ℕ} {os : List Done} (x : Epoch) (p : List ℤ) (code : ℕ) → liveTimes b (x .id) ≡ 0 → vouchedInserts b x p code m → VouchedSeries m os c
+      → VouchedSeries b (record { act = insert x p; code = code; answer = nothingFound } ∷ os) c
   deletes : {b m c : List ℕ} {os : List Done} (i : ℕ) (p : List ℤ) → vouchedDeletes b i p 0 m → VouchedSeries m os c
       → VouchedSeries b (record { act = delete i; code = 0; answer = nothingFound } ∷ os) c
   refuses : {b m c : List ℕ} {os : List Done} (i : ℕ) (p : List ℤ) (code : ℕ) → vouchedDeletes b i p (suc code) m → VouchedSeries m os c → VouchedSeries b os c
@@ -75,9 +78,9 @@ pub data VouchedSeries : List ℕ → List Done → List ℕ → Type 0 where
 -- vouched-series: from a sound index on they are acts, and the index stays sound
 pub vouched-series : {b c : List ℕ} {os : List Done} → SoundIndex b → VouchedSeries b os c → Series b os c × SoundIndex c
 vouched-series s stop = (end, s)
-vouched-series {b = b} s (inserts {m = m} i p code z h t) =
-    let g = vouched-insert-same b s i p code m z h in
-    let r = vouched-series (sound-after b s (insert i p) code nothingFound m g) t in
+vouched-series {b = b} s (inserts {m = m} x p code z h t) =
+    let g = vouched-insert-same b s x p code m z h in
+    let r = vouched-series (sound-after b s (insert x p) code nothingFound m g) t in
     (next g (r .0), r .1)
 vouched-series {b = b} s (deletes {m = m} i p h t) =
     let g = vouched-delete-same b s i p 0 m (vouched-live b s i p (h .0)) h in

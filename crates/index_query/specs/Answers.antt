@@ -5,7 +5,7 @@ use mathlib.Core.List.{List, map}
 use Prim.Native.Nat.{ℕ, _≤_}
 use lib.ListN.{length}
 use Rattle.lists.specs.Basics.{All}
-use Rattle.lists.specs.Sorting.{count}
+use Rattle.lists.specs.Sorting.{count, filter}
 use lib.IntN.{ℤ}
 use Rattle.geometry.specs.Points.{distance}
 use Rattle.geometry.specs.Features.{distTo}
@@ -15,11 +15,11 @@ use Rattle.pagestore.specs.Store.{viewOf}
 use Rattle.tree_model.specs.Trees.{pointIn, live, leavesOf}
 use Rattle.tree_model.specs.Sound.{SoundIndex}
 use Rattle.search_theory.specs.Nearest.{nearest}
-use Rattle.search_model.specs.Asked.{distanceTo}
+use Rattle.search_model.specs.Asked.{inStages, fullSet, distanceTo}
 use Rattle.search_model.specs.Visit.{Answer as Found, ranking, found}
 use Rattle.search_model.specs.Questions.{liveCandidates, Called, rowsOf, toRead}
 use Rattle.index_query.specs.Asking.{Question, sought, bare, bareOf}
-use Rattle.index_query.specs.AskingLaws.{all-live, plain-gap, live-rows, called-for, sought-exact}
+use Rattle.index_query.specs.AskingLaws.{among-live, full-live, plain-gap, live-rows, called-for, sought-exact}
 
 -- f answers the question w on index b
 pub record Answers (b : List ℕ) (w : Question) (f : Found) : Type 0 where
@@ -27,8 +27,10 @@ pub record Answers (b : List ℕ) (w : Question) (f : Found) : Type 0 where
   pub rows : f .rows ≡ nearest ranking (w .k) (rowsOf (viewOf b) (sought w))
   -- these are one for each live record that is looked for, with its distance from what is asked
   pub each : map bare (rowsOf (viewOf b) (sought w)) ≡ map (bareOf w) (liveCandidates (viewOf b) (sought w))
-  -- each live record is looked for, and its distance is the squared distance from the point, as is that of any point of the grid
-  pub all : liveCandidates (viewOf b) (sought w) ≡ live (viewOf b)
+  -- looked for are the live records whose stage is in the set (02); with the full set each of them is
+  pub among : liveCandidates (viewOf b) (sought w) ≡ filter (λ r. inStages (w .stages) (r .stage)) (live (viewOf b))
+  pub full : w .stages ≡ fullSet → liveCandidates (viewOf b) (sought w) ≡ live (viewOf b)
+  -- a record's distance is the squared distance from the point, as is that of any point of the grid
   pub squared : (r : Record) → distanceTo (sought w) r ≡ distance (w .point) (pointIn (length (w .point)) r)
   pub grid : (x : List ℤ) → distTo (sought w .features) x ≡ distance (w .point) x
   -- the number of leaves in demand 3's set
@@ -49,7 +51,8 @@ search-answers b s w d one =
     record {
       rows = ap (λ (f : Found). f .rows) e;
       each = live-rows w (viewOf b);
-      all = all-live w (viewOf b);
+      among = among-live w (viewOf b);
+      full = full-live b s w;
       squared = plain-gap w;
       grid = plain-distance (w .point);
       leaves = ap (λ (f : Found). f .leaves) e;

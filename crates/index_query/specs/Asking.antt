@@ -9,6 +9,7 @@ use Rattle.geometry.specs.Stored.{inRange}
 use Rattle.geometry.specs.Numbers.{maxFeatures}
 use Rattle.pagestore_page.specs.declared.Record.{Record}
 use Rattle.search_rows.specs.declared.Row.{Row}
+use Rattle.search_model.specs.declared.Choice.{Choice}
 use Rattle.search.specs.declared.Query.{Query}
 use Rattle.search_model.specs.Asked.{Asked, plainly, distanceTo, Seekable}
 use Rattle.search.specs.Steps.{asks}
@@ -18,22 +19,27 @@ use Rattle.index_query.specs.declared.Criteria.{Criteria}
 abbrev pub maxRows : ℕ
 maxRows = 64
 
--- the k nearest of a point
+-- the k nearest of a point, of the stages in a set (02): six marks, bit s for stage s
 pub record Question : Type 0 where
   pub point : List ℤ
   pub k : ℕ
+  pub stages : ℕ
 
 -- with nothing else said
-abbrev pub nearestOf : List ℤ → ℕ → Question
-nearestOf p k = record { point = p; k = k }
+abbrev pub nearestOf : List ℤ → ℕ → ℕ → Question
+nearestOf p k stages = record { point = p; k = k; stages = stages }
 
 -- as code is given it: the point in a slice, and the rest
 abbrev pub questionOf : List ℤ → Criteria → Question
-questionOf p c = record { point = p; k = c .k }
+questionOf p c = record { point = p; k = c .k; stages = c .stages }
+
+-- which records are looked for
+abbrev pub choiceOf : Question → Choice
+choiceOf w = record { stages = w .stages }
 
 -- what is asked of the search: each coordinate by itself, every gap of weight 1
 abbrev pub sought : Question → Asked
-sought w = plainly (w .point) (w .k)
+sought w = plainly (w .point) (w .k) (choiceOf w)
 
 -- a row without its position
 abbrev pub bare : Row → ℕ × ℕ

@@ -17,24 +17,27 @@ use Rattle.pagestore.specs.Store.{View, viewOf}
 use Rattle.tree_model.specs.Trees.{Item, leaves, treeOf, live, leavesOf, pointIn}
 use Rattle.tree_model.specs.Sound.{SoundIndex}
 use Rattle.search_theory.specs.Nearest.{nearest}
-use Rattle.search_model.specs.Asked.{distanceTo, candidate, Askable}
+use Rattle.search_model.specs.Asked.{inStages, fullSet, distanceTo, candidate, Askable}
 use Rattle.search_model.specs.Branches.{rowOf, rowsAmong}
 use Rattle.search_model.specs.Visit.{ranking, found, leavesRead}
 use Rattle.search_model.specs.Questions.{rowsFrom, rowsOf, liveCandidates, Exchanged, AgreeBut, Called, readingOrder, toRead, unreadPages}
-use Rattle.search_model.proofs.AskedLaws.{candidates-all, plain-suits}
+use Rattle.search_model.specs.FullSet.{plainDue}
+use Rattle.search_model.proofs.AskedLaws.{plain-suits}
 use Rattle.search_model.proofs.SoundLaws.{leafItems, records-leaves}
 use Rattle.search_model.proofs.ExactLaws.{found-exact, leaves-read}
 use Rattle.search_model.proofs.ExchangeLaws.{exchange}
 use Rattle.search_model.proofs.UnreadLaws.{unread-header, unread-bytes}
 use Rattle.search_model.proofs.SetLaws.{set-points}
-use Rattle.index_query.specs.Asking.{Question, sought, bare, bareOf}
+use Rattle.search_model.proofs.FullSetLaws.{live-full, full-set}
+use Rattle.index_query.specs.Asking.{Question, choiceOf, sought, bare, bareOf}
 
 -- ---- THE ROWS OF THE LIVE RECORDS
 
 module _ (w : Question) where
-  -- no live record is left out
-  pub all-live : (v : View) → liveCandidates v (sought w) ≡ live v
-  all-live v = candidates-all (sought w) (live v)
+  -- the live records looked for: those whose stage is in the set
+  pub among-live : (v : View) → liveCandidates v (sought w) ≡ filter (λ r. inStages (w .stages) (r .stage)) (live v)
+  unfolding candidate
+  among-live v = refl
 
   -- the squared Euclidean distance: a plain point's
   pub plain-gap : (r : Record) → distanceTo (sought w) r ≡ distance (w .point) (pointIn (length (w .point)) r)
@@ -60,12 +63,16 @@ module _ (w : Question) where
   live-rows v =
       bare-rows 0 (leaves (v .level) (treeOf v)) ∙ ap (λ (rs : List Record). map (bareOf w) (filter (candidate (sought w)) rs)) (sym (records-leaves (v .level) (treeOf v)))
 
+-- with the full set none is left out of a sound index
+pub full-live : (b : List ℕ) → SoundIndex b → (w : Question) → w .stages ≡ fullSet → liveCandidates (viewOf b) (sought w) ≡ live (viewOf b)
+full-live b s w e = live-full b s (sought w) e
+
 -- ---- WHAT THE SEARCH FINDS
 
 -- on a sound index of as many features as the point has coordinates
 module _ (b : List ℕ) (s : SoundIndex b) (w : Question) (d : length (w .point) ≡ viewOf b .d) where
   suits : Askable (viewOf b .d) (sought w)
-  suits = plain-suits (viewOf b .d) (w .point) (w .k) d
+  suits = plain-suits (viewOf b .d) (w .point) (w .k) (choiceOf w) d
 
   pub called-for : All (λ t. (toRead (viewOf b) (sought w) t ≡ true → Called (viewOf b) (sought w) t) × (Called (viewOf b) (sought w) t → toRead (viewOf b) (sought w) t ≡ true)) (leavesOf (viewOf b))
   called-for = set-points b s (sought w) suits
@@ -73,6 +80,10 @@ module _ (b : List ℕ) (s : SoundIndex b) (w : Question) (d : length (w .point)
   module _ (one : 1 ≤ w .k) where
     pub sought-exact : found b (sought w) ≡ record { rows = nearest ranking (w .k) (rowsOf (viewOf b) (sought w)); leaves = count (toRead (viewOf b) (sought w)) (leavesOf (viewOf b)) }
     sought-exact = found-exact b s (sought w) suits one
+
+    -- with the full set what 01 calls for (02)
+    pub full-exact : w .stages ≡ fullSet → found b (sought w) ≡ plainDue (viewOf b) (sought w)
+    full-exact e = full-set b s (sought w) e suits one
 
     pub read-ordered : leavesRead b (sought w) ≡ readingOrder (viewOf b) (sought w)
     read-ordered = leaves-read b s (sought w) suits one

@@ -28,8 +28,8 @@ module _ (w : Question) (slots features : List ℕ) (e : slots ≡ slotsOf (w .p
   own-length : length (take n slots) ≡ n
   own-length = ap length own ∙ length-map (w .point) stored
 
-  pub query-for : LaidOut (take n slots) (take n slots) (replicate (length (take n slots)) 1) features → QueryFor w (record { features = features; d = n; k = w .k })
-  query-for h =
+  pub query-for : (set : ℕ) → set ≡ w .stages → LaidOut (take n slots) (take n slots) (replicate (length (take n slots)) 1) features → QueryFor w (record { features = features; d = n; k = w .k; choice = record { stages = set } })
+  query-for set e h =
       let asked = take (48 + n) features in
       let cut : take (48 + length (take n slots)) features ≡ asked = ap (λ (m : ℕ). take (48 + m) features) own-length in
       let same : askedOf asked ≡ plain (w .point) =
@@ -39,5 +39,5 @@ module _ (w : Question) (slots features : List ℕ) (e : slots ≡ slotsOf (w .p
         slots = h .places;
         few = can .most;
         seekable = seekable-point asked (w .point) (subst Packed cut (h .packed)) same (in-range (w .point) (can .ranges)) (can .features);
-        is = λ i. record { features = same i; k = w .k };
+        is = λ i. record { features = same i; k = w .k; choice = record { stages = e i } };
       }

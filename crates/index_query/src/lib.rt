@@ -7,10 +7,12 @@ use geometry::MAX_FEATURES;
 use geometry::points::slots_of;
 use geometry_slices::asked::ask;
 use search::Query;
+use search_model::Choice;
 
 // What is asked of a point.
 pub struct Criteria {
     pub k: usize, // how many of its nearest
+    pub stages: u8, // of which stages: bit s for stage s
 }
 
 // The features of a point whose coordinates are as stored: each of weight 1.
@@ -31,9 +33,13 @@ pub fn query_of(point: &[i16], what: Criteria) -> Query
     let n = point.len();
     let slots = slots_of(point);
     let features = plain_features(&slots[..n]);
+    let choice = Choice {
+        stages: what.stages,
+    };
     Query {
         features: features,
         d: n,
         k: what.k,
+        choice: choice,
     }
 }

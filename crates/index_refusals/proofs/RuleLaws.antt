@@ -11,7 +11,9 @@ use Rattle.lists.specs.Tests.{three}
 use Rattle.geometry.specs.Stored.{inRange}
 use Rattle.pagestore.specs.Store.{viewOf, fieldAt, features, total}
 use Rattle.index_query.specs.Asking.{Question}
-use Rattle.index_refusals.specs.Refusals.{Rule, First, zeroId, askedRules}
+use Rattle.tree_model.specs.Sound.{maxStage}
+use Rattle.index_refusals.specs.declared.Epoch.{Epoch}
+use Rattle.index_refusals.specs.Refusals.{Rule, First, zeroId, badStage, askedRules}
 use Rattle.index_refusals.specs.RefusalLaws.{Hold, numbered, all-hold, refused-before, refused-after, later}
 use Rattle.lists.specs.Judges.{Decides}
 use Rattle.index_refusals.specs.Trusted.{Suits, trustedPoint, trustedInsert, trustedQuestion, pairRules}
@@ -65,23 +67,30 @@ module _ (b : List ℕ) (w : Question) (lent n : ℕ) (f : First (trustedPoint b
   pub question-further : n ≡ 0 → (m : ℕ) → First (askedRules w lent) m → First (trustedQuestion b w lent) m
   question-further e m g = refused-after (trustedPoint b (w .point)) (askedRules w lent) m (none-refuses (trustedPoint b (w .point)) n refl f e) g
 
--- ---- THE IDENTIFIER AND ITS POINT
+-- ---- RULES THAT OTHERS FOLLOW
 
-module _ (b : List ℕ) (i : ℕ) (p : List ℤ) (n : ℕ) (f : First (pairRules b i p) n) where
-  pub pair-refuses : (rest : List Rule) → n ≢ 0 → First (pairRules b i p ++ rest) n
-  pair-refuses rest w = refused-before (pairRules b i p) rest n w f
+module _ (rules : List Rule) (n : ℕ) (f : First rules n) where
+  pub first-refuses : (rest : List Rule) → n ≢ 0 → First (rules ++ rest) n
+  first-refuses rest w = refused-before rules rest n w f
 
-  module _ (e : n ≡ 0) where
-    pub pair-passes : (rest : List Rule) (m : ℕ) → First rest m → First (pairRules b i p ++ rest) m
-    pair-passes rest m g = refused-after (pairRules b i p) rest m (none-refuses (pairRules b i p) n refl f e) g
+  pub first-passes : numbered rules ≡ true → n ≡ 0 → (rest : List Rule) (m : ℕ) → First rest m → First (rules ++ rest) m
+  first-passes w e rest m g = refused-after rules rest m (none-refuses rules n w f e) g
 
-    pub pair-ident : 1 ≤ i
-    pair-ident = none-refuses (pairRules b i p) n refl f e .1 .1 .1 .1 .0
+-- an identifier and its point, whatever rules follow: the identifier is not 0, and there is a record
+module _ (b : List ℕ) (i : ℕ) (p : List ℤ) (rest : List Rule) (w : numbered rest ≡ true) (n : ℕ) (f : First (pairRules b i p ++ rest) n) (e : n ≡ 0) where
+  pub pair-ident : 1 ≤ i
+  pair-ident = none-refuses (pairRules b i p ++ rest) n w f e .1 .1 .1 .1 .0
 
--- what passes them has a record, whatever rules follow
-pub pair-fits : (b : List ℕ) (i : ℕ) (p : List ℤ) (rest : List Rule) → numbered rest ≡ true → (n : ℕ) → First (pairRules b i p ++ rest) n → n ≡ 0 → (length p ≤ 16) × (inRange p ≡ true)
-pair-fits b i p rest w n f e = let h = none-refuses (pairRules b i p ++ rest) n w f e in (h .1 .1 .0 .1, h .1 .1 .1 .0)
+  pub pair-fits : (length p ≤ 16) × (inRange p ≡ true)
+  pair-fits = let h = none-refuses (pairRules b i p ++ rest) n w f e in (h .1 .1 .0 .1, h .1 .1 .1 .0)
 
--- the rules of an insert that follow them
-abbrev pub ofInsert : List ℕ → ℕ → List ℤ → List Rule
-ofInsert b i p = later (later (later (later (later (trustedInsert b i p)))))
+-- the rules of an insert that follow those of the identifier and its point, and those of the epoch
+abbrev pub afterPair : List ℕ → Epoch → List ℤ → List Rule
+afterPair b x p = later (later (later (later (later (trustedInsert b x p)))))
+
+abbrev pub afterEpoch : List ℕ → Epoch → List ℤ → List Rule
+afterEpoch b x p = later (afterPair b x p)
+
+-- the rule of the stage by itself
+abbrev pub stageRule : Epoch → List Rule
+stageRule x = (badStage, x .stage ≤ maxStage) ∷ []

@@ -8,6 +8,7 @@ use Rattle.tree_core.specs.Deletion.{deleteFrom}
 use Rattle.tree_core.specs.Lookup.{findIn}
 use Rattle.search_model.specs.Visit.{Answer as Found, found}
 use Rattle.index_query.specs.Asking.{Question, sought}
+use Rattle.index_refusals.specs.declared.Epoch.{Epoch}
 use Rattle.index_refusals.specs.Refusals.{recordOf}
 
 -- what success gives, or what there was if the number refuses
@@ -20,8 +21,8 @@ unlessRefused (suc n) new old = old
 abbrev pub madeWith : ℕ → List ℕ → ℕ → List ℕ
 madeWith n b d = unlessRefused n (newIndex b d) b
 
-abbrev pub insertedWith : ℕ → List ℕ → ℕ → List ℤ → List ℕ
-insertedWith n b i p = unlessRefused n (insertInto b (recordOf i p)) b
+abbrev pub insertedWith : ℕ → List ℕ → Epoch → List ℤ → List ℕ
+insertedWith n b e p = unlessRefused n (insertInto b (recordOf e p)) b
 
 abbrev pub deletedWith : ℕ → List ℕ → ℕ → List ℕ
 deletedWith n b i = unlessRefused n (deleteFrom b (findIn b i)) b

@@ -1,5 +1,5 @@
--- Laws of the refusal table: it gives one number at most (and one at least: NumberLaws), in 01's order without 12, and an act that it does not
--- refuse has every condition.
+-- Laws of the refusal table: it gives one number at most (and one at least: NumberLaws), in 01's order without 12 and with 02's numbers in
+-- their places, and an act that it does not refuse has every condition.
 use mathlib.Core.Path.{_≡_, refl, sym, _∙_, subst}
 use mathlib.Core.Bool.{Bool, true, false}
 use mathlib.Core.Logic.{_≢_, inl, inr}
@@ -18,7 +18,9 @@ use Rattle.pagestore.specs.Store.{viewOf}
 use Rattle.tree_model.specs.Sound.{RecordOk, SoundIndex}
 use Rattle.tree_laws.specs.LookupPromises.{find-ident}
 use Rattle.tree_laws.specs.KeyedPromises.{found-all}
+use Rattle.search_model.specs.Asked.{fullSet}
 use Rattle.index_query.specs.Asking.{Question, maxRows}
+use Rattle.index_refusals.specs.declared.Epoch.{Epoch}
 use Rattle.index_refusals.specs.Refusals.{Rule, First, numbers, liveTimes, makeRules, insertRules, deleteRules, questionRules, askedRules, checkRules}
 
 pub first-one : (rules : List Rule) (m n : ℕ) → First rules m → First rules n → m ≡ n
@@ -30,14 +32,14 @@ first-one (rule ∷ rules) m n (inr e) (inr f) = first-one rules m n (e .1) (f .
 
 -- ---- THE NUMBERS
 
--- the order of each act (01, "Order", without 12: Q-7)
-pub orders : (bytes d : ℕ) (b : List ℕ) (i : ℕ) (p : List ℤ) (w : Question) (n : ℕ)
+-- the order of each act (01, "Order", without 12: Q-7; 15 after an insert's 5, 16 after a question's 11: Q-2)
+pub orders : (bytes d : ℕ) (b : List ℕ) (e : Epoch) (i : ℕ) (p : List ℤ) (w : Question) (n : ℕ)
     → (numbers (makeRules bytes d) ≡ 1 ∷ 3 ∷ [])
-    × (numbers (insertRules b i p) ≡ 1 ∷ 2 ∷ 3 ∷ 4 ∷ 5 ∷ 6 ∷ 8 ∷ 9 ∷ [])
+    × (numbers (insertRules b e p) ≡ 1 ∷ 2 ∷ 3 ∷ 4 ∷ 5 ∷ 15 ∷ 6 ∷ 8 ∷ 9 ∷ [])
     × (numbers (deleteRules b i) ≡ 1 ∷ 2 ∷ 5 ∷ 7 ∷ [])
-    × (numbers (questionRules b w n) ≡ 1 ∷ 2 ∷ 3 ∷ 4 ∷ 10 ∷ 11 ∷ [])
+    × (numbers (questionRules b w n) ≡ 1 ∷ 2 ∷ 3 ∷ 4 ∷ 10 ∷ 11 ∷ 16 ∷ [])
     × (numbers (checkRules b) ≡ 1 ∷ 2 ∷ [])
-orders bytes d b i p w n = (refl, refl, refl, refl, refl)
+orders bytes d b e i p w n = (refl, refl, refl, refl, refl)
 
 -- a number that no rule has is not given
 pub not-given : (rules : List Rule) (m n : ℕ) → 0 < m → mult m (numbers rules) ≡ 0 → First rules n → n ≢ m
@@ -110,13 +112,14 @@ pub record Carried (d : ℕ) (w : Question) (n : ℕ) : Type 0 where
   pub some : 1 ≤ w .k
   pub most : w .k ≤ maxRows
   pub lent : w .k ≤ n
+  pub set : (1 ≤ w .stages) × (w .stages ≤ fullSet)
 
 pub asked-carried : (d : ℕ) (w : Question) (n : ℕ) → length (w .point) ≡ d → inRange (w .point) ≡ true → Hold (askedRules w n) → Carried d w n
-asked-carried d w n e r h = record { features = e; ranges = r; some = h .0 .0; most = h .0 .1; lent = h .1 .0 }
+asked-carried d w n e r h = record { features = e; ranges = r; some = h .0 .0; most = h .0 .1; lent = h .1 .0; set = h .1 .1 .0 }
 
 -- and conversely
 pub carried-asked : (d : ℕ) (w : Question) (n : ℕ) → Carried d w n → Hold (askedRules w n)
-carried-asked d w n h = ((h .some, h .most), (h .lent, tt))
+carried-asked d w n h = ((h .some, h .most), (h .lent, (h .set, tt)))
 
 module _ (b : List ℕ) (w : Question) (n : ℕ) (h : First (questionRules b w n) 0) where
   pub question-sound : SoundIndex b

@@ -13,9 +13,11 @@ use Rattle.geometry.specs.Numbers.{maxFeatures}
 use Rattle.pagestore_page.specs.declared.Record.{Record}
 use Rattle.pagestore.specs.Store.{viewOf, freeAt}
 use Rattle.tree_model.specs.Trees.{identOf, live}
-use Rattle.tree_model.specs.Sound.{Permitted, SoundIndex, maxPoints}
+use Rattle.tree_model.specs.Sound.{Permitted, SoundIndex, maxPoints, maxStage}
 use Rattle.tree_core.specs.Insertion.{pagesWanted}
+use Rattle.search_model.specs.Asked.{fullSet}
 use Rattle.index_query.specs.Asking.{Question, maxRows}
+use Rattle.index_refusals.specs.declared.Epoch.{Epoch}
 
 -- a number with its condition
 abbrev pub Rule : Type 1
@@ -31,9 +33,9 @@ abbrev pub numbers : List Rule → List ℕ
 numbers [] = []
 numbers (rule ∷ rules) = rule .0 ∷ numbers rules
 
--- the record that an insert brings: its identifier, and its point as it is stored
-abbrev pub recordOf : ℕ → List ℤ → Record
-recordOf i p = record { id = i; coords = slotsOf p }
+-- the record that an insert brings: the epoch's identifier, stage and stamp, and its point as it is stored
+abbrev pub recordOf : Epoch → List ℤ → Record
+recordOf e p = record { id = e .id; stage = e .stage; stamp = e .stamp; coords = slotsOf p }
 
 -- how often the identifier i is live: once or not at all
 abbrev pub liveTimes : List ℕ → ℕ → ℕ
@@ -74,7 +76,13 @@ badK = 10
 abbrev pub fewRows : ℕ
 fewRows = 11
 
--- b: the bytes lent. d: features. i: an identifier. p: a point. w: a question. n: rows lent.
+abbrev pub badStage : ℕ
+badStage = 15
+
+abbrev pub badStageSet : ℕ
+badStageSet = 16
+
+-- b: the bytes lent. d: features. e: an epoch. i: an identifier. p: a point. w: a question. n: rows lent.
 
 abbrev pub makeRules : ℕ → ℕ → List Rule
 makeRules bytes d =
@@ -82,16 +90,17 @@ makeRules bytes d =
     ∷ (badFeatures, (1 ≤ d) × (d ≤ maxFeatures))
     ∷ []
 
-abbrev pub insertRules : List ℕ → ℕ → List ℤ → List Rule
-insertRules b i p =
+abbrev pub insertRules : List ℕ → Epoch → List ℤ → List Rule
+insertRules b e p =
     (badLength, Permitted (length b))
     ∷ (unsound, SoundIndex b)
     ∷ (badFeatures, length p ≡ viewOf b .d)
     ∷ (badCoordinate, inRange p ≡ true)
-    ∷ (zeroId, 1 ≤ i)
-    ∷ (alreadyLive, liveTimes b i ≡ 0)
+    ∷ (zeroId, 1 ≤ e .id)
+    ∷ (badStage, e .stage ≤ maxStage)
+    ∷ (alreadyLive, liveTimes b (e .id) ≡ 0)
     ∷ (full, length (live (viewOf b)) < maxPoints)
-    ∷ (noPages, pagesWanted b (recordOf i p) ≤ length (freeAt b))
+    ∷ (noPages, pagesWanted b (recordOf e p) ≤ length (freeAt b))
     ∷ []
 
 abbrev pub deleteRules : List ℕ → ℕ → List Rule
@@ -107,6 +116,7 @@ abbrev pub askedRules : Question → ℕ → List Rule
 askedRules w n =
     (badK, (1 ≤ w .k) × (w .k ≤ maxRows))
     ∷ (fewRows, w .k ≤ n)
+    ∷ (badStageSet, (1 ≤ w .stages) × (w .stages ≤ fullSet))
     ∷ []
 
 abbrev pub questionRules : List ℕ → Question → ℕ → List Rule

@@ -6,34 +6,36 @@
 use mathlib.Core.Path.{_≡_}
 use mathlib.Core.Bool.{true}
 use mathlib.Core.Logic.{_≢_}
-use mathlib.Core.List.{List, [], _∷_}
+use mathlib.Core.List.{List, [], _∷_, _++_}
 use Prim.Native.Nat.{ℕ, _≤_, _<_}
 use lib.IntN.{ℤ}
 use lib.ListN.{length}
 use Rattle.geometry.specs.Stored.{inRange}
 use Rattle.geometry.specs.Numbers.{maxFeatures}
 use Rattle.pagestore.specs.Store.{viewOf, fieldAt, level, freeAt}
-use Rattle.tree_model.specs.Sound.{Permitted, maxPoints}
+use Rattle.tree_model.specs.Sound.{Permitted, maxPoints, maxStage}
 use Rattle.tree_core.specs.Insertion.{pagesWanted}
 use Rattle.tree_core.specs.Lookup.{findIn}
 use Rattle.index_query.specs.Asking.{Question}
-use Rattle.index_refusals.specs.Refusals.{Rule, recordOf, askedRules, badLength, unsound, badFeatures, badCoordinate, zeroId, alreadyLive, notLive, full, noPages}
+use Rattle.index_refusals.specs.declared.Epoch.{Epoch}
+use Rattle.index_refusals.specs.Refusals.{Rule, recordOf, askedRules, badLength, unsound, badFeatures, badCoordinate, zeroId, badStage, alreadyLive, notLive, full, noPages}
 use Rattle.search_model.specs.Numbers.{maxLevel}
 
 -- the point p has as many coordinates as the index b has features: 1 to 16
 abbrev pub Suits : List ℕ → List ℤ → Type 0
 Suits b p = (1 ≤ length p) × (length p ≤ maxFeatures) × (length p ≡ viewOf b .d)
 
-abbrev pub trustedInsert : List ℕ → ℕ → List ℤ → List Rule
-trustedInsert b i p =
+abbrev pub trustedInsert : List ℕ → Epoch → List ℤ → List Rule
+trustedInsert b e p =
     (badLength, Permitted (length b))
     ∷ (unsound, fieldAt level b ≤ maxLevel)
     ∷ (badFeatures, Suits b p)
     ∷ (badCoordinate, inRange p ≡ true)
-    ∷ (zeroId, 1 ≤ i)
-    ∷ (alreadyLive, findIn b i .id ≡ 0)
+    ∷ (zeroId, 1 ≤ e .id)
+    ∷ (badStage, e .stage ≤ maxStage)
+    ∷ (alreadyLive, findIn b (e .id) .id ≡ 0)
     ∷ (full, viewOf b .total < maxPoints)
-    ∷ (noPages, pagesWanted b (recordOf i p) ≤ length (freeAt b))
+    ∷ (noPages, pagesWanted b (recordOf e p) ≤ length (freeAt b))
     ∷ []
 
 abbrev pub trustedDelete : List ℕ → ℕ → List Rule
@@ -61,7 +63,7 @@ trustedPoint b p =
     ∷ (badCoordinate, inRange p ≡ true)
     ∷ []
 
--- those that speak of an identifier and its point, and of room for a record
+-- those that speak of an identifier and its point, of an epoch and its point, and of room for a record
 abbrev pub pairRules : List ℕ → ℕ → List ℤ → List Rule
 pairRules b i p =
     (badLength, Permitted (length b))
@@ -71,8 +73,11 @@ pairRules b i p =
     ∷ (zeroId, 1 ≤ i)
     ∷ []
 
-abbrev pub roomRules : List ℕ → ℕ → List ℤ → List Rule
-roomRules b i p =
+abbrev pub epochRules : List ℕ → Epoch → List ℤ → List Rule
+epochRules b e p = pairRules b (e .id) p ++ ((badStage, e .stage ≤ maxStage) ∷ [])
+
+abbrev pub roomRules : List ℕ → Epoch → List ℤ → List Rule
+roomRules b e p =
     (full, viewOf b .total < maxPoints)
-    ∷ (noPages, pagesWanted b (recordOf i p) ≤ length (freeAt b))
+    ∷ (noPages, pagesWanted b (recordOf e p) ≤ length (freeAt b))
     ∷ []

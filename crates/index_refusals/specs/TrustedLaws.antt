@@ -15,6 +15,7 @@ use Rattle.tree_core.specs.Lookup.{findIn}
 use Rattle.tree_laws.specs.LookupPromises.{find-ident, find-none}
 use Rattle.search_model.proofs.SoundLaws.{tree-level}
 use Rattle.index_query.specs.Asking.{Question}
+use Rattle.index_refusals.specs.declared.Epoch.{Epoch}
 use Rattle.index_refusals.specs.Refusals.{Rule, First, numbers, liveTimes, insertRules, deleteRules, questionRules, askedRules}
 use Rattle.index_refusals.specs.RefusalLaws.{all-hold, later, Carried, asked-carried}
 use Rattle.index_refusals.specs.Trusted.{Suits, trustedInsert, trustedDelete, trustedQuestion}
@@ -22,8 +23,8 @@ use Rattle.search_model.specs.Numbers.{maxLevel}
 
 -- ---- THE NUMBERS: THE ACT'S, IN ITS ORDER
 
-pub insert-numbers : (b : List ℕ) (i : ℕ) (p : List ℤ) → numbers (trustedInsert b i p) ≡ numbers (insertRules b i p)
-insert-numbers b i p = refl
+pub insert-numbers : (b : List ℕ) (e : Epoch) (p : List ℤ) → numbers (trustedInsert b e p) ≡ numbers (insertRules b e p)
+insert-numbers b e p = refl
 
 pub delete-numbers : (b : List ℕ) (i : ℕ) → numbers (trustedDelete b i) ≡ numbers (deleteRules b i)
 delete-numbers b i = refl
@@ -68,16 +69,16 @@ module _ (b : List ℕ) (s : SoundIndex b) where
   pub not-found : (i : ℕ) → liveTimes b i ≡ 0 → findIn b i .id ≡ 0
   not-found i z = ap (λ (r : Record). r .id) (find-none b i s z)
 
-  pub insert-same : (i : ℕ) (p : List ℤ) (n : ℕ) → First (trustedInsert b i p) n → First (insertRules b i p) n
-  insert-same i p n (inl e) = inl e
-  insert-same i p n (inr (h, inl e)) = absurd (e .1 level-low)
-  insert-same i p n (inr (h, inr f)) =
+  pub insert-same : (x : Epoch) (p : List ℤ) (n : ℕ) → First (trustedInsert b x p) n → First (insertRules b x p) n
+  insert-same x p n (inl e) = inl e
+  insert-same x p n (inr (h, inl e)) = absurd (e .1 level-low)
+  insert-same x p n (inr (h, inr f)) =
       inr (
         h,
         inr (
           s,
-          first-alike (later (later (trustedInsert b i p))) (later (later (insertRules b i p)))
-              (refl, λ h. h .2, suits p, λ w. (refl, λ h. h, λ h. h, λ w. (refl, λ h. h, λ h. h, λ l. (refl, not-live i l, not-found i, λ w. (refl, λ h. few h, λ h. total h, λ w. (refl, λ h. h, λ h. h, λ w. tt)))))) n (f .1),
+          first-alike (later (later (trustedInsert b x p))) (later (later (insertRules b x p)))
+              (refl, λ h. h .2, suits p, λ w. (refl, λ h. h, λ h. h, λ w. (refl, λ h. h, λ h. h, λ l. (refl, λ h. h, λ h. h, λ w. (refl, not-live (x .id) l, not-found (x .id), λ w. (refl, λ h. few h, λ h. total h, λ w. (refl, λ h. h, λ h. h, λ w. tt))))))) n (f .1),
         ),
       )
     where

@@ -10,12 +10,13 @@ ghost use Rattle.tree_model.specs.Sound.{Permitted};
 ghost use Rattle.index_query.specs.Asking.{questionOf};
 ghost use Rattle.index_refusals.specs.Refusals.{First, makeRules, recordOf};
 ghost use Rattle.lists.specs.Judges.{Decides};
-ghost use Rattle.index_refusals.specs.Trusted.{trustedPoint, pairRules, roomRules, trustedInsert, trustedQuestion};
+ghost use Rattle.index_refusals.specs.Trusted.{trustedPoint, pairRules, epochRules, roomRules, trustedInsert, trustedQuestion};
 use geometry::MAX_FEATURES;
 use geometry::points::slots_of;
 use index_query::Criteria;
 use pagestore::MAX_PAGES;
 use pagestore::MAX_POINTS;
+use pagestore::MAX_STAGE;
 use pagestore::PAGE_SIZE;
 use pagestore::Record;
 use pagestore::features_of;
@@ -26,6 +27,7 @@ use pagestore::in_range;
 use pagestore::page_count;
 use pagestore::root_level;
 use pagestore::total_records;
+use search_model::ALL_STAGES;
 use search_model::MAX_LEVEL;
 use search_rows::MAX_ROWS;
 use tree::find;
@@ -53,6 +55,17 @@ pub const NO_PAGES: u32 = 9; // the insert wants more pages than are unused or f
 pub const BAD_K: u32 = 10; // k is out of range
 
 pub const FEW_ROWS: u32 = 11; // fewer than k rows are lent
+
+pub const BAD_STAGE: u32 = 15; // the stage is above 5
+
+pub const BAD_STAGE_SET: u32 = 16; // the stage set is 0 or above 63
+
+// What an insert brings besides its point: the identifier, the stage, and the stamp, seconds since 1 January 2000 00:00 by the lab clock.
+pub struct Epoch {
+    pub id: u32,
+    pub stage: u8,
+    pub stamp: u32,
+}
 
 // The fewest and the most bytes of an index.
 const MIN_BYTES: usize = 2 * PAGE_SIZE;
@@ -137,17 +150,25 @@ pub fn refuse_question(index: &[u8], point: &[i16], what: Criteria, lent: usize)
     if lent < what.k {
         return FEW_ROWS;
     }
+    if what.stages < 1 {
+        return BAD_STAGE_SET;
+    }
+    if ALL_STAGES < what.stages {
+        return BAD_STAGE_SET;
+    }
     0
 }
 
-// The record of an identifier and a point.
-pub fn record_of(id: u32, point: &[i16]) -> Record
+// The record of an epoch and its point.
+pub fn record_of(epoch: Epoch, point: &[i16]) -> Record
     requires { ⌜ (length (now point) ≤ 16) × (inRange (now point) ≡ true) ⌝ }
-    ensures { λ r. ⌜ r ≡ recordOf id (now (point .entry)) ⌝ }
+    ensures { λ r. ⌜ r ≡ recordOf epoch (now (point .entry)) ⌝ }
 {
     let slots = slots_of(point);
     Record {
-        id: id,
+        id: epoch.id,
+        stage: epoch.stage,
+        stamp: epoch.stamp,
         coords: slots,
     }
 }
@@ -166,6 +187,20 @@ pub fn refuse_pair(index: &[u8], id: u32, point: &[i16]) -> u32
     0
 }
 
+// The first of 1 to 5 and 15 that applies to an epoch and its point.
+pub fn refuse_epoch(index: &[u8], epoch: Epoch, point: &[i16]) -> u32
+    ensures { λ r. ⌜ First (epochRules (now (index .entry)) epoch (now (point .entry))) r ⌝ }
+{
+    let coded = refuse_pair(index, epoch.id, point);
+    if coded != 0 {
+        return coded;
+    }
+    if MAX_STAGE < epoch.stage {
+        return BAD_STAGE;
+    }
+    0
+}
+
 // Whether fewer pages are free than are wanted. The chain of freed pages is followed only where the pages never used are too few.
 fn too_few(index: &[u8], wanted: u32) -> bool
     ensures { λ r. ⌜ Decides (length (freeAt (now (index .entry))) < wanted) r ⌝ }
@@ -180,14 +215,14 @@ fn too_few(index: &[u8], wanted: u32) -> bool
 }
 
 // The first of 8 and 9 that applies to a record that may be inserted.
-pub fn refuse_room(index: &[u8], id: u32, point: &[i16]) -> u32
+pub fn refuse_room(index: &[u8], epoch: Epoch, point: &[i16]) -> u32
     requires { ⌜ (length (now point) ≤ 16) × (inRange (now point) ≡ true) ⌝ }
-    ensures { λ r. ⌜ First (roomRules (now (index .entry)) id (now (point .entry))) r ⌝ }
+    ensures { λ r. ⌜ First (roomRules (now (index .entry)) epoch (now (point .entry))) r ⌝ }
 {
     if MAX_POINTS <= total_records(index) {
         return FULL;
     }
-    let x = record_of(id, point);
+    let x = record_of(epoch, point);
     if too_few(index, pages_wanted(index, x)) {
         return NO_PAGES;
     }
@@ -195,16 +230,16 @@ pub fn refuse_room(index: &[u8], id: u32, point: &[i16]) -> u32
 }
 
 // The number of an insert.
-pub fn refuse_insert(index: &[u8], id: u32, point: &[i16]) -> u32
-    ensures { λ r. ⌜ First (trustedInsert (now (index .entry)) id (now (point .entry))) r ⌝ }
+pub fn refuse_insert(index: &[u8], epoch: Epoch, point: &[i16]) -> u32
+    ensures { λ r. ⌜ First (trustedInsert (now (index .entry)) epoch (now (point .entry))) r ⌝ }
 {
-    let coded = refuse_pair(index, id, point);
+    let coded = refuse_epoch(index, epoch, point);
     if coded != 0 {
         return coded;
     }
-    let found = find(index, id);
+    let found = find(index, epoch.id);
     if found.id != 0 {
         return ALREADY_LIVE;
     }
-    refuse_room(index, id, point)
+    refuse_room(index, epoch, point)
 }

@@ -10,6 +10,7 @@ use index_answer::deliver;
 use index_query::Criteria;
 use index_query::query_of;
 use index_refusals::BAD_LENGTH;
+use index_refusals::Epoch;
 use index_refusals::NOT_LIVE;
 use index_refusals::UNSOUND;
 use index_refusals::ZERO_ID;
@@ -24,19 +25,19 @@ use search_rows::MAX_ROWS;
 use search_rows::Row;
 use tree::find;
 
-// Inserts an identifier with its point.
-pub fn insert(index: &mut [u8], id: u32, point: &[i16]) -> u32
-    ensures { λ r. ⌜ TrustedInserted (now (index .entry)) id (now (point .entry)) r (now (index .exit)) ⌝ }
+// Inserts an epoch with its point.
+pub fn insert(index: &mut [u8], epoch: Epoch, point: &[i16]) -> u32
+    ensures { λ r. ⌜ TrustedInserted (now (index .entry)) epoch (now (point .entry)) r (now (index .exit)) ⌝ }
 {
-    let code = refuse_insert(index, id, point);
+    let code = refuse_insert(index, epoch, point);
     if code == 0 {
-        let x = record_of(id, point);
+        let x = record_of(epoch, point);
         tree::insert(index, x);
     }
     code
 }
 
-// Deletes an identifier with its point.
+// Deletes the epoch of an identifier.
 pub fn delete(index: &mut [u8], id: u32) -> u32
     ensures { λ r. ⌜ TrustedDeleted (now (index .entry)) id r (now (index .exit)) ⌝ }
 {

@@ -10,26 +10,33 @@ use lib.ListN.{length}
 use Rattle.geometry.specs.Stored.{inRange}
 use Rattle.pagestore.specs.Store.{viewOf, fieldAt, level, freeAt}
 use Rattle.tree_model.specs.Trees.{pointIn}
-use Rattle.tree_model.specs.Sound.{Permitted, maxPoints}
+use Rattle.pagestore_page.specs.declared.Record.{Record}
+use Rattle.tree_model.specs.Sound.{Permitted, maxPoints, maxStage}
 use Rattle.tree_core.specs.Insertion.{pagesWanted}
 use Rattle.tree_core.specs.Deletion.{deleteFrom}
 use Rattle.tree_core.specs.Lookup.{findIn}
 use Rattle.tree_core.specs.Keyed.{holdsAt}
-use Rattle.index_refusals.specs.Refusals.{Rule, First, recordOf, liveTimes, badLength, unsound, badFeatures, badCoordinate, zeroId, notLive, full, noPages}
+use Rattle.index_refusals.specs.declared.Epoch.{Epoch}
+use Rattle.index_refusals.specs.Refusals.{Rule, First, recordOf, liveTimes, badLength, unsound, badFeatures, badCoordinate, zeroId, badStage, notLive, full, noPages}
 use Rattle.index_refusals.specs.Outcomes.{unlessRefused, insertedWith}
 use Rattle.index_refusals.specs.Trusted.{Suits}
 use Rattle.search_model.specs.Numbers.{maxLevel}
 
-abbrev pub vouchedInsert : List ℕ → ℕ → List ℤ → List Rule
-vouchedInsert b i p =
+abbrev pub vouchedInsert : List ℕ → Epoch → List ℤ → List Rule
+vouchedInsert b e p =
     (badLength, Permitted (length b))
     ∷ (unsound, fieldAt level b ≤ maxLevel)
     ∷ (badFeatures, Suits b p)
     ∷ (badCoordinate, inRange p ≡ true)
-    ∷ (zeroId, 1 ≤ i)
+    ∷ (zeroId, 1 ≤ e .id)
+    ∷ (badStage, e .stage ≤ maxStage)
     ∷ (full, viewOf b .total < maxPoints)
-    ∷ (noPages, pagesWanted b (recordOf i p) ≤ length (freeAt b))
+    ∷ (noPages, pagesWanted b (recordOf e p) ≤ length (freeAt b))
     ∷ []
+
+-- the record that a delete is told: its identifier and its point. Its stage and its stamp are not looked at.
+abbrev pub recordTold : ℕ → List ℤ → Record
+recordTold i p = recordOf (record { id = i; stage = 0; stamp = 0 }) p
 
 abbrev pub vouchedDelete : List ℕ → ℕ → List ℤ → List Rule
 vouchedDelete b i p =
@@ -38,16 +45,16 @@ vouchedDelete b i p =
     ∷ (badFeatures, Suits b p)
     ∷ (badCoordinate, inRange p ≡ true)
     ∷ (zeroId, 1 ≤ i)
-    ∷ (notLive, holdsAt b (recordOf i p) ≡ true)
+    ∷ (notLive, holdsAt b (recordTold i p) ≡ true)
     ∷ []
 
 -- what a delete with number n leaves; what an insert leaves is `insertedWith`
 abbrev pub vouchedDeletedWith : ℕ → List ℕ → ℕ → List ℤ → List ℕ
-vouchedDeletedWith n b i p = unlessRefused n (deleteFrom b (recordOf i p)) b
+vouchedDeletedWith n b i p = unlessRefused n (deleteFrom b (recordTold i p)) b
 
--- what an insert and a delete of identifier i with point p on index b return, the number r, and leave, the index c
-abbrev pub VouchedInserted : List ℕ → ℕ → List ℤ → ℕ → List ℕ → Type 0
-VouchedInserted b i p r c = (First (vouchedInsert b i p) r) × (c ≡ insertedWith r b i p)
+-- what an insert of the epoch e, and a delete of identifier i, with point p on index b return, the number r, and leave, the index c
+abbrev pub VouchedInserted : List ℕ → Epoch → List ℤ → ℕ → List ℕ → Type 0
+VouchedInserted b e p r c = (First (vouchedInsert b e p) r) × (c ≡ insertedWith r b e p)
 
 abbrev pub VouchedDeleted : List ℕ → ℕ → List ℤ → ℕ → List ℕ → Type 0
 VouchedDeleted b i p r c = (First (vouchedDelete b i p) r) × (c ≡ vouchedDeletedWith r b i p)

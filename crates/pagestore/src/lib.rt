@@ -15,6 +15,7 @@ pub use pagestore_page::Leaf;
 pub use pagestore_page::MAX_ITEMS;
 pub use pagestore_page::MAX_PAGES;
 pub use pagestore_page::MAX_POINTS;
+pub use pagestore_page::MAX_STAGE;
 pub use pagestore_page::MIN_ITEMS;
 pub use pagestore_page::PAGE_SIZE;
 pub use pagestore_page::Record;
@@ -24,6 +25,7 @@ pub use pagestore_page::lanes;
 pub use pagestore_page::read_coord;
 pub use pagestore_page::read_count;
 pub use pagestore_page::read_ident;
+pub use pagestore_page::read_stage;
 
 // Pages by number.
 pub use inners::set_inner;

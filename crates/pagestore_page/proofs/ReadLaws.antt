@@ -12,7 +12,7 @@ use Rattle.pagestore_page.specs.declared.Record.{Record}
 use Rattle.pagestore_page.specs.declared.Leaf.{Leaf}
 use Rattle.pagestore_page.specs.declared.Entry.{Entry}
 use Rattle.pagestore_bytes.specs.Bytes.{byteAt, leAt}
-use Rattle.pagestore_page.specs.Layout.{keyAt, entryAt, coordRoom, coordAt, identAt, recordAt, leafOf, innerOf, noRecord, noEntry}
+use Rattle.pagestore_page.specs.Layout.{keyAt, entryAt, coordRoom, coordAt, identAt, stageAt, stampAt, recordAt, leafOf, innerOf, noRecord, noEntry}
 use Rattle.pagestore_page.specs.LayoutLaws.{leaf-fits, leaf-slots}
 
 pub key-is : (s : List ℕ) (at p h n : ℕ) → p ≡ byteAt s (at + 6) → h ≡ leAt 2 s (at + 4) → n ≡ leAt 4 s at
@@ -33,6 +33,14 @@ record-read s i h = sym (getD-tabulate 16 (recordAt s) i noRecord h)
 pub ident-read : (s : List ℕ) (i : ℕ) → i < 16 → leAt 4 s (identAt i) ≡ getD (leafOf s .records) i noRecord .id
 unfolding recordAt
 ident-read s i h = ap (λ (r : Record). r .id) (record-read s i h)
+
+pub stage-read : (s : List ℕ) (i at : ℕ) → i < 16 → at ≡ stageAt i → byteAt s at ≡ getD (leafOf s .records) i noRecord .stage
+unfolding recordAt
+stage-read s i at h e = ap (λ (k : ℕ). byteAt s k) e ∙ ap (λ (r : Record). r .stage) (record-read s i h)
+
+pub stamp-read : (s : List ℕ) (i : ℕ) → i < 16 → leAt 4 s (stampAt i) ≡ getD (leafOf s .records) i noRecord .stamp
+unfolding recordAt
+stamp-read s i h = ap (λ (r : Record). r .stamp) (record-read s i h)
 
 pub coord-read : (s : List ℕ) (m i : ℕ) → m < 16 → i < 16 → leAt 2 s (coordAt m i) % coordRoom ≡ getD (getD (leafOf s .records) i noRecord .coords) m 0
 unfolding recordAt
@@ -57,13 +65,15 @@ unfolding entryAt keyAt leAt
 entry-none i h = entry-read [] i h
 
 -- a record, or a page, of which each part was read by itself
-pub record-whole : (s : List ℕ) (i n : ℕ) (cs : List ℕ) → i < 16 → n ≡ getD (leafOf s .records) i noRecord .id
-    → cs ≡ tabulate 16 (λ k. getD (getD (leafOf s .records) i noRecord .coords) k 0) → _≡_ {A = Record} (record { id = n; coords = cs }) (getD (leafOf s .records) i noRecord)
-record-whole s i n cs h p q =
+pub record-whole : (s : List ℕ) (i n g t : ℕ) (cs : List ℕ) → i < 16 → n ≡ getD (leafOf s .records) i noRecord .id
+    → g ≡ getD (leafOf s .records) i noRecord .stage → t ≡ getD (leafOf s .records) i noRecord .stamp
+    → cs ≡ tabulate 16 (λ k. getD (getD (leafOf s .records) i noRecord .coords) k 0)
+    → _≡_ {A = Record} (record { id = n; stage = g; stamp = t; coords = cs }) (getD (leafOf s .records) i noRecord)
+record-whole s i n g t cs h p o r q =
     let x : Record = getD (leafOf s .records) i noRecord in
     let l : length (x .coords) ≡ 16 = all-at (leaf-fits s) i noRecord (rw (leaf-slots s) h) .slots in
     let f : cs ≡ x .coords = q ∙ tabulate-take (x .coords) 0 16 (omega arith) ∙ take-all 16 (x .coords) (omega arith) in
-    λ j. record { id = p j; coords = f j }
+    λ j. record { id = p j; stage = o j; stamp = r j; coords = f j }
 
 pub leaf-whole : (s : List ℕ) (n : ℕ) (rs : List Record) → n ≡ leafOf s .count → rs ≡ tabulate 16 (λ k. getD (leafOf s .records) k noRecord)
     → _≡_ {A = Leaf} (record { count = n; records = rs }) (leafOf s)

@@ -19,7 +19,7 @@ use Rattle.pagestore_page.specs.declared.Entry.{Entry}
 use Rattle.pagestore_page.specs.declared.Inner.{Inner}
 use Rattle.pagestore_bytes.specs.Bytes.{leBytes, put}
 use Rattle.pagestore_bytes.specs.ByteLaws.{length-le, length-put, put-next, put-front}
-use Rattle.pagestore_page.specs.Layout.{keyBytes, entryBytes, coordRoom, coordAt, identAt, putCoords, putRecord, putRecords, blankLeaf, leafBytes, entriesBytes, innerBytes, freedBytes, noRecord, noEntry, recordsIn, entriesIn}
+use Rattle.pagestore_page.specs.Layout.{keyBytes, entryBytes, coordRoom, coordAt, identAt, stageAt, stampAt, putCoords, putLabel, putRecord, putRecords, blankLeaf, leafBytes, entriesBytes, innerBytes, freedBytes, noRecord, noEntry, recordsIn, entriesIn}
 use Rattle.pagestore_page.specs.LayoutLaws.{length-key, length-entry}
 
 behind : (l s t : List ℕ) (at : ℕ) (xs : List ℕ) (j : ℕ) (ys : List ℕ) → s ≡ put l at xs → t ≡ put s j ys → j ≡ at + length xs → t ≡ put l at (xs ++ ys)
@@ -54,7 +54,12 @@ pub coords-next : (l s t : List ℕ) (i m : ℕ) (cs : List ℕ) → s ≡ putCo
 unfolding putCoords
 coords-next l s t i m cs p q = q ∙ rw (p, add-one)
 
-pub record-put : (l s t : List ℕ) (i : ℕ) (r : Record) → s ≡ put l (identAt i) (leBytes 4 (r .id)) → t ≡ putCoords 16 s i (r .coords) → t ≡ putRecord l i r
+pub label-put : (l s t u : List ℕ) (i : ℕ) (r : Record) → s ≡ put l (identAt i) (leBytes 4 (r .id)) → t ≡ put s (stageAt i) (r .stage ∷ [])
+    → u ≡ put t (stampAt i) (leBytes 4 (r .stamp)) → u ≡ putLabel l i r
+unfolding putLabel
+label-put l s t u i r p q o = o ∙ rw (q, p)
+
+pub record-put : (l s t : List ℕ) (i : ℕ) (r : Record) → s ≡ putLabel l i r → t ≡ putCoords 16 s i (r .coords) → t ≡ putRecord l i r
 unfolding putRecord
 record-put l s t i r p q = q ∙ rw p
 

@@ -9,6 +9,8 @@ use Rattle.pagestore_page.specs.declared.Entry.{Entry}
 
 pub record RecordFits (r : Record) : Type 0 where
   pub id : r .id < 2 ^ 32
+  pub stage : r .stage < 2 ^ 8
+  pub stamp : r .stamp < 2 ^ 32
   pub slots : length (r .coords) ≡ 16
   pub coords : All (λ c. c < 2 ^ 11) (r .coords)
 

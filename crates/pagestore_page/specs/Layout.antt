@@ -32,7 +32,11 @@ entryAt s at = record { child = leAt 4 s at; first = keyAt s (at + 4); last = ke
 unfoldable pub entryBytes : Entry → List ℕ
 entryBytes e = leBytes 4 (e .child) ++ (keyBytes (e .first) ++ keyBytes (e .last))
 
--- a leaf holds its records by columns: where they begin, their width, and where the identifiers begin
+-- a leaf holds its records by columns: where the stages begin, one byte each, the coordinates, the width of their columns, and where the
+-- identifiers and the stamps begin
+abbrev pub stagesFrom : ℕ
+stagesFrom = 16
+
 abbrev pub columns : ℕ
 columns = 32
 
@@ -42,31 +46,49 @@ columnWidth = 32
 abbrev pub idents : ℕ
 idents = 576
 
+abbrev pub stampsFrom : ℕ
+stampsFrom = 640
+
 -- of a coordinate's two bytes 11 bits count
 abbrev pub coordRoom : ℕ
 coordRoom = 2048
 
--- coordinate m of record i, and the record's identifier
+-- coordinate m of record i, and the record's identifier, stage and stamp
 abbrev pub coordAt : ℕ → ℕ → ℕ
 coordAt m i = columns + columnWidth * m + 2 * i
 
 abbrev pub identAt : ℕ → ℕ
 identAt i = idents + 4 * i
 
+abbrev pub stageAt : ℕ → ℕ
+stageAt i = stagesFrom + i
+
+abbrev pub stampAt : ℕ → ℕ
+stampAt i = stampsFrom + 4 * i
+
 -- record i of a leaf, and the leaf
 unfoldable pub recordAt : List ℕ → ℕ → Record
-recordAt s i = record { id = leAt 4 s (identAt i); coords = tabulate maxFeatures (λ m. leAt 2 s (coordAt m i) % coordRoom) }
+recordAt s i = record {
+  id = leAt 4 s (identAt i);
+  stage = byteAt s (stageAt i);
+  stamp = leAt 4 s (stampAt i);
+  coords = tabulate maxFeatures (λ m. leAt 2 s (coordAt m i) % coordRoom);
+}
 
 unfoldable pub leafOf : List ℕ → Leaf
 leafOf s = record { count = byteAt s 1; records = tabulate maxItems (recordAt s) }
 
--- a page with the first m coordinates of record i stored, with that record, and with records from i on
+-- a page with the first m coordinates of record i stored, with its identifier, stage and stamp, with that record, and with records from i on
 unfoldable pub putCoords : ℕ → List ℕ → ℕ → List ℕ → List ℕ
 putCoords zero s i cs = s
 putCoords (suc m) s i cs = put (putCoords m s i cs) (coordAt m i) (leBytes 2 (getD cs m 0 % coordRoom))
 
+unfoldable pub putLabel : List ℕ → ℕ → Record → List ℕ
+putLabel s i r = put (put (put s (identAt i) (leBytes 4 (r .id))) (stageAt i) (r .stage ∷ [])) (stampAt i) (leBytes 4 (r .stamp))
+
 unfoldable pub putRecord : List ℕ → ℕ → Record → List ℕ
-putRecord s i r = putCoords maxFeatures (put s (identAt i) (leBytes 4 (r .id))) i (r .coords)
+unfolding putLabel
+putRecord s i r = putCoords maxFeatures (putLabel s i r) i (r .coords)
 
 unfoldable pub putRecords : List ℕ → ℕ → List Record → List ℕ
 putRecords s i [] = s
@@ -109,7 +131,7 @@ freedBytes next = (0 ∷ 0 ∷ 0 ∷ 0 ∷ []) ++ (leBytes 4 next ++ replicate (
 
 -- what stands where there is no item
 abbrev pub noRecord : Record
-noRecord = record { id = 0; coords = [] }
+noRecord = record { id = 0; stage = 0; stamp = 0; coords = [] }
 
 abbrev pub noKey : Key
 noKey = record { pyramid = record { 0 = 0 }; height = record { 0 = 0 }; id = 0 }

@@ -14,7 +14,7 @@ use Rattle.pagestore_page.specs.declared.Record.{Record}
 use Rattle.pagestore_page.specs.declared.Entry.{Entry}
 use Rattle.pagestore_bytes.specs.Bytes.{byteAt, leAt, leBytes, put}
 use Rattle.pagestore_bytes.specs.ByteLaws.{le-fits, length-le, le-at, byte-at, next-at, length-put, put-other, le-put, le-other}
-use Rattle.pagestore_page.specs.Layout.{noRecord, noEntry, keyAt, keyBytes, entryAt, entryBytes, columns, coordRoom, coordAt, identAt, recordAt, leafOf, putCoords, putRecord, putRecords, blankLeaf, innerOf, linkOf, leafBytes, entriesBytes, innerBytes, freedBytes}
+use Rattle.pagestore_page.specs.Layout.{noRecord, noEntry, keyAt, keyBytes, entryAt, entryBytes, stagesFrom, columns, coordRoom, coordAt, identAt, stageAt, stampAt, recordAt, leafOf, putCoords, putLabel, putRecord, putRecords, blankLeaf, innerOf, linkOf, leafBytes, entriesBytes, innerBytes, freedBytes}
 use Rattle.pagestore_page.specs.Fits.{RecordFits, KeyFits, EntryFits}
 
 -- ---- lengths
@@ -32,10 +32,16 @@ unfolding putCoords
 length-coords zero s i cs = refl
 length-coords (suc m) s i cs = length-put (putCoords m s i cs) (coordAt m i) (leBytes 2 (getD cs m 0 % coordRoom)) ∙ length-coords m s i cs
 
+length-label : (s : List ℕ) (i : ℕ) (r : Record) → length (putLabel s i r) ≡ length s
+unfolding putLabel
+length-label s i r =
+    let t : List ℕ = put s (identAt i) (leBytes 4 (r .id)) in
+    length-put (put t (stageAt i) (r .stage ∷ [])) (stampAt i) (leBytes 4 (r .stamp)) ∙ length-put t (stageAt i) (r .stage ∷ [])
+    ∙ length-put s (identAt i) (leBytes 4 (r .id))
+
 length-record : (s : List ℕ) (i : ℕ) (r : Record) → length (putRecord s i r) ≡ length s
 unfolding putRecord
-length-record s i r =
-    length-coords 16 (put s (identAt i) (leBytes 4 (r .id))) i (r .coords) ∙ length-put s (identAt i) (leBytes 4 (r .id))
+length-record s i r = length-coords 16 (putLabel s i r) i (r .coords) ∙ length-label s i r
 
 length-records : (s : List ℕ) (i : ℕ) (rs : List Record) → length (putRecords s i rs) ≡ length s
 unfolding putRecords
@@ -115,33 +121,83 @@ coord-back (suc n) s i m cs e g h k =
     ∙ coord-back n s i m cs e g (omega arith) l)
     (eq-or-lt-of-le (le-of-suc-le-suc k))
 
+-- a byte by itself
+byte-le : (s : List ℕ) (at : ℕ) → byteAt s at ≡ leAt 1 s at
+unfolding leAt
+byte-le s at = omega arith
+
+byte-put : (v : ℕ) (l : List ℕ) (at : ℕ) → v < 256 → at + 1 ≤ length l → leAt 1 (put l at (v ∷ [])) at ≡ v
+unfolding leBytes
+byte-put v l at h g =
+    let e : v % 256 ≡ v = omega arith in
+    ap (λ (x : ℕ). leAt 1 (put l at (x ∷ [])) at) (sym e) ∙ le-put 1 v l at (omega arith) g
+
+-- identifier, stage and stamp: each is read back, and a number that lies beside them is as before
+module _ (s : List ℕ) (i : ℕ) (r : Record) where
+  abbrev withId : List ℕ
+  withId = put s (identAt i) (leBytes 4 (r .id))
+
+  abbrev withStage : List ℕ
+  withStage = put withId (stageAt i) (r .stage ∷ [])
+
+  label-other : (n at : ℕ) → (at < identAt i + 4 → identAt i < at + n → ⊥) → (at < stageAt i + 1 → stageAt i < at + n → ⊥) → (at < stampAt i + 4 → stampAt i < at + n → ⊥)
+      → leAt n (putLabel s i r) at ≡ leAt n s at
+  unfolding putLabel
+  label-other n at h k l =
+      le-other n withStage (stampAt i) (leBytes 4 (r .stamp)) at (λ a b. l (omega (arith, length-le 4 (r .stamp))) b)
+      ∙ le-other n withId (stageAt i) (r .stage ∷ []) at (λ a b. k (omega arith) b)
+      ∙ le-other n s (identAt i) (leBytes 4 (r .id)) at (λ a b. h (omega (arith, length-le 4 (r .id))) b)
+
+  label-back : length s ≡ 1024 → i < 16 → RecordFits r
+      → (leAt 4 (putLabel s i r) (identAt i) ≡ r .id) × (leAt 1 (putLabel s i r) (stageAt i) ≡ r .stage) × (leAt 4 (putLabel s i r) (stampAt i) ≡ r .stamp)
+  unfolding putLabel
+  label-back e h v =
+      let f : length withId ≡ 1024 = length-put s (identAt i) (leBytes 4 (r .id)) ∙ e in
+      let g : length withStage ≡ 1024 = length-put withId (stageAt i) (r .stage ∷ []) ∙ f in (
+        le-other 4 withStage (stampAt i) (leBytes 4 (r .stamp)) (identAt i) (λ a b. omega arith)
+            ∙ le-other 4 withId (stageAt i) (r .stage ∷ []) (identAt i) (λ a b. omega arith) ∙ le-put 4 (r .id) s (identAt i) (v .id) (omega arith),
+        le-other 1 withStage (stampAt i) (leBytes 4 (r .stamp)) (stageAt i) (λ a b. omega arith)
+            ∙ byte-put (r .stage) withId (stageAt i) (v .stage) (omega arith),
+        le-put 4 (r .stamp) withStage (stampAt i) (v .stamp) (omega arith),
+      )
+
 record-back : (s : List ℕ) (i : ℕ) (r : Record) → length s ≡ 1024 → i < 16 → RecordFits r → recordAt (putRecord s i r) i ≡ r
 unfolding recordAt putRecord
 record-back s i r e h v =
-    let t : List ℕ = put s (identAt i) (leBytes 4 (r .id)) in
+    let t : List ℕ = putLabel s i r in
     let u : List ℕ = putCoords 16 t i (r .coords) in
-    let f : length t ≡ 1024 = length-put s (identAt i) (leBytes 4 (r .id)) ∙ e in
-    let n : leAt 4 u (identAt i) ≡ r .id =
-    coords-other 16 t i (r .coords) 4 (identAt i) (λ k a b c. omega arith) ∙ le-put 4 (r .id) s (identAt i) (v .id) (omega arith) in
+    let f : length t ≡ 1024 = length-label s i r ∙ e in
+    let b = label-back s i r e h v in
+    let n : leAt 4 u (identAt i) ≡ r .id = coords-other 16 t i (r .coords) 4 (identAt i) (λ k a b c. omega arith) ∙ b .0 in
+    let g : byteAt u (stageAt i) ≡ r .stage = byte-le u (stageAt i) ∙ coords-other 16 t i (r .coords) 1 (stageAt i) (λ k a b c. omega arith) ∙ b .1 in
+    let m : leAt 4 u (stampAt i) ≡ r .stamp = coords-other 16 t i (r .coords) 4 (stampAt i) (λ k a b c. omega arith) ∙ b .2 in
     let one : (m : ℕ) → m < 16 → leAt 2 u (coordAt m i) % coordRoom ≡ getD (r .coords) m 0 =
     λ m k. let c : getD (r .coords) m 0 < 2 ^ 11 = all-at (v .coords) m 0 (rw (v .slots) k) in omega (arith, coord-back 16 t i m (r .coords) f h (omega arith) k) in
     let all : tabulate 16 (λ m. leAt 2 u (coordAt m i) % coordRoom) ≡ r .coords =
     tabulate-ext 16 (λ m. leAt 2 u (coordAt m i) % coordRoom) (λ m. getD (r .coords) m 0) one
     ∙ tabulate-take (r .coords) 0 16 (omega (arith, v .slots)) ∙ take-all 16 (r .coords) (omega (arith, v .slots)) in
-    rw (n, all)
+    λ j. record { id = n j; stage = g j; stamp = m j; coords = all j }
 
 record-other : (s : List ℕ) (i : ℕ) (r : Record) (j : ℕ) → i < 16 → j < i → recordAt (putRecord s i r) j ≡ recordAt s j
 unfolding recordAt putRecord
 record-other s i r j h l =
-    let t : List ℕ = put s (identAt i) (leBytes 4 (r .id)) in
+    let t : List ℕ = putLabel s i r in
     let u : List ℕ = putCoords 16 t i (r .coords) in
-    let w : length (leBytes 4 (r .id)) ≡ 4 = length-le 4 (r .id) in
     let n : leAt 4 u (identAt j) ≡ leAt 4 s (identAt j) =
-    coords-other 16 t i (r .coords) 4 (identAt j) (λ k a b c. omega arith) ∙ le-other 4 s (identAt i) (leBytes 4 (r .id)) (identAt j) (λ a b. omega arith) in
+    coords-other 16 t i (r .coords) 4 (identAt j) (λ k a b c. omega arith)
+    ∙ label-other s i r 4 (identAt j) (λ a b. omega arith) (λ a b. omega arith) (λ a b. omega arith) in
+    let g : byteAt u (stageAt j) ≡ byteAt s (stageAt j) =
+    byte-le u (stageAt j) ∙ coords-other 16 t i (r .coords) 1 (stageAt j) (λ k a b c. omega arith)
+    ∙ label-other s i r 1 (stageAt j) (λ a b. omega arith) (λ a b. omega arith) (λ a b. omega arith) ∙ sym (byte-le s (stageAt j)) in
+    let q : leAt 4 u (stampAt j) ≡ leAt 4 s (stampAt j) =
+    coords-other 16 t i (r .coords) 4 (stampAt j) (λ k a b c. omega arith)
+    ∙ label-other s i r 4 (stampAt j) (λ a b. omega arith) (λ a b. omega arith) (λ a b. omega arith) in
     let one : (m : ℕ) → m < 16 → leAt 2 u (coordAt m j) % coordRoom ≡ leAt 2 s (coordAt m j) % coordRoom =
     λ m k. ap (λ (x : ℕ). x % coordRoom)
-    (coords-other 16 t i (r .coords) 2 (coordAt m j) (λ q a b c. omega arith) ∙ le-other 2 s (identAt i) (leBytes 4 (r .id)) (coordAt m j) (λ a b. omega arith)) in
-    rw (n, tabulate-ext 16 (λ m. leAt 2 u (coordAt m j) % coordRoom) (λ m. leAt 2 s (coordAt m j) % coordRoom) one)
+    (coords-other 16 t i (r .coords) 2 (coordAt m j) (λ q a b c. omega arith)
+    ∙ label-other s i r 2 (coordAt m j) (λ a b. omega arith) (λ a b. omega arith) (λ a b. omega arith)) in
+    let all = tabulate-ext 16 (λ m. leAt 2 u (coordAt m j) % coordRoom) (λ m. leAt 2 s (coordAt m j) % coordRoom) one in
+    λ k. record { id = n k; stage = g k; stamp = q k; coords = all k }
 
 records-other : (s : List ℕ) (i : ℕ) (rs : List Record) (j : ℕ) → i + length rs ≤ 16 → j < i → recordAt (putRecords s i rs) j ≡ recordAt s j
 unfolding putRecords
@@ -160,20 +216,25 @@ records-back s i (r ∷ rs) (suc k) e h (also v g) l =
     let z : i + suc k ≡ i + 1 + k = omega arith in
     rw z (records-back (putRecord s i r) (i + 1) rs k (length-record s i r ∙ e) (omega arith) g (le-of-suc-le-suc l))
 
--- the bytes before the columns
+-- the bytes before the columns, and those before the stages
 coords-head : (m : ℕ) (s : List ℕ) (i : ℕ) (cs : List ℕ) (j : ℕ) → j < columns → getD (putCoords m s i cs) j 0 ≡ getD s j 0
 unfolding putCoords
 coords-head zero s i cs j h = refl
 coords-head (suc m) s i cs j h =
     put-other (putCoords m s i cs) (coordAt m i) (leBytes 2 (getD cs m 0 % coordRoom)) j (λ a b. omega arith) ∙ coords-head m s i cs j h
 
-records-head : (s : List ℕ) (i : ℕ) (rs : List Record) (j : ℕ) → j < columns → getD (putRecords s i rs) j 0 ≡ getD s j 0
+label-head : (s : List ℕ) (i : ℕ) (r : Record) (j : ℕ) → j < stagesFrom → getD (putLabel s i r) j 0 ≡ getD s j 0
+unfolding putLabel
+label-head s i r j h =
+    put-other (withStage s i r) (stampAt i) (leBytes 4 (r .stamp)) j (λ a b. omega arith)
+    ∙ put-other (withId s i r) (stageAt i) (r .stage ∷ []) j (λ a b. omega arith) ∙ put-other s (identAt i) (leBytes 4 (r .id)) j (λ a b. omega arith)
+
+records-head : (s : List ℕ) (i : ℕ) (rs : List Record) (j : ℕ) → j < stagesFrom → getD (putRecords s i rs) j 0 ≡ getD s j 0
 unfolding putRecords putRecord
 records-head s i [] j h = refl
 records-head s i (r ∷ rs) j h =
-    let t : List ℕ = put s (identAt i) (leBytes 4 (r .id)) in
-    records-head (putCoords 16 t i (r .coords)) (i + 1) rs j h
-    ∙ coords-head 16 t i (r .coords) j h ∙ put-other s (identAt i) (leBytes 4 (r .id)) j (λ a b. omega arith)
+    records-head (putCoords 16 (putLabel s i r) i (r .coords)) (i + 1) rs j h
+    ∙ coords-head 16 (putLabel s i r) i (r .coords) j (omega arith) ∙ label-head s i r j h
 
 -- ---- the entries of an inner page
 
@@ -239,6 +300,8 @@ unfolding recordAt
 record-fits s i =
     record {
       id = le-fits 4 s (identAt i);
+      stage = omega arith;
+      stamp = le-fits 4 s (stampAt i);
       slots = length-tabulate 16 (λ m. leAt 2 s (coordAt m i) % coordRoom);
       coords = all-tabulate 16 (λ m. leAt 2 s (coordAt m i) % coordRoom) (λ m. omega arith);
     }

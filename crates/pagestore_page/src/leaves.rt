@@ -4,7 +4,7 @@ ghost use mathlib.Core.List.{[]};
 ghost use Prim.Native.Nat.{_<_, _≤_};
 ghost use lib.ListN.{length, getD};
 ghost use Rattle.pagestore_bytes.specs.Bytes.{leAt};
-ghost use Rattle.pagestore_page.specs.Layout.{coordRoom, coordAt, recordAt, leafOf, putCoords, putRecord, leafBytes, noRecord, recordsIn};
+ghost use Rattle.pagestore_page.specs.Layout.{coordRoom, coordAt, recordAt, leafOf, putCoords, putLabel, putRecord, leafBytes, noRecord, recordsIn};
 use crate::Leaf;
 use crate::MAX_ITEMS;
 use crate::Record;
@@ -15,15 +15,20 @@ use pagestore_bytes::clear;
 use pagestore_bytes::get_u8;
 use pagestore_bytes::get_u16;
 use pagestore_bytes::get_u32;
+use pagestore_bytes::put_u8;
 use pagestore_bytes::put_u16;
 use pagestore_bytes::put_u32;
 
+// Where the stages begin, a byte each.
+const STAGES: usize = 16;
 // Where the columns begin.
 const COLUMNS: usize = 32;
 // The width of a column.
 const WIDTH: usize = 32;
 // Where the identifiers begin.
 const IDENTS: usize = 576;
+// Where the stamps begin.
+const STAMPS: usize = 640;
 // A stored coordinate is below this: the low 11 bits of two bytes.
 const ROOM: u16 = 2048;
 
@@ -32,6 +37,8 @@ pub fn no_record() -> Record
 {
     Record {
         id: 0,
+        stage: 0,
+        stamp: 0,
         coords: [0u16; MAX_FEATURES],
     }
 }
@@ -78,6 +85,22 @@ pub fn read_ident(page: &[u8], i: usize) -> u32
     get_u32(page, IDENTS + 4 * i)
 }
 
+// The stage of a record, as stored.
+pub fn read_stage(page: &[u8], i: usize) -> u8
+    requires { ⌜ (length (now page) ≡ 1024) × (i < 16) ⌝ }
+    ensures { λ r. ⌜ r ≡ getD (leafOf (now (page .entry)) .records) i noRecord .stage ⌝ }
+{
+    get_u8(page, STAGES + i)
+}
+
+// The stamp of a record.
+fn read_stamp(page: &[u8], i: usize) -> u32
+    requires { ⌜ (length (now page) ≡ 1024) × (i < 16) ⌝ }
+    ensures { λ r. ⌜ r ≡ getD (leafOf (now (page .entry)) .records) i noRecord .stamp ⌝ }
+{
+    get_u32(page, STAMPS + 4 * i)
+}
+
 // How many slots of a leaf are looked at together for so many records: as many as fill whole lanes, so that a loop over them has no rest.
 pub fn lanes(count: usize) -> usize
     requires { ⌜ count ≤ 16 ⌝ }
@@ -96,6 +119,8 @@ pub fn read_record(page: &[u8], i: usize) -> Record
     ensures { λ r. ⌜ r ≡ getD (leafOf (now (page .entry)) .records) i noRecord ⌝ }
 {
     let id = read_ident(page, i);
+    let stage = read_stage(page, i);
+    let stamp = read_stamp(page, i);
     let mut coords = [0u16; MAX_FEATURES];
     let mut m = 0;
     while m < MAX_FEATURES {
@@ -104,6 +129,8 @@ pub fn read_record(page: &[u8], i: usize) -> Record
     }
     Record {
         id: id,
+        stage: stage,
+        stamp: stamp,
         coords: coords,
     }
 }
@@ -137,11 +164,21 @@ fn put_coords(page: &mut [u8], i: usize, coords: [u16; MAX_FEATURES])
     }
 }
 
+// Everything of a record but its coordinates.
+fn put_label(page: &mut [u8], i: usize, r: Record)
+    requires { ⌜ (length (now page) ≡ 1024) × (i < 16) ⌝ }
+    ensures { λ _. ⌜ now (page .exit) ≡ putLabel (now (page .entry)) i r ⌝ }
+{
+    put_u32(page, IDENTS + 4 * i, r.id);
+    put_u8(page, STAGES + i, r.stage);
+    put_u32(page, STAMPS + 4 * i, r.stamp);
+}
+
 fn put_record(page: &mut [u8], i: usize, r: Record)
     requires { ⌜ (length (now page) ≡ 1024) × (i < 16) ⌝ }
     ensures { λ _. ⌜ now (page .exit) ≡ putRecord (now (page .entry)) i r ⌝ }
 {
-    put_u32(page, IDENTS + 4 * i, r.id);
+    put_label(page, i, r);
     let coords = r.coords;
     put_coords(page, i, coords);
 }

@@ -15,6 +15,8 @@ pub const PAGE_SIZE: usize = 1024;
 pub const MAX_PAGES: u32 = 16384;
 // The points of the fullest index.
 pub const MAX_POINTS: u32 = 65535;
+// The last of the six stages: 0 wake, 1 to 3 the N stages, 4 REM, 5 unscored.
+pub const MAX_STAGE: u8 = 5;
 // The items of a page, records or entries: for how many there is room.
 pub const MAX_ITEMS: usize = 16;
 // The items that a page other than the root has at least.
@@ -29,6 +31,7 @@ pub use leaves::read_count;
 pub use leaves::read_ident;
 pub use leaves::read_leaf;
 pub use leaves::read_record;
+pub use leaves::read_stage;
 pub use leaves::write_leaf;
 pub use shift::insert_record;
 
@@ -40,9 +43,12 @@ pub use items::filled;
 pub use links::read_link;
 pub use links::write_freed;
 
-// A record as it is stored: its identifier, and 16 coordinate slots, each a coordinate with 1,000 added. A page keeps 11 bits of each.
+// A record as it is stored: its identifier, its stage and its stamp, and 16 coordinate slots, each a coordinate with 1,000 added. A page
+// keeps 11 bits of each.
 pub struct Record {
     pub id: u32,
+    pub stage: u8,
+    pub stamp: u32,
     pub coords: [u16; MAX_FEATURES],
 }
 

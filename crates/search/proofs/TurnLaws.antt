@@ -28,6 +28,7 @@ use Rattle.search_rows.specs.declared.Row.{Row}
 use Rattle.search_rows.specs.Rows.{rowOrder}
 use Rattle.search_rows.specs.Held.{rowsIn, behindAll, Held}
 use Rattle.search_rows.proofs.HeldLaws.{behind-exceeds}
+use Rattle.search_model.specs.declared.Choice.{Choice}
 use Rattle.search_model.specs.Asked.{Asked, asking}
 use Rattle.search_model.specs.Branches.{Branch, branchBound, before, isLeaf, branches, opened, kids, rootBranch, rowsAmong, rowsAt, pageIn}
 use Rattle.search_frontier.specs.Keys.{keyOf, boundIn, placeIn, levelIn, numberIn, branchIn, frontier}
@@ -48,7 +49,7 @@ abbrev after : ℕ → Outcome Row Branch → Answer
 after m o = record { rows = o .rows; leaves = m + length (o .read) }
 
 -- n branches are in the heap, `rows` rows are held, `leaves` leaves have been read; `steps` steps are left
-pub record Visiting (index asked near whole : List ℕ) (k : ℕ) (slots₀ distances₀ tags₀ slots distances tags : List ℕ) (n rows leaves steps : ℕ) : Type 0 where
+pub record Visiting (index asked near whole : List ℕ) (k : ℕ) (choice : Choice) (slots₀ distances₀ tags₀ slots distances tags : List ℕ) (n rows leaves steps : ℕ) : Type 0 where
   pub tables : Tabled asked near whole
   pub one : 1 ≤ k
   pub size : length slots ≡ room index
@@ -58,7 +59,7 @@ pub record Visiting (index asked near whole : List ℕ) (k : ℕ) (slots₀ dist
   pub heap : Heap n slots
   pub holds : Held distances tags rows k
   pub few : leaves + steps ≤ 32768
-  pub answer : after leaves (seekOn index (asking asked k) steps (frontier n slots) (rowsIn distances tags rows)) ≡ answerOf (visited index (asking asked k))
+  pub answer : after leaves (seekOn index (asking asked k choice) steps (frontier n slots) (rowsIn distances tags rows)) ≡ answerOf (visited index (asking asked k choice))
 
 -- ---- THE START
 
@@ -73,11 +74,11 @@ unfolding sort insertBy
 one-held [] x h = absurd (omega arith)
 one-held (y ∷ ys) x h = refl
 
-pub visiting-start : (index asked near whole : List ℕ) (k : ℕ) (slots distances tags : List ℕ) (key m : ℕ) → Visits index asked near whole k slots distances tags → key ≡ keyOf (rootBranch index) → m ≡ pagesIn index
-    → Visiting index asked near whole k (set slots 0 key) distances tags (set slots 0 key) distances tags 1 0 0 (2 * m)
+pub visiting-start : (index asked near whole : List ℕ) (k : ℕ) (choice : Choice) (slots distances tags : List ℕ) (key m : ℕ) → Visits index asked near whole k slots distances tags → key ≡ keyOf (rootBranch index) → m ≡ pagesIn index
+    → Visiting index asked near whole k choice (set slots 0 key) distances tags (set slots 0 key) distances tags 1 0 0 (2 * m)
 unfolding visited
-visiting-start index asked near whole k slots distances tags key m v e g =
-    let q = asking asked k in
+visiting-start index asked near whole k choice slots distances tags key m v e g =
+    let q = asking asked k choice in
     let s : 1 ≤ length slots = omega (arith, v .room, room-some index) in
     let o : held 1 (set slots 0 key) ≡ key ∷ [] = one-held slots key s in
     let l : length (set slots 0 key) ≡ length slots = length-set slots 0 key in
@@ -144,10 +145,10 @@ ended index q distances tags rows leaves o e h a =
     let z : leaves + 0 ≡ leaves = omega arith in
     record { held = h; answer = (λ i. record { rows = rowsIn distances tags rows; leaves = sym z i }) ∙ sym (ap (after leaves) e) ∙ a }
 
-module _ (index asked table whole : List ℕ) (k : ℕ) (slots₀ distances₀ tags₀ slots distances tags : List ℕ) (n rows leaves steps : ℕ)
-    (v : Visiting index asked table whole k slots₀ distances₀ tags₀ slots distances tags n rows leaves steps) where
+module _ (index asked table whole : List ℕ) (k : ℕ) (choice : Choice) (slots₀ distances₀ tags₀ slots distances tags : List ℕ) (n rows leaves steps : ℕ)
+    (v : Visiting index asked table whole k choice slots₀ distances₀ tags₀ slots distances tags n rows leaves steps) where
   abbrev q : Asked
-  q = asking asked k
+  q = asking asked k choice
 
   abbrev here : List Row
   here = rowsIn distances tags rows
@@ -222,7 +223,7 @@ module _ (index asked table whole : List ℕ) (k : ℕ) (slots₀ distances₀ t
     pub visiting-leaf : (distances' tags' : List ℕ) (level place page r : ℕ) → level ≡ levelIn key → place ≡ placeIn key → page ≡ numberIn key → level ≡ 0
         → OfferedAll distances tags rows k (rowsAmong q place (recordsIn (leafAt index page))) r distances' tags'
         → length distances' ≡ length distances → length tags' ≡ length tags
-        → Visiting index asked table whole k slots₀ distances₀ tags₀ slots' distances' tags' (n - 1) r (leaves + 1) (steps - 1)
+        → Visiting index asked table whole k choice slots₀ distances₀ tags₀ slots' distances' tags' (n - 1) r (leaves + 1) (steps - 1)
     unfolding branchIn
     visiting-leaf distances' tags' l place page r sl sp sg z offers ld lt =
         let x : Branch = branchIn key in
@@ -262,7 +263,7 @@ module _ (index asked table whole : List ℕ) (k : ℕ) (slots₀ distances₀ t
 
       -- an inner page has been opened
       pub visiting-open : (slots'' : List ℕ) (r : ℕ) → Opened slots' (n - 1) index q (level - 1) place page r slots'' → length slots'' ≡ length slots'
-          → Visiting index asked table whole k slots₀ distances₀ tags₀ slots'' distances tags r rows leaves (steps - 1)
+          → Visiting index asked table whole k choice slots₀ distances₀ tags₀ slots'' distances tags r rows leaves (steps - 1)
       unfolding branchIn
       visiting-open slots'' r o l =
           let rest : List Branch = frontier (n - 1) slots' in

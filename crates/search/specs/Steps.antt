@@ -90,7 +90,7 @@ pub record Looks (asked : List ℕ) (k : ℕ) (distances marks : List ℕ) : Typ
 
 -- a question by value
 abbrev pub asks : Query → Asked
-asks w = asking (take (3 * maxFeatures + w .d) (w .features)) (w .k)
+asks w = asking (take (3 * maxFeatures + w .d) (w .features)) (w .k) (w .choice)
 
 -- and with room for its rows
 pub record Searches (w : Query) (distances marks : List ℕ) : Type 0 where

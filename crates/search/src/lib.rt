@@ -13,6 +13,7 @@ use geometry_slices::NEAR_PLACES;
 use geometry_slices::REACHES_FROM;
 use geometry_slices::WHOLE_PLACES;
 use pagestore::total_records;
+use search_model::Choice;
 use search_model::FEW_RECORDS;
 use search_model::FULL_ROOM;
 use search_model::LARGE_ROOM;
@@ -23,11 +24,13 @@ use search_model::SOME_RECORDS;
 
 mod visit;
 
-// What is asked: the features, laid out in one list as `geometry_slices::asked::ask` does it, their number, and how many rows.
+// What is asked: the features, laid out in one list as `geometry_slices::asked::ask` does it, their number, how many rows, and of
+// which records.
 pub struct Query {
     pub features: [u16; ASKED_PLACES],
     pub d: usize,
     pub k: usize,
+    pub choice: Choice,
 }
 
 // What a search has seen: the number of rows held in the arrays lent to it, and the number of leaves read.
@@ -41,17 +44,29 @@ fn search_with(
     index: &[u8],
     asked: &[u16],
     k: usize,
+    choice: Choice,
     slots: &mut [u64],
     distances: &mut [u64],
     tags: &mut [u64],
 ) -> Seen
     requires { ⌜ Seeks (now index) (now asked) k (now slots) (now distances) (now tags) ⌝ }
-    ensures { λ r. ⌜ Searched (now (index .entry)) (asking (now (asked .entry)) k) (now (distances .exit)) (now (tags .exit)) r ⌝ }
+    ensures { λ r. ⌜ Searched (now (index .entry)) (asking (now (asked .entry)) k choice)
+        (now (distances .exit)) (now (tags .exit)) r ⌝ }
 {
     let mut near = [0u16; NEAR_PLACES];
     let mut whole = [0u64; WHOLE_PLACES];
     prepare(asked, &mut near, &mut whole);
-    best_first(index, asked, &near, &whole, k, slots, distances, tags)
+    best_first(
+        index,
+        asked,
+        &near,
+        &whole,
+        k,
+        choice,
+        slots,
+        distances,
+        tags,
+    )
 }
 
 // The search of any index. One of few records gets little room: clearing more would take most of its search's time.
@@ -59,11 +74,13 @@ fn search_for(
     index: &[u8],
     asked: &[u16],
     k: usize,
+    choice: Choice,
     distances: &mut [u64],
     tags: &mut [u64],
 ) -> Seen
     requires { ⌜ Looks (now asked) k (now distances) (now tags) ⌝ }
-    ensures { λ r. ⌜ Searched (now (index .entry)) (asking (now (asked .entry)) k) (now (distances .exit)) (now (tags .exit)) r ⌝ }
+    ensures { λ r. ⌜ Searched (now (index .entry)) (asking (now (asked .entry)) k choice)
+        (now (distances .exit)) (now (tags .exit)) r ⌝ }
 {
     if reads_none(index) {
         return Seen { rows: 0, leaves: 0 };
@@ -71,18 +88,18 @@ fn search_for(
     let total = total_records(index);
     if total <= FEW_RECORDS {
         let mut slots = [0u64; SMALL_ROOM];
-        return search_with(index, asked, k, &mut slots, distances, tags);
+        return search_with(index, asked, k, choice, &mut slots, distances, tags);
     }
     if total <= SOME_RECORDS {
         let mut slots = [0u64; MIDDLE_ROOM];
-        return search_with(index, asked, k, &mut slots, distances, tags);
+        return search_with(index, asked, k, choice, &mut slots, distances, tags);
     }
     if total <= MANY_RECORDS {
         let mut slots = [0u64; LARGE_ROOM];
-        return search_with(index, asked, k, &mut slots, distances, tags);
+        return search_with(index, asked, k, choice, &mut slots, distances, tags);
     }
     let mut slots = [0u64; FULL_ROOM];
-    search_with(index, asked, k, &mut slots, distances, tags)
+    search_with(index, asked, k, choice, &mut slots, distances, tags)
 }
 
 // The nearest of the index's records to what is asked, as distances and tags in the arrays lent: how many there are, and the number
@@ -92,6 +109,7 @@ pub fn search(index: &[u8], what: Query, distances: &mut [u64], tags: &mut [u64]
     ensures { λ r. ⌜ Searched (now (index .entry)) (asks what) (now (distances .exit)) (now (tags .exit)) r ⌝ }
 {
     let features = what.features;
+    let choice = what.choice;
     let end = REACHES_FROM + what.d;
-    search_for(index, &features[..end], what.k, distances, tags)
+    search_for(index, &features[..end], what.k, choice, distances, tags)
 }

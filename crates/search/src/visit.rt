@@ -26,6 +26,7 @@ use search_frontier::place_in;
 use search_heap::pop;
 use search_leaves::filled;
 use search_leaves::visit_leaf;
+use search_model::Choice;
 use search_model::MAX_LEVEL;
 use search_rows::behind;
 
@@ -93,12 +94,14 @@ pub fn best_first(
     near: &[u16],
     whole: &[u64],
     k: usize,
+    choice: Choice,
     slots: &mut [u64],
     distances: &mut [u64],
     tags: &mut [u64],
 ) -> Seen
     requires { ⌜ Visits (now index) (now asked) (now near) (now whole) k (now slots) (now distances) (now tags) ⌝ }
-    ensures { λ r. ⌜ Visited (now (index .entry)) (asking (now (asked .entry)) k) (now (distances .exit)) (now (tags .exit)) r ⌝ }
+    ensures { λ r. ⌜ Visited (now (index .entry)) (asking (now (asked .entry)) k choice)
+        (now (distances .exit)) (now (tags .exit)) r ⌝ }
 {
     slots[0] = root_key(index);
     let mut n = 1;
@@ -113,7 +116,7 @@ pub fn best_first(
         let page = page_in(key);
         let place = place_in(key);
         if level == 0 {
-            rows = visit_leaf(index, page, asked, place, distances, tags, rows, k);
+            rows = visit_leaf(index, page, asked, place, distances, tags, rows, k, choice);
             leaves += 1;
         } else {
             n = open_page(slots, n, index, asked, near, whole, level - 1, place, page);

@@ -21,6 +21,7 @@ use Rattle.pagestore_page.specs.declared.Inner.{Inner}
 use Rattle.pagestore.specs.Store.{innerAt, entriesIn}
 use Rattle.tree_core.specs.Lookup.{leafCount}
 use Rattle.search_heap.specs.Heap.{Heap, held, Pushed}
+use Rattle.search_model.specs.declared.Choice.{Choice}
 use Rattle.search_model.specs.Asked.{spanBound, asking}
 use Rattle.search_model.specs.Branches.{Branch, lastPlace, before, pageIn, branchOf, branches}
 use Rattle.search_frontier.specs.Keys.{keyOf, branchIn, mostBound, frontier}
@@ -42,12 +43,12 @@ pub span-is : (asked : List ℕ) (c : ℕ) (f l : Key) (a b : Pair) (r : ℕ) �
     → r ≡ boundOf (askedOf asked) (a .pyramid .0) (a .height .0) (b .pyramid .0) (b .height .0) → SpanBound asked (record { child = c; first = f; last = l }) r
 unfolding spanBound
 span-is asked c f l a b r s x y e =
-    record { is = λ k. rw (x .0, x .1, y .0, y .1) at e; small = rw e (span-small asked (a .pyramid .0) (a .height .0) (b .pyramid .0) (b .height .0) s) }
+    record { is = λ k choice. rw (x .0, x .1, y .0, y .1) at e; small = rw e (span-small asked (a .pyramid .0) (a .height .0) (b .pyramid .0) (b .height .0) s) }
 
 -- the key of an entry's branch, from its parts
 pub entry-key-is : (index asked : List ℕ) (l at : ℕ) (e : Entry) (b p g r : ℕ) → SpanBound asked e b → g ≡ pageIn index (e .child) → p ≡ min at lastPlace
     → r ≡ keyOf (record { bound = b; place = p; level = l; page = g }) → EntryKey index asked l at e r
-entry-key-is index asked l at e b p g r s x y h = λ k. h ∙ (λ i. keyOf (record { bound = s .is k i; place = y i; level = l; page = x i }))
+entry-key-is index asked l at e b p g r s x y h = λ k choice. h ∙ (λ i. keyOf (record { bound = s .is k choice i; place = y i; level = l; page = x i }))
 
 -- entry i of an inner page is next, its first leaf at position `at`; `here` branches are in the heap, of which n were there before
 pub record Opening (slots₀ : List ℕ) (n : ℕ) (index asked near whole : List ℕ) (level place page : ℕ) (inner : Inner) (count : ℕ) (slots : List ℕ) (here at i : ℕ) : Type 0 where
@@ -62,8 +63,8 @@ pub record Opening (slots₀ : List ℕ) (n : ℕ) (index asked near whole : Lis
   pub room : n + count ≤ length slots
   pub more : here ≡ n + i
   pub heap : Heap here slots
-  pub same : (k : ℕ)
-      → insertAll before (branches index (asking asked k) level at (drop i (entriesIn inner))) (frontier here slots) ≡ insertAll before (branches index (asking asked k) level place (entriesIn inner)) (frontier n slots₀)
+  pub same : (k : ℕ) (choice : Choice)
+      → insertAll before (branches index (asking asked k choice) level at (drop i (entriesIn inner))) (frontier here slots) ≡ insertAll before (branches index (asking asked k choice) level place (entriesIn inner)) (frontier n slots₀)
 
 pub opening-start : (slots : List ℕ) (n : ℕ) (index asked near whole : List ℕ) (level place page : ℕ) (inner : Inner) (count : ℕ) → Opens slots n index asked near whole level place page
     → inner ≡ innerAt index page → count ≡ min (inner .count) 16 → Opening slots n index asked near whole level place page inner count slots n place 0
@@ -82,7 +83,7 @@ opening-start slots n index asked near whole level place page inner count o is n
       room = let r = o .room in omega arith;
       more = omega arith;
       heap = o .heap;
-      same = λ k. refl;
+      same = λ k choice. refl;
     }
 
 module _ (slots₀ : List ℕ) (n : ℕ) (index asked near whole : List ℕ) (level place page : ℕ) (inner : Inner) (count : ℕ) (slots : List ℕ) (here at i : ℕ)
@@ -100,7 +101,7 @@ module _ (slots₀ : List ℕ) (n : ℕ) (index asked near whole : List ℕ) (le
   pub opening-room : i < count → here < length slots
   opening-room h = let r = o .room in let m = o .more in omega arith
 
-  pub opening-next : (d : Entry) (key c r : ℕ) (slots' : List ℕ) → i < count → ((k : ℕ) → key ≡ keyOf (branchOf index (asking asked k) level at (getD (inner .entries) i d))) → Pushed here key slots r slots'
+  pub opening-next : (d : Entry) (key c r : ℕ) (slots' : List ℕ) → i < count → ((k : ℕ) (choice : Choice) → key ≡ keyOf (branchOf index (asking asked k choice) level at (getD (inner .entries) i d))) → Pushed here key slots r slots'
       → length slots' ≡ length slots → c ≡ leafCount level index (getD (inner .entries) i d .child) → c ≤ 16 ^ level
       → Opening slots₀ n index asked near whole level place page inner count slots' r (at + c) (i + 1)
   unfolding branches insertAll
@@ -121,16 +122,16 @@ module _ (slots₀ : List ℕ) (n : ℕ) (index asked near whole : List ℕ) (le
         room = let r = o .room in omega arith;
         more = let m = o .more in let y = z .0 in omega arith;
         heap = p .heap;
-        same = λ k.
-            let x : Branch = branchOf index (asking asked k) level at (getD (inner .entries) i d) in
-            let back : branchIn key ≡ x = ap branchIn (e k) ∙ key-back x (omega arith) (omega arith) (page-small index (getD (inner .entries) i d .child)) in
+        same = λ k choice.
+            let x : Branch = branchOf index (asking asked k choice) level at (getD (inner .entries) i d) in
+            let back : branchIn key ≡ x = ap branchIn (e k choice) ∙ key-back x (omega arith) (omega arith) (page-small index (getD (inner .entries) i d .child)) in
             let w : frontier r slots' ≡ insertAll before (x ∷ []) (frontier here slots) = rw (z .0, z .1, branches-ins key (held here slots), back) in
-            rw (w, f) (rw t at (o .same k));
+            rw (w, f) (rw t at (o .same k choice));
       }
 
-  pub opening-end : count ≤ i → (k : ℕ) → Opened slots₀ n index (asking asked k) level place page here slots
+  pub opening-end : count ≤ i → (k : ℕ) (choice : Choice) → Opened slots₀ n index (asking asked k choice) level place page here slots
   unfolding branches insertAll
-  opening-end h k =
+  opening-end h k choice =
       let b = inner-slots index level page inner (o .is) count (o .number) in
       let l : length (entriesIn inner) ≡ min (inner .count) 16 = items-length (inner .count) (inner .entries) b in
       let m : length (entriesIn (innerAt index page)) ≡ length (entriesIn inner) = ap (λ (x : Inner). length (entriesIn x)) (sym (o .is)) in
@@ -138,5 +139,5 @@ module _ (slots₀ : List ℕ) (n : ℕ) (index asked near whole : List ℕ) (le
       record {
         number = let w = o .more in let c = o .number in let f = o .few in omega arith;
         heap = o .heap;
-        branches = rw (← o .is) (rw t at (o .same k));
+        branches = rw (← o .is) (rw t at (o .same k choice));
       }

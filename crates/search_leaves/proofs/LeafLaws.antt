@@ -29,6 +29,7 @@ use Rattle.search_rows.specs.declared.Row.{Row}
 use Rattle.search_rows.specs.Rows.{rowOrder}
 use Rattle.search_rows.specs.Held.{rowsIn, behindAll, Held, Offered}
 use Rattle.search_rows.proofs.HeldLaws.{offered-behind}
+use Rattle.search_model.specs.declared.Choice.{Choice}
 use Rattle.search_model.specs.Asked.{Asked, distanceTo, candidate, asking, askingPoint}
 use Rattle.search_model.specs.Branches.{rowOf, rowsAmong}
 use Rattle.search_leaves.specs.Columns.{recordIn, rowAt, mostCost, Sums, notPast, BehindPast}
@@ -46,9 +47,9 @@ first-coords (x ∷ q) [] = refl
 first-coords (x ∷ q) (y ∷ p) = rw (first-coords q p)
 
 -- the distance from a point, whose coordinates are as stored
-pub point-distance : (q : List ℕ) (k : ℕ) (x : Record) (D : ℕ) → D ≡ distance (pointOf q) (pointOf (x .coords)) → D ≡ distanceTo (askingPoint q k) x
+pub point-distance : (q : List ℕ) (k : ℕ) (c : Choice) (x : Record) (D : ℕ) → D ≡ distance (pointOf q) (pointOf (x .coords)) → D ≡ distanceTo (askingPoint q k c) x
 unfolding distanceTo
-point-distance q k x D e =
+point-distance q k c x D e =
     let n : length (plain (pointOf q)) ≡ length q = plain-length (pointOf q) ∙ length-point q in
     e ∙ sym (plain-distance (pointOf q) (pointIn (length (plain (pointOf q))) x)
     ∙ ap (λ (m : ℕ). distance (pointOf q) (pointIn m x)) n
@@ -72,7 +73,7 @@ module _ (q : Asked) (position : ℕ) (x : Record) where
 
 -- ---- ONE RECORD
 
-module _ (page : List ℕ) (i D position : ℕ) (distances tags : List ℕ) (n k : ℕ) where
+module _ (page : List ℕ) (i D position : ℕ) (distances tags : List ℕ) (n k : ℕ) (choice : Choice) where
   abbrev here : Record
   here = recordIn page i
 
@@ -81,25 +82,25 @@ module _ (page : List ℕ) (i D position : ℕ) (distances tags : List ℕ) (n k
   row-is q e = λ j. record { distance = e j; id = here .id; position = position }
 
   -- whether it is a candidate or not, a row behind all rows held changes nothing
-  pub record-behind : Held distances tags n k → behindAll distances n k D ≡ true → OfferedRecord page i D position distances tags n k n distances tags
+  pub record-behind : Held distances tags n k → behindAll distances n k D ≡ true → OfferedRecord page i D position distances tags n k choice n distances tags
   unfolding sorting.offerAll
   record-behind h b =
       record {
         held = h;
-        rows = λ q e.
+        rows = λ q _ e.
             by-cases (candidate q here)
             (λ c. rw (among-one q position here c, ← row-is q e) (offered-behind distances tags n k (rowAt page i D position) h b .rows))
             (λ c. rw (among-none q position here c));
       }
 
-  pub record-passed : Held distances tags n k → ((q : Asked) → candidate q here ≡ false) → OfferedRecord page i D position distances tags n k n distances tags
+  pub record-passed : Held distances tags n k → ((q : Asked) → q .choice ≡ choice → candidate q here ≡ false) → OfferedRecord page i D position distances tags n k choice n distances tags
   unfolding sorting.offerAll
-  record-passed h c = record { held = h; rows = λ q e. rw (among-none q position here (c q)) }
+  record-passed h c = record { held = h; rows = λ q w e. rw (among-none q position here (c q w)) }
 
-  pub record-taken : (r : ℕ) (distances' tags' : List ℕ) → ((q : Asked) → candidate q here ≡ true) → Offered distances tags n k (rowAt page i D position) r distances' tags'
-      → OfferedRecord page i D position distances tags n k r distances' tags'
+  pub record-taken : (r : ℕ) (distances' tags' : List ℕ) → ((q : Asked) → q .choice ≡ choice → candidate q here ≡ true) → Offered distances tags n k (rowAt page i D position) r distances' tags'
+      → OfferedRecord page i D position distances tags n k choice r distances' tags'
   unfolding sorting.offerAll
-  record-taken r distances' tags' c o = record { held = o .held; rows = λ q e. rw (among-one q position here (c q), ← row-is q e) (o .rows) }
+  record-taken r distances' tags' c o = record { held = o .held; rows = λ q w e. rw (among-one q position here (c q w), ← row-is q e) (o .rows) }
 
 -- ---- A LEAF
 
@@ -136,7 +137,7 @@ module _ (page : List ℕ) (q : Asked) (position k : ℕ) (leaf : Leaf) (is : le
       ∙ offers-next i noRecord s s (omega arith) (h i (omega arith)) ∙ offers-none s h i (omega arith)
 
 -- a leaf of which no distance is near enough leaves the rows as they are
-module _ (page q : List ℕ) (position k n full limit : ℕ) (distances tags sums : List ℕ) (held : Held distances tags n k) (s : Sums page q (length q) full sums)
+module _ (page q : List ℕ) (position k : ℕ) (choice : Choice) (n full limit : ℕ) (distances tags sums : List ℕ) (held : Held distances tags n k) (s : Sums page q (length q) full sums)
     (enough : min (leafOf page .count) 16 ≤ full) (past : BehindPast distances n k limit) (none : count (notPast limit) (take full sums) ≡ 0) where
   far : (i : ℕ) → i < full → behindAll distances n k (getD sums i 0) ≡ true
   far i h =
@@ -145,28 +146,28 @@ module _ (page q : List ℕ) (position k n full limit : ℕ) (distances tags sum
       let top : mostCost * length q ≤ mostCost * 16 = mul-le-mul (le-refl mostCost) m in
       past (getD sums i 0) (omega arith) (none-within limit full sums none i h (omega arith))
 
-  unmoved : (i : ℕ) → i < full → rowsIn distances tags n ≡ sorting.offerAll rowOrder k (rowsAmong (askingPoint q k) position (recordIn page i ∷ [])) (rowsIn distances tags n)
+  unmoved : (i : ℕ) → i < full → rowsIn distances tags n ≡ sorting.offerAll rowOrder k (rowsAmong (askingPoint q k choice) position (recordIn page i ∷ [])) (rowsIn distances tags n)
   unmoved i h =
-      record-behind page i (getD sums i 0) position distances tags n k held (far i h) .rows (askingPoint q k)
-      (point-distance q k (recordIn page i) (getD sums i 0) (sums-end page q full sums s i h))
+      record-behind page i (getD sums i 0) position distances tags n k choice held (far i h) .rows (askingPoint q k choice) refl
+      (point-distance q k choice (recordIn page i) (getD sums i 0) (sums-end page q full sums s i h))
 
-  pub none-offered : OfferedAll distances tags n k (rowsAmong (askingPoint q k) position (recordsIn (leafOf page))) n distances tags
+  pub none-offered : OfferedAll distances tags n k (rowsAmong (askingPoint q k choice) position (recordsIn (leafOf page))) n distances tags
   none-offered =
       let c = min (leafOf page .count) 16 in
       record {
         held = held;
-        rows = sym (offers-end page (askingPoint q k) position k (leafOf page) refl c refl c (rowsIn distances tags n) (le-refl c))
-            ∙ offers-none page (askingPoint q k) position k (leafOf page) refl c refl (rowsIn distances tags n) (λ i h. unmoved i (omega arith)) c (le-refl c)
-            ∙ offers-all page (askingPoint q k) position k (leafOf page) refl c refl (rowsIn distances tags n);
+        rows = sym (offers-end page (askingPoint q k choice) position k (leafOf page) refl c refl c (rowsIn distances tags n) (le-refl c))
+            ∙ offers-none page (askingPoint q k choice) position k (leafOf page) refl c refl (rowsIn distances tags n) (λ i h. unmoved i (omega arith)) c (le-refl c)
+            ∙ offers-all page (askingPoint q k choice) position k (leafOf page) refl c refl (rowsIn distances tags n);
       }
 
 -- ---- A PAGE OF THE INDEX
 
 -- the part of the index at a page holds its leaf, and the low ends of a question for a point are the point
-pub offered-part : (b : List ℕ) (p : ℕ) (asked : List ℕ) (position : ℕ) (distances tags : List ℕ) (n k r : ℕ) (distances' tags' : List ℕ) → inRange b p ≡ true → Seekable asked
-    → OfferedAll distances tags n k (rowsAmong (askingPoint (lowEnds asked) k) position (recordsIn (leafOf (take (p * 1024 + 1024 - p * 1024) (drop (p * 1024) b))))) r distances' tags'
-    → OfferedAll distances tags n k (rowsAmong (asking asked k) position (recordsIn (leafAt b p))) r distances' tags'
-offered-part b p asked position distances tags n k r distances' tags' e s h =
+pub offered-part : (b : List ℕ) (p : ℕ) (asked : List ℕ) (position : ℕ) (distances tags : List ℕ) (n k : ℕ) (c : Choice) (r : ℕ) (distances' tags' : List ℕ) → inRange b p ≡ true → Seekable asked
+    → OfferedAll distances tags n k (rowsAmong (askingPoint (lowEnds asked) k c) position (recordsIn (leafOf (take (p * 1024 + 1024 - p * 1024) (drop (p * 1024) b))))) r distances' tags'
+    → OfferedAll distances tags n k (rowsAmong (asking asked k c) position (recordsIn (leafAt b p))) r distances' tags'
+offered-part b p asked position distances tags n k c r distances' tags' e s h =
     rw (s .is) (rw (leaf-part b p (p * 1024 + 1024 - p * 1024) (omega arith) e) at h)
 
 -- and out of range there are no records

@@ -1,3 +1,4 @@
 pub mod WordLaws
 pub mod ColumnLaws
 pub mod LeafLaws
+pub mod StageLaws

@@ -9,6 +9,7 @@ use Rattle.pagestore.specs.Store.{leafAt, recordsIn}
 use Rattle.search_rows.specs.declared.Row.{Row}
 use Rattle.search_rows.specs.Rows.{rowOrder}
 use Rattle.search_rows.specs.Held.{rowsIn, Held}
+use Rattle.search_model.specs.declared.Choice.{Choice}
 use Rattle.search_model.specs.Asked.{Asked, distanceTo, candidate, asking, askingPoint}
 use Rattle.search_model.specs.Branches.{rowsAmong}
 use Rattle.search_leaves.specs.Columns.{recordIn}
@@ -19,22 +20,22 @@ pub record OfferedAll (distances tags : List ℕ) (n k : ℕ) (xs : List Row) (r
   pub rows : rowsIn distances' tags' r ≡ sorting.offerAll rowOrder k xs (rowsIn distances tags n)
 
 -- those of the candidates in a leaf page, for a point
-abbrev pub OfferedPart : List ℕ → List ℕ → ℕ → List ℕ → List ℕ → ℕ → ℕ → ℕ → List ℕ → List ℕ → Type 0
-OfferedPart page q position distances tags n k r distances' tags' =
-    OfferedAll distances tags n k (rowsAmong (askingPoint q k) position (recordsIn (leafOf page))) r distances' tags'
+abbrev pub OfferedPart : List ℕ → List ℕ → ℕ → List ℕ → List ℕ → ℕ → ℕ → Choice → ℕ → List ℕ → List ℕ → Type 0
+OfferedPart page q position distances tags n k c r distances' tags' =
+    OfferedAll distances tags n k (rowsAmong (askingPoint q k c) position (recordsIn (leafOf page))) r distances' tags'
 
 -- and in the leaf at a page of the index
-abbrev pub OfferedLeaf : List ℕ → ℕ → List ℕ → ℕ → List ℕ → List ℕ → ℕ → ℕ → ℕ → List ℕ → List ℕ → Type 0
-OfferedLeaf index page asked position distances tags n k r distances' tags' =
-    OfferedAll distances tags n k (rowsAmong (asking asked k) position (recordsIn (leafAt index page))) r distances' tags'
+abbrev pub OfferedLeaf : List ℕ → ℕ → List ℕ → ℕ → List ℕ → List ℕ → ℕ → ℕ → Choice → ℕ → List ℕ → List ℕ → Type 0
+OfferedLeaf index page asked position distances tags n k c r distances' tags' =
+    OfferedAll distances tags n k (rowsAmong (asking asked k c) position (recordsIn (leafAt index page))) r distances' tags'
 
--- r says whether the record in slot i of a leaf page is a candidate, whatever is asked
-abbrev pub Tells : List ℕ → ℕ → Bool → Type 0
-Tells page i r = (q : Asked) → r ≡ candidate q (recordIn page i)
+-- r says whether the record in slot i of a leaf page is a candidate, whatever else is asked
+abbrev pub Tells : List ℕ → ℕ → Choice → Bool → Type 0
+Tells page i c r = (q : Asked) → q .choice ≡ c → r ≡ candidate q (recordIn page i)
 
--- the record in slot i of a leaf page is offered, at that distance from whatever is asked
-pub record OfferedRecord (page : List ℕ) (i distance position : ℕ) (distances tags : List ℕ) (n k r : ℕ)
-    (distances' tags' : List ℕ) : Type 0 where
+-- the record in slot i of a leaf page is offered if it is a candidate, at that distance from whatever is asked
+pub record OfferedRecord (page : List ℕ) (i distance position : ℕ) (distances tags : List ℕ) (n k : ℕ)
+    (c : Choice) (r : ℕ) (distances' tags' : List ℕ) : Type 0 where
   pub held : Held distances' tags' r k
-  pub rows : (q : Asked) → distance ≡ distanceTo q (recordIn page i)
+  pub rows : (q : Asked) → q .choice ≡ c → distance ≡ distanceTo q (recordIn page i)
       → rowsIn distances' tags' r ≡ sorting.offerAll rowOrder k (rowsAmong q position (recordIn page i ∷ [])) (rowsIn distances tags n)

@@ -6,7 +6,7 @@ ghost use Rattle.lists.specs.Basics.{indicator};
 ghost use Rattle.lists.specs.Sorting.{count};
 ghost use Rattle.search_rows.specs.Held.{Held};
 ghost use Rattle.search_leaves.specs.Columns.{notPast, BehindPast};
-ghost use Rattle.search_model.specs.Asked.{AskedPoint, Seekable};
+ghost use Rattle.search_model.specs.Asked.{inStages, AskedPoint, Seekable};
 ghost use Rattle.search_leaves.specs.Offering.{Tells, OfferedRecord, OfferedPart, OfferedLeaf};
 ghost use Rattle.pagestore_page.specs.Layout.{maxItems, pageSize};
 use crate::columns::add_columns;
@@ -17,6 +17,8 @@ use pagestore::in_range;
 use pagestore::lanes;
 use pagestore::read_count;
 use pagestore::read_ident;
+use pagestore::read_stage;
+use search_model::Choice;
 use search_rows::Row;
 use search_rows::behind;
 use search_rows::offer;
@@ -27,6 +29,9 @@ mod columns;
 const FAR: u32 = 4294967295;
 
 const WIDE_FAR: u64 = FAR as u64;
+
+// So many bits a set of stages has.
+const SET_BITS: u8 = 8;
 
 // How many items a page with this count has: there are so many slots.
 pub fn filled(count: usize) -> usize
@@ -76,11 +81,22 @@ fn within(sums: &[u32], n: usize, limit: u32) -> u32
     near
 }
 
-// Whether the record in slot i of a leaf page is a candidate of what is asked: each one is.
-fn is_candidate(page: &[u8], i: usize) -> bool
-    ensures { λ r. ⌜ Tells (now (page .entry)) i r ⌝ }
+// Whether a stage is in a set, bit s for stage s. A stored stage past the bits of a set, which no sound index has, is in none.
+fn in_stages(stages: u8, stage: u8) -> bool
+    ensures { λ r. ⌜ r ≡ inStages stages stage ⌝ }
 {
-    true
+    if SET_BITS <= stage {
+        return false;
+    }
+    (stages >> stage) & 1 == 1
+}
+
+// Whether the record in slot i of a leaf page is one of those looked for.
+fn is_candidate(page: &[u8], i: usize, choice: Choice) -> bool
+    requires { ⌜ (length (now page) ≡ pageSize) × (i < maxItems) ⌝ }
+    ensures { λ r. ⌜ Tells (now (page .entry)) i choice r ⌝ }
+{
+    in_stages(choice.stages, read_stage(page, i))
 }
 
 // Offers the record in slot i of a leaf page, whose squared distance is told, if it is a candidate. Its identifier is read only
@@ -94,15 +110,16 @@ fn offer_record(
     tags: &mut [u64],
     n: usize,
     k: usize,
+    choice: Choice,
 ) -> usize
     requires { ⌜ (length (now page) ≡ pageSize) × (i < maxItems) × Held (now distances) (now tags) n k ⌝ }
-    ensures { λ r. ⌜ OfferedRecord (now (page .entry)) i distance position (now (distances .entry)) (now (tags .entry)) n k r
-        (now (distances .exit)) (now (tags .exit)) ⌝ }
+    ensures { λ r. ⌜ OfferedRecord (now (page .entry)) i distance position (now (distances .entry)) (now (tags .entry)) n k choice
+        r (now (distances .exit)) (now (tags .exit)) ⌝ }
 {
     if behind(distances, n, k, distance) {
         return n;
     }
-    if !is_candidate(page, i) {
+    if !is_candidate(page, i, choice) {
         return n;
     }
     let row = Row {
@@ -124,10 +141,11 @@ fn offer_leaf(
     tags: &mut [u64],
     n: usize,
     k: usize,
+    choice: Choice,
 ) -> usize
     requires { ⌜ (length (now page) ≡ pageSize) × AskedPoint (now q) × Held (now distances) (now tags) n k ⌝ }
-    ensures { λ r. ⌜ OfferedPart (now (page .entry)) (now (q .entry)) position (now (distances .entry)) (now (tags .entry)) n k r
-        (now (distances .exit)) (now (tags .exit)) ⌝ }
+    ensures { λ r. ⌜ OfferedPart (now (page .entry)) (now (q .entry)) position (now (distances .entry)) (now (tags .entry)) n k choice
+        r (now (distances .exit)) (now (tags .exit)) ⌝ }
 {
     let count = filled(read_count(page));
     let full = lanes(count);
@@ -139,8 +157,8 @@ fn offer_leaf(
     let mut rows = n;
     let mut i = 0;
     while i < count {
-        let distance = wide(sums[i]);
-        rows = offer_record(page, i, distance, position, distances, tags, rows, k);
+        let sum = wide(sums[i]);
+        rows = offer_record(page, i, sum, position, distances, tags, rows, k, choice);
         i += 1;
     }
     rows
@@ -156,10 +174,11 @@ pub fn visit_leaf(
     tags: &mut [u64],
     n: usize,
     k: usize,
+    choice: Choice,
 ) -> usize
     requires { ⌜ Seekable (now asked) × Held (now distances) (now tags) n k ⌝ }
-    ensures { λ r. ⌜ OfferedLeaf (now (index .entry)) page (now (asked .entry)) position (now (distances .entry)) (now (tags .entry)) n k r
-        (now (distances .exit)) (now (tags .exit)) ⌝ }
+    ensures { λ r. ⌜ OfferedLeaf (now (index .entry)) page (now (asked .entry)) position (now (distances .entry)) (now (tags .entry))
+        n k choice r (now (distances .exit)) (now (tags .exit)) ⌝ }
 {
     if in_range(index, page) {
         let at = page as usize * PAGE_SIZE;
@@ -173,6 +192,7 @@ pub fn visit_leaf(
             tags,
             n,
             k,
+            choice,
         )
     } else {
         n

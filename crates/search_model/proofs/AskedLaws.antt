@@ -1,13 +1,16 @@
--- What is asked: every record is a candidate, a question for a point suits an index of as many features, and its tables can be made.
+-- What is asked: a set of stages by its marks, the full set, a question for a point suits an index of as many features, and its tables can be made.
 use mathlib.Core.Path.{_≡_, refl, sym, ap, _∙_}
-use mathlib.Core.Bool.{true}
+use mathlib.Core.Bool.{Bool, true, false}
 use mathlib.Core.List.{List, [], _∷_, map}
-use Prim.Native.Nat.{ℕ, _≤_}
+use Prim.Native.Nat.{ℕ, zero, suc, _+_, _*_, _/_, _%_, _^_, _≤_}
 use native.Mathlib.Omega.{arith}
+use lib.Dec.{eqb}
 use lib.IntN.{ℤ}
 use lib.ListN.{length, length-take}
-use Rattle.lists.specs.Basics.{All, none, also}
-use Rattle.lists.specs.ConcatMapLaws.{all-every}
+use borrow.Author.Tests.{eqb-true, eqb-false}
+use Rattle.lists.specs.Basics.{All, none, also, all-map, indicator}
+use Rattle.lists.specs.Tests.{by-cases}
+use Rattle.lists.specs.Choices.{indicator-le}
 use Rattle.lists.specs.Sorting.{filter}
 use Rattle.lists.specs.SortingLaws.{filter-all}
 use Rattle.geometry.specs.Points.{InRange}
@@ -18,19 +21,71 @@ use Rattle.geometry.specs.Stored.{coordOf, pointOf}
 use Rattle.geometry.proofs.StoredLaws.{coord-magnitude, length-point}
 use Rattle.geometry.proofs.SliceLaws.{plain-ordered, plain-length, plain-asks}
 use Rattle.pagestore_page.specs.declared.Record.{Record}
-use Rattle.search_model.specs.Asked.{Asked, plainly, candidate, Askable}
+use Rattle.tree_model.specs.Sound.{maxStage, RecordOk}
+use Rattle.search_model.specs.declared.Choice.{Choice}
+use Rattle.search_model.specs.Asked.{Asked, setOf, inStages, fullSet, plainly, candidate, Askable}
 use Rattle.search_model.specs.Asked.{lowEnds, Seekable}
 use Rattle.search_model.proofs.RecordLaws.{in-range}
 
-pub each-candidate : (q : Asked) (r : Record) → true ≡ candidate q r
+-- ---- STAGES
+
+mark-read : (m : Bool) (n : ℕ) → n ≡ indicator m → eqb n 1 ≡ m
+mark-read true n e = rw e
+mark-read false n e = rw e
+
+-- marks-read: the stages in a set are those whose mark it has
+pub marks-read : (mark : ℕ → Bool) (s : ℕ) → s ≤ maxStage → inStages (setOf mark) s ≡ mark s
+unfolding inStages
+marks-read mark s h = mark-read (mark s) _ (bit s h)
+  where
+    a : (i : ℕ) → indicator (mark i) ≤ 1
+    a i = indicator-le (mark i)
+
+    bit : (s : ℕ) → s ≤ maxStage → setOf mark / 2 ^ s % 2 ≡ indicator (mark s)
+    bit zero h = omega (arith, a 0, a 1, a 2, a 3, a 4, a 5)
+    bit (suc zero) h = omega (arith, a 0, a 1, a 2, a 3, a 4, a 5)
+    bit (suc (suc zero)) h = omega (arith, a 0, a 1, a 2, a 3, a 4, a 5)
+    bit (suc (suc (suc zero))) h = omega (arith, a 0, a 1, a 2, a 3, a 4, a 5)
+    bit (suc (suc (suc (suc zero)))) h = omega (arith, a 0, a 1, a 2, a 3, a 4, a 5)
+    bit (suc (suc (suc (suc (suc zero))))) h = omega (arith, a 0, a 1, a 2, a 3, a 4, a 5)
+    bit (suc (suc (suc (suc (suc (suc s)))))) h = absurd (omega arith)
+
+-- six bits with their weights, each number but the last twice the next and its bit
+weights : (n a b c d e u v w x y z : ℕ) → n ≡ u + 2 * a → a ≡ v + 2 * b → b ≡ w + 2 * c → c ≡ x + 2 * d → d ≡ y + 2 * e → e ≡ z
+    → n ≡ u + 2 * v + 4 * w + 8 * x + 16 * y + 32 * z
+weights n a b c d e u v w x y z f g h i j k = omega arith
+
+last-bit : (n : ℕ) → n % 2 ≡ indicator (eqb (n % 2) 1)
+last-bit n = by-cases (eqb (n % 2) 1) (λ t. rw t (eqb-true (n % 2) 1 t)) (λ t. rw t (omega (arith, eqb-false (n % 2) 1 t)))
+
+-- a number, half of it, and its last bit as a mark
+halved : (n m : ℕ) → m ≡ n / 2 → n ≡ indicator (eqb (n % 2) 1) + 2 * m
+halved n m e = let b = last-bit n in omega arith
+
+-- set-marks: and every number up to the full set is the set of its marks
+pub set-marks : (set : ℕ) → set ≤ fullSet → set ≡ setOf (inStages set)
+unfolding inStages
+set-marks set h =
+    let one : indicator (eqb (set / 32 % 2) 1) ≡ set / 32 = sym (last-bit (set / 32)) ∙ omega arith in
+    let whole : set ≡ set / 1 = omega arith in
+    whole ∙ weights (set / 1) (set / 2) (set / 4) (set / 8) (set / 16) (set / 32) _ _ _ _ _ _ (halved (set / 1) (set / 2) (omega arith)) (halved (set / 2) (set / 4) (omega arith))
+    (halved (set / 4) (set / 8) (omega arith)) (halved (set / 8) (set / 16) (omega arith)) (halved (set / 16) (set / 32) (omega arith)) (sym one)
+
+-- full-marks: the full set has all six marks, so each stage is in it
+pub full-marks : (s : ℕ) → s ≤ maxStage → inStages fullSet s ≡ true
+full-marks s h =
+    let all : fullSet ≡ setOf (λ s. true) = omega arith in
+    rw all (marks-read (λ s. true) s h)
+
+-- so on a sound index each record is a candidate of a question for the full set
+pub candidates-full : (q : Asked) → q .choice .stages ≡ fullSet → (d : ℕ) (rs : List Record) → All (RecordOk d) rs → filter (candidate q) rs ≡ rs
 unfolding candidate
-each-candidate q r = refl
+candidates-full q e d rs a = filter-all (candidate q) rs (all-map (λ r (h : RecordOk d r). rw e (full-marks (r .stage) (h .stage))) a)
 
-pub candidates-all : (q : Asked) (rs : List Record) → filter (candidate q) rs ≡ rs
-candidates-all q rs = filter-all (candidate q) rs (all-every (λ r. sym (each-candidate q r)) rs)
+-- ---- A QUESTION FOR A POINT
 
-pub plain-suits : (d : ℕ) (p : List ℤ) (k : ℕ) → length p ≡ d → Askable d (plainly p k)
-plain-suits d p k e = record { same = plain-length p ∙ e; ordered = plain-ordered p }
+pub plain-suits : (d : ℕ) (p : List ℤ) (k : ℕ) (c : Choice) → length p ≡ d → Askable d (plainly p k c)
+plain-suits d p k c e = record { same = plain-length p ∙ e; ordered = plain-ordered p }
 
 -- ---- A QUESTION FOR A POINT, AS ONE LIST
 

@@ -17,7 +17,7 @@ use Rattle.geometry.specs.Stored.{pointOf, slotsOf}
 use Rattle.search_theory.specs.Nearest.{candidates, nearest, kth, inSet}
 use Rattle.pagestore.specs.Store.{viewOf}
 use Rattle.tree_model.specs.Trees.{Item, keyOf, firstKey, lastKey, leavesOf}
-use Rattle.search_model.specs.Asked.{Asked, plainly, distanceTo, candidate, spanBound}
+use Rattle.search_model.specs.Asked.{Asked, inStages, fullSet, plainly, distanceTo, candidate, spanBound}
 use Rattle.search_model.specs.Branches.{rowOf, rowsAmong}
 use Rattle.search_model.specs.Visit.{ranking, Answer}
 use Rattle.search_model.specs.Questions.{rowsFrom, rowsOf, leafBound, toRead}
@@ -30,7 +30,7 @@ abbrev pair : ℕ → ℕ → List (Item 1)
 pair a b = (a, map recordNo (rangeFrom 1 9)) ∷ (b, map recordNo (rangeFrom 10 8)) ∷ []
 
 abbrev asked : ℕ → ℕ → Asked
-asked n k = plainly (pos n ∷ []) k
+asked n k = plainly (pos n ∷ []) k (record { stages = fullSet })
 
 -- the identifiers that demand 2 calls for, and the number of leaves that demand 3 does
 abbrev rowsFor : ℕ → ℕ → ℕ → ℕ → List ℕ
@@ -44,7 +44,7 @@ holds : (n k : ℕ) (rows : List ℕ) (read : ℕ) → 1 ≤ k → ((a b : ℕ) 
 unfolding rowsOf toRead
 holds n k rows read one e f b s h =
     let v = viewOf b in
-    let x = found-exact b s (asked n k) (plain-suits (v .d) (pos n ∷ []) k (sym (h .d))) one in
+    let x = found-exact b s (asked n k) (plain-suits (v .d) (pos n ∷ []) k _ (sym (h .d))) one in
     let l : leavesOf v ≡ pair (h .first) (h .second) = h .leaves in (
       ap (λ (y : Answer). map (λ z. z .id) (y .rows)) x ∙ ap (λ (ts : List (Item 1)). map (λ z. z .id) (nearest ranking k (rowsFrom (asked n k) 0 ts))) l ∙ e (h .first) (h .second),
       ap (λ (y : Answer). y .leaves) x
@@ -54,7 +54,7 @@ holds n k rows read one e f b s h =
 
 -- every example of the list holds
 pub answers-hold : All Holds examples
-unfolding rangeFrom filter count insertBy sort lex headOr lastOr heightOf axisAt axisOf pyramidOf gapOf distTo plain sideBy sliceBy axisNo signNo sliceAt leastFrom leastIn boundTo boundOf pointOf slotsOf candidates nearest kth inSet keyOf firstKey lastKey distanceTo candidate spanBound rowOf rowsAmong rowsFrom leafBound recordNo
+unfolding rangeFrom filter count insertBy sort lex headOr lastOr heightOf axisAt axisOf pyramidOf gapOf distTo plain sideBy sliceBy axisNo signNo sliceAt leastFrom leastIn boundTo boundOf pointOf slotsOf candidates nearest kth inSet keyOf firstKey lastKey distanceTo inStages candidate spanBound rowOf rowsAmong rowsFrom leafBound recordNo
 answers-hold =
     also (holds 9 1 (9 ∷ []) 1 (lit≤ tt) (λ a b. refl) (λ a b. refl))
     (also (holds 9 2 (9 ∷ 8 ∷ []) 2 (lit≤ tt) (λ a b. refl) (λ a b. refl))

@@ -1,14 +1,15 @@
 -- Records of leaves left unread may be exchanged: neither rows nor count change (demand 3).
 use mathlib.Core.Path.{_≡_, refl, sym, ap, ap₂, subst, _∙_}
-use mathlib.Core.Bool.{Bool, true}
-use mathlib.Core.List.{List, [], _∷_, _++_}
+use mathlib.Core.Bool.{Bool, true, false}
+use mathlib.Core.List.{List, [], _∷_, _++_, map}
 use Prim.Native.Nat.{ℕ, zero, suc, _+_, _≤_}
 use native.Mathlib.Omega.{arith}
-use lib.ListN.{length, getD}
+use lib.ListN.{length, getD, length-map}
 use lib.Dec.{ltb}
 use borrow.Author.Tests.{ltb-false}
-use Rattle.lists.specs.Basics.{All, none, also, concatMap, rangeFrom}
-use Rattle.lists.specs.Tests.{by-cases}
+use Rattle.lists.specs.Basics.{if, All, none, also, concatMap, rangeFrom}
+use Rattle.lists.specs.Tests.{by-cases, false-true}
+use Rattle.lists.specs.Ascending.{headOr, lastOr, last-map}
 use Rattle.lists.specs.Sorting.{count, Order}
 use Rattle.lists.specs.Orders.{by, lower, by-weak, by-same, lower-weak, lower-same, weak-order}
 use Rattle.lists.specs.ConcatMapLaws.{all-every}
@@ -17,8 +18,9 @@ use Rattle.search_theory.specs.Nearest.{nearest, inSet, Floor}
 use Rattle.search_theory.specs.Promises as flatly
 use Rattle.search_rows.specs.declared.Row.{Row}
 use Rattle.search_rows.specs.RowLaws.{row-order}
+use Rattle.pagestore_page.specs.declared.Record.{Record}
 use Rattle.pagestore.specs.Store.{viewOf}
-use Rattle.tree_model.specs.Trees.{Item, leaves, leavesOf}
+use Rattle.tree_model.specs.Trees.{Item, keyOf, firstKey, lastKey, leaves, leavesOf}
 use Rattle.tree_model.specs.Sound.{SoundIndex}
 use Rattle.search_model.specs.Asked.{Asked, Askable}
 use Rattle.search_model.specs.Branches.{rowsAmong}
@@ -26,6 +28,37 @@ use Rattle.search_model.specs.Visit.{ranking, Answer, found}
 use Rattle.search_model.specs.Questions.{rowsFrom, rowsOf, leafBound, toRead, Kept, Exchanged, end, next}
 use Rattle.search_model.proofs.VisitedLaws.{LeafFloor, among-floor, leaf-floors}
 use Rattle.search_model.proofs.ExactLaws.{found-exact, rows-nearest}
+
+-- ---- ANY STAGE
+
+module _ (d : ℕ) (stage : Record → ℕ) where
+  abbrev staged : Record → Record
+  staged r = record { id = r .id; stage = stage r; stamp = r .stamp; coords = r .coords }
+
+  staged-first : (rs : List Record) → firstKey d (map staged rs) ≡ firstKey d rs
+  unfolding firstKey keyOf headOr
+  staged-first [] = refl
+  staged-first (r ∷ rs) = refl
+
+  staged-last : (rs : List Record) → lastKey d (map staged rs) ≡ lastKey d rs
+  unfolding lastKey keyOf lastOr
+  staged-last [] = refl
+  staged-last (r ∷ rs) = ap (keyOf d) (last-map staged r rs)
+
+  -- a leaf: its own records where it is read, else each with the stage that is said
+  abbrev restaged : Bool → Item 1 → Item 1
+  restaged read t = if read t (t .0, map staged (t .1))
+
+  restaged-kept : (read : Bool) (t : Item 1) → Kept d read t (restaged read t)
+  restaged-kept true t = search
+  restaged-kept false t =
+      let number : length (map staged (t .1)) ≡ length (t .1) = length-map (t .1) staged in
+      search (false-true, number, staged-first, staged-last)
+
+  -- exchange-any-stage: an exchanged record may have any stage (02)
+  pub exchange-any-stage : (read : Item 1 → Bool) (ts : List (Item 1)) → Exchanged d read ts (map (λ t. restaged (read t) t) ts)
+  exchange-any-stage read [] = end
+  exchange-any-stage read (t ∷ ts) = next (restaged-kept (read t) t) (exchange-any-stage read ts)
 
 -- ---- EXCHANGE
 
@@ -48,7 +81,7 @@ rows-no : (q : Asked) (ts : List (Item 1)) → concatMap (rowsNo q ts) (rangeFro
 rows-no q ts = rows-from q ts 0 ts (λ i. ap (leafNo ts) (omega arith))
 
 kept-no : {d : ℕ} {read : Item 1 → Bool} {ts us : List (Item 1)} → Exchanged d read ts us → (p : ℕ) → Kept d (read (leafNo ts p)) (leafNo ts p) (leafNo us p)
-kept-no end p = record { same = λ e. refl; number = refl; first = refl; last = refl }
+kept-no end p = search
 kept-no (next h x) zero = h
 kept-no (next h x) (suc p) = kept-no x p
 

@@ -8,5 +8,6 @@ pub mod SetLaws
 pub mod VisitedLaws
 pub mod ExactLaws
 pub mod UnreadLaws
+pub mod FullSetLaws
 pub mod ExchangeLaws
 pub mod ExampleLaws

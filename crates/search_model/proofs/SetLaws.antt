@@ -55,6 +55,12 @@ nearest-length v q =
 
 -- ---- THE SET
 
+-- few-all: with fewer than k candidates every leaf that holds records is in the set, also one without a candidate
+pub few-all : (v : View) (q : Asked) (t : Item 1) → length (liveCandidates v q) < q .k → 0 < length (t .1) → toRead v q t ≡ true
+unfolding toRead inSet
+few-all v q t few some =
+    rw (lt-ltb 0 (length (t .1)) some, lt-ltb (length (nearest ranking (q .k) (rowsOf v q))) (q .k) (nearest-length v q .1 few))
+
 module _ (b : List ℕ) (s : SoundIndex b) (q : Asked) (suits : Askable (viewOf b .d) q) where
   abbrev v : View
   v = viewOf b
@@ -84,7 +90,7 @@ module _ (b : List ℕ) (s : SoundIndex b) (q : Asked) (suits : Askable (viewOf 
       let e : ltb 0 (length (t .1)) ≡ true = lt-ltb 0 (length (t .1)) some in
       rw e
       (by-cases (ltb n (q .k))
-      (λ f. rw f (λ g. record { some = some; reach = inl (nearest-length v q .0 (ltb-true n (q .k) f)) }, λ g. refl))
+      (λ f. rw f (λ g. record { some = some; reach = inl (omega (arith, nearest-length v q .0 (ltb-true n (q .k) f))) }, λ g. refl))
       (λ f. rw f (
         λ g. record {
           some = some;

@@ -1,11 +1,12 @@
 -- What is asked, as one value, and what it means: how far a record is, whether it is looked for at all, and the bound of a span; the
 -- order of rows is `rowOrder`, of the crate search_rows. Every statement about a question goes over this value.
 use mathlib.Core.Path.{_≡_}
-use mathlib.Core.Bool.{Bool, true}
+use mathlib.Core.Bool.{Bool}
 use mathlib.Core.List.{List}
-use Prim.Native.Nat.{ℕ, _≤_}
+use Prim.Native.Nat.{ℕ, _+_, _*_, _/_, _%_, _^_, _≤_}
+use lib.Dec.{eqb}
 use lib.ListN.{length, take}
-use Rattle.lists.specs.Basics.{All}
+use Rattle.lists.specs.Basics.{All, indicator}
 use lib.IntN.{ℤ}
 use Rattle.geometry.specs.declared.Key.{Key}
 use Rattle.geometry.specs.Features.{Feature, distTo, plain, Ordered}
@@ -15,23 +16,39 @@ use Rattle.geometry.specs.Stored.{pointOf}
 use Rattle.geometry.specs.Numbers.{maxFeatures}
 use Rattle.pagestore_page.specs.declared.Record.{Record}
 use Rattle.tree_model.specs.Trees.{pointIn}
+use Rattle.search_model.specs.declared.Choice.{Choice}
 
--- the features asked for, one for each coordinate, and how many rows
+-- the features asked for, one for each coordinate, how many rows, and which records
 pub record Asked : Type 0 where
   pub features : List Feature
   pub k : ℕ
+  pub choice : Choice
 
 -- the squared distance of a record from what is asked
 unfoldable pub distanceTo : Asked → Record → ℕ
 distanceTo q r = distTo (q .features) (pointIn (length (q .features)) r)
 
--- a point without weights, and how many rows
-abbrev pub plainly : List ℤ → ℕ → Asked
-plainly p k = record { features = plain p; k = k }
+-- a point without weights, how many rows, and which records
+abbrev pub plainly : List ℤ → ℕ → Choice → Asked
+plainly p k c = record { features = plain p; k = k; choice = c }
 
--- whether a record is looked for: each one is
+-- a set of six marks (02), bit s for stage s
+abbrev pub setOf : (ℕ → Bool) → ℕ
+setOf mark =
+    indicator (mark 0) + 2 * indicator (mark 1) + 4 * indicator (mark 2) + 8 * indicator (mark 3) + 16 * indicator (mark 4) + 32 * indicator (mark 5)
+
+-- whether the stage s is in a set: its mark (`marks-read`)
+unfoldable pub inStages : ℕ → ℕ → Bool
+inStages set s = eqb (set / 2 ^ s % 2) 1
+
+-- the set of all six
+abbrev pub fullSet : ℕ
+fullSet = 63
+
+-- whether a record is looked for: its stage is in the set (02)
 unfoldable pub candidate : Asked → Record → Bool
-candidate q r = true
+unfolding inStages
+candidate q r = inStages (q .choice .stages) (r .stage)
 
 -- the bound (01) of the span from a first to a last key
 unfoldable pub spanBound : Asked → Key → Key → ℕ
@@ -44,13 +61,13 @@ pub record Askable (d : ℕ) (q : Asked) : Type 0 where
 
 -- ---- AS THE CODE HOLDS IT
 
--- a question as one list (`ask`), and how many rows
-abbrev pub asking : List ℕ → ℕ → Asked
-asking asked k = record { features = askedOf asked; k = k }
+-- a question as one list (`ask`), how many rows, and which records
+abbrev pub asking : List ℕ → ℕ → Choice → Asked
+asking asked k c = record { features = askedOf asked; k = k; choice = c }
 
 -- a point whose coordinates are as stored, every gap of weight 1
-abbrev pub askingPoint : List ℕ → ℕ → Asked
-askingPoint p k = plainly (pointOf p) k
+abbrev pub askingPoint : List ℕ → ℕ → Choice → Asked
+askingPoint p k c = plainly (pointOf p) k c
 
 -- a point that can be asked: 1 to 16 coordinates in range, as stored
 pub record AskedPoint (p : List ℕ) : Type 0 where

@@ -9,12 +9,12 @@ use Rattle.pagestore_page.specs.declared.Record.{Record}
 use Rattle.pagestore.specs.Store.{View, viewOf}
 use Rattle.tree_model.specs.Trees.{leavesOf}
 use Rattle.tree_model.specs.Sound.{SoundIndex}
-use Rattle.search_model.specs.Asked.{Asked, plainly}
+use Rattle.search_model.specs.Asked.{Asked, fullSet, plainly}
 use Rattle.search_model.specs.Visit.{found}
 
 -- identifier n at n
 unfoldable pub recordNo : ℕ → Record
-recordNo n = record { id = n; coords = slotsOf (pos n ∷ []) }
+recordNo n = record { id = n; stage = 0; stamp = 0; coords = slotsOf (pos n ∷ []) }
 
 -- d = 1, identifiers 1..17 at 1..17: leaves 1..9 and 10..17, on whatever pages
 pub record Seventeen (v : View) : Type 0 where
@@ -23,7 +23,7 @@ pub record Seventeen (v : View) : Type 0 where
   pub second : ℕ
   pub leaves : leavesOf v ≡ (first, map recordNo (rangeFrom 1 9)) ∷ (second, map recordNo (rangeFrom 10 8)) ∷ []
 
--- asked from a point for k: the identifiers of the rows, in order, and the number of leaves read
+-- asked from a point for k, of all stages: the identifiers of the rows, in order, and the number of leaves read
 pub record Example : Type 0 where
   pub point : ℕ
   pub k : ℕ
@@ -31,7 +31,7 @@ pub record Example : Type 0 where
   pub read : ℕ
 
 abbrev pub asked : Example → Asked
-asked e = plainly (pos (e .point) ∷ []) (e .k)
+asked e = plainly (pos (e .point) ∷ []) (e .k) (record { stages = fullSet })
 
 -- what an example says of every sound index with these leaves
 abbrev pub Holds : Example → Type 0

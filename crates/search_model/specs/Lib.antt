@@ -3,4 +3,5 @@ pub mod Asked
 pub mod Branches
 pub mod Visit
 pub mod Questions
+pub mod FullSet
 pub mod Examples

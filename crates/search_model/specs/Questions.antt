@@ -95,6 +95,7 @@ pub record Kept (d : ℕ) (read : Bool) (t u : Item 1) : Type 0 where
   pub number : length (u .1) ≡ length (t .1)
   pub first : firstKey d (u .1) ≡ firstKey d (t .1)
   pub last : lastKey d (u .1) ≡ lastKey d (t .1)
+  -- and nothing more: an exchanged record may have any stage (02; `exchange-any-stage`)
 
 pub data Exchanged (d : ℕ) (read : Item 1 → Bool) : List (Item 1) → List (Item 1) → Type 0 where
   end : Exchanged d read [] []

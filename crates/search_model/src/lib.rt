@@ -1,5 +1,5 @@
 // What is asked of an index, the visit that answers it, and what is promised of its answer. All of it is in specs/ and proofs/; this
-// file holds no function, only the numbers of which they speak.
+// file holds no function, only the numbers and the choice of which they speak.
 
 // The highest level of a root.
 pub const MAX_LEVEL: u8 = 4;
@@ -21,3 +21,11 @@ pub const MIDDLE_ROOM: usize = 512;
 pub const LARGE_ROOM: usize = 2048;
 
 pub const FULL_ROOM: usize = 8192;
+
+// The set of all six stages.
+pub const ALL_STAGES: u8 = 63;
+
+// Which records are looked for: those whose stage is in the set, bit s for stage s.
+pub struct Choice {
+    pub stages: u8,
+}

@@ -58,9 +58,9 @@ key? a b =
 
 record? : (a b : Record) → Either (a ≡ b)
 record? a b =
-    either-map (λ h i. record { id = h .0 i; coords = h .1 i })
-    (λ e. (ap (λ (r : Record). r .id) e, ap (λ (r : Record). r .coords) e))
-    (both? (eq? (a .id) (b .id)) (list? eq? (a .coords) (b .coords)))
+    either-map (λ h i. record { id = h .0 i; stage = h .1 .0 i; stamp = h .1 .1 .0 i; coords = h .1 .1 .1 i })
+    (λ e. (ap (λ (r : Record). r .id) e, (ap (λ (r : Record). r .stage) e, (ap (λ (r : Record). r .stamp) e, ap (λ (r : Record). r .coords) e))))
+    (both? (eq? (a .id) (b .id)) (both? (eq? (a .stage) (b .stage)) (both? (eq? (a .stamp) (b .stamp)) (list? eq? (a .coords) (b .coords)))))
 
 entry? : (a b : Entry) → Either (a ≡ b)
 entry? a b =
@@ -103,8 +103,8 @@ filled? (suc l) t =
 
 record-ok? : (d : ℕ) (r : Record) → Either (RecordOk d r)
 record-ok? d r =
-    either-map (λ h. record { ident = h .0; coords = h .1 }) (λ o. (o .ident, o .coords))
-    (both? (le? 1 (r .id)) (all? (λ c. le? c 2000) (take d (r .coords))))
+    either-map (λ h. record { ident = h .0; stage = h .1 .0; coords = h .1 .1 }) (λ o. (o .ident, (o .stage, o .coords)))
+    (both? (le? 1 (r .id)) (both? (le? (r .stage) 5) (all? (λ c. le? c 2000) (take d (r .coords)))))
 
 -- each number is there at most once
 distinct? : (xs : List ℕ) → Either ((i : ℕ) → mult i xs ≤ 1)

@@ -54,6 +54,7 @@ record-not-not : (d : ℕ) (r : Record) → ¬ ¬ RecordOk d r → RecordOk d r
 record-not-not d r h =
     record {
       ident = le-not-not 1 (r .id) (λ n. h (λ o. n (o .ident)));
+      stage = le-not-not (r .stage) 5 (λ n. h (λ o. n (o .stage)));
       coords = spots-all (take d (r .coords)) (λ i c a. le-not-not c 2000 (λ n. h (λ o. n (all-spot (o .coords) a))));
     }
 

@@ -129,7 +129,7 @@ pub data FailsAt (v : View) : ℕ → Type 0 where
   entry : {p : ℕ} → EntryFault v p → FailsAt v p
   -- a page in no state, at itself
   state : {p : ℕ} → NoFault v → IsPage v p → ¬ Reached v p → ¬ Freed v p → ¬ Fresh v p → FailsAt v p
-  -- anything else at the page with the bad field: the root's fill, the order of keys, a record's identifier or coordinates
+  -- anything else at the page with the bad field: the root's fill, the order of keys, a record's identifier, stage or coordinates
   rootFill : Rooted v → ¬ RootFill (v .page (v .root)) → FailsAt v (v .root)
   order : {p : ℕ} → Reached v p → ¬ Ascending (ranksIn (v .d) (v .page p)) → FailsAt v p
   field : {p i : ℕ} {r : Record} → RecordAt v p i r → ¬ RecordOk (v .d) r → FailsAt v p

@@ -35,14 +35,15 @@ unfolding heightOf pointOf
 height-high none = omega arith
 height-high (also {x = x} h a) = omega (arith, coord-magnitude x, h, height-high a)
 
--- so that a record is judged by its key
-pub key-judged : (d : ℕ) (r : Record) (k : Key) {t : Bool} → k ≡ keyOf d r → Decides ((1 ≤ k .id) × (k .height .0 ≤ 1000)) t → Decides (RecordOk d r) t
+-- so that a record is judged by its key and its stage
+pub key-judged : (d : ℕ) (r : Record) (k : Key) (g : ℕ) {t : Bool} → k ≡ keyOf d r → g ≡ r .stage
+    → Decides ((1 ≤ k .id) × (g ≤ 5) × (k .height .0 ≤ 1000)) t → Decides (RecordOk d r) t
 unfolding keyOf
-key-judged d r k e j =
+key-judged d r k g e q j =
     let i : k .id ≡ r .id = ap (λ (x : Key). x .id) e in
     let h : k .height .0 ≡ heightOf (pointIn d r) = ap (λ (x : Key). x .height .0) e in
-    judge-map (λ g. record { ident = omega (arith, g .0); coords = height-low (take d (r .coords)) (omega (arith, g .1)) })
-    (λ n o. n (omega (arith, o .ident), omega (arith, height-high (o .coords)))) j
+    judge-map (λ f. record { ident = omega (arith, f .0); stage = omega (arith, f .1); coords = height-low (take d (r .coords)) (omega (arith, f .2)) })
+    (λ n o. n (omega (arith, o .ident), omega (arith, o .stage), omega (arith, height-high (o .coords)))) j
 
 -- ---- equal numbers are those of equal keys
 

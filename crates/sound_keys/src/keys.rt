@@ -8,6 +8,7 @@ ghost use Rattle.lists.specs.Basics.{if};
 ghost use Rattle.geometry.specs.Keys.{keyNumber};
 ghost use Rattle.pagestore_page.specs.Layout.{leafOf, maxItems, pageSize};
 ghost use Rattle.pagestore.specs.Store.{recordsIn, entriesIn, fillOf, pageAt, leafAt, innerAt, inRange, viewOf};
+ghost use Rattle.tree_model.specs.Sound.{maxStage};
 ghost use Rattle.sound_faults.specs.Faults.{Reached};
 ghost use Rattle.lists.specs.Judges.{Decides};
 ghost use Rattle.geometry.specs.Numbers.{maxFeatures, maxCoordinate};
@@ -19,10 +20,12 @@ use crate::leads::lead_key;
 use geometry::Key;
 use geometry::MAX_COORDINATE;
 use geometry::keys::key_number;
+use pagestore::MAX_STAGE;
 use pagestore::count_at;
 use pagestore::entry_at;
 use pagestore::lanes;
 use pagestore::level_at;
+use pagestore::read_stage;
 use pagestore_page::MAX_ITEMS;
 use pagestore_page::PAGE_SIZE;
 
@@ -33,11 +36,14 @@ pub fn rank(k: Key) -> u64
     key_number(k)
 }
 
-// Are the identifier and the coordinates of a record with this key in range? The height is the greatest magnitude.
-fn key_fine(k: Key) -> bool
-    ensures { λ r. ⌜ Decides ((1 ≤ k .id) × (k .height .0 ≤ maxCoordinate)) r ⌝ }
+// Are the identifier, the stage and the coordinates of a record with this key in range? The height is the greatest magnitude.
+fn record_fine(k: Key, stage: u8) -> bool
+    ensures { λ r. ⌜ Decides ((1 ≤ k .id) × (stage ≤ maxStage) × (k .height .0 ≤ maxCoordinate)) r ⌝ }
 {
     if k.id == 0 {
+        return false;
+    }
+    if MAX_STAGE < stage {
         return false;
     }
     k.height.0 <= MAX_COORDINATE
@@ -92,7 +98,7 @@ fn judge_records(page: &[u8], n: usize, d: usize, tops: &[u16]) -> Span
     let mut i = 0;
     while i < n {
         let key = lead_key(page, tops[i], i, d);
-        if !key_fine(key) {
+        if !record_fine(key, read_stage(page, i)) {
             return faulty();
         }
         let own = rank(key);

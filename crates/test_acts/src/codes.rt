@@ -5,14 +5,16 @@ ghost use mathlib.Core.Path.{_≡_};
 ghost use lib.ListN.{length};
 use index_answer::Answer;
 use index_query::Criteria;
+use index_refusals::Epoch;
 use pagestore::PAGE_SIZE;
 use search_rows::MAX_ROWS;
+use test_parts::FULL_SET;
 use test_parts::answers::show_answer;
 use test_parts::show::line;
 use test_parts::show::text;
 
 // The bytes of the shortest index: 2 pages.
-const SHORTEST: usize = 2048;
+pub const SHORTEST: usize = 2048;
 
 // 1 if a length is not permitted.
 fn refused_length(bytes: usize) -> u64 {
@@ -37,7 +39,10 @@ fn answer_to(index: &[u8], point: &[i16], k: usize, lent: usize) -> Answer {
     index::question_outcome(
         index,
         point,
-        Criteria { k: k },
+        Criteria {
+            k: k,
+            stages: FULL_SET,
+        },
         lent,
         &mut distances,
         &mut tags,
@@ -74,8 +79,13 @@ fn try_make(what: &[u8], index: [u8; SHORTEST], d: u8, said: u64) -> [u8; SHORTE
 }
 
 fn insert(index: [u8; SHORTEST], id: u32, point: &[i16], what: &[u8], said: u64) -> [u8; SHORTEST] {
+    let epoch = Epoch {
+        id: id,
+        stage: 0,
+        stamp: 0,
+    };
     let mut bytes = index;
-    line(what, index::insert(&mut bytes, id, point) as u64, said);
+    line(what, index::insert(&mut bytes, epoch, point) as u64, said);
     bytes
 }
 
@@ -93,10 +103,15 @@ fn try_delete(what: &[u8], index: [u8; SHORTEST], id: u32, said: u64) -> [u8; SH
 // The five acts in bytes of a length that is not permitted.
 fn short_acts(index: &mut [u8]) {
     let point = [0i16, 0];
+    let epoch = Epoch {
+        id: 1,
+        stage: 0,
+        stamp: 0,
+    };
     line(b"make in 2047 bytes", index::make(index, 2) as u64, 1);
     line(
         b"insert in 2047 bytes",
-        index::insert(index, 1, &point) as u64,
+        index::insert(index, epoch, &point) as u64,
         1,
     );
     line(b"delete in 2047 bytes", index::delete(index, 1) as u64, 1);
@@ -165,7 +180,7 @@ fn refused_questions(index: &[u8]) {
 }
 
 // How many bytes of two runs differ.
-fn changed(a: &[u8], b: &[u8]) -> u64
+pub fn changed(a: &[u8], b: &[u8]) -> u64
     requires { ⌜ length (now a) ≡ length (now b) ⌝ }
 {
     let mut n: u64 = 0;
@@ -199,7 +214,8 @@ fn damaged(index: [u8; SHORTEST]) {
     damaged_looks(&b);
 }
 
-pub fn run() {
+// The index left has the three points at the ends of the ranges.
+pub fn run() -> [u8; SHORTEST] {
     text(b"lengths and refusals\n");
     show_permitted();
     short();
@@ -214,4 +230,5 @@ pub fn run() {
         0,
     );
     damaged(damage(after));
+    after
 }

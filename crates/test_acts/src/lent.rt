@@ -7,6 +7,7 @@ use index_answer::Tally;
 use index_query::Criteria;
 use search_rows::MAX_ROWS;
 use search_rows::Row;
+use test_parts::FULL_SET;
 use test_parts::answers::show_answer;
 use test_parts::answers::show_position;
 use test_parts::answers::show_row;
@@ -19,7 +20,11 @@ fn ask_at(index: &[u8], n: u16, k: usize, rows: [Row; MAX_ROWS], tally: Tally) -
     requires { ⌜ n ≤ 17 ⌝ }
 {
     let point = [coordinate(MAX_COORDINATE + n)];
-    ask(index, &point, Criteria { k: k }, rows, tally)
+    let what = Criteria {
+        k: k,
+        stages: FULL_SET,
+    };
+    ask(index, &point, what, rows, tally)
 }
 
 fn show_row_at(row: Row, id: u64, distance: u64, position: u64) {

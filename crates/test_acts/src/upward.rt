@@ -3,14 +3,17 @@ ghost use mathlib.Core.Path.{_≡_};
 ghost use Prim.Native.Nat.{_≤_, _<_};
 ghost use lib.ListN.{length};
 use crate::lent;
+use crate::stages;
 use geometry::MAX_COORDINATE;
 use index_answer::Answer;
 use index_query::Criteria;
+use index_refusals::Epoch;
 use pagestore::PAGE_SIZE;
 use pagestore::free_count;
 use pagestore::fresh_page;
 use search_rows::MAX_ROWS;
 use search_rows::row_of;
+use test_parts::FULL_SET;
 use test_parts::answers::show_answer;
 use test_parts::answers::show_leaf;
 use test_parts::answers::show_row;
@@ -25,7 +28,12 @@ fn insert_one(index: &mut [u8], n: u16) -> u32
     requires { ⌜ n ≤ 17 ⌝ }
 {
     let point = [coordinate(MAX_COORDINATE + n)];
-    index::insert(index, n as u32, &point)
+    let epoch = Epoch {
+        id: n as u32,
+        stage: 0,
+        stamp: 0,
+    };
+    index::insert(index, epoch, &point)
 }
 
 fn carried_out(code: u32) -> u64
@@ -88,7 +96,11 @@ fn ask(index: &[u8], n: u16, k: usize, distances: &mut [u64], tags: &mut [u64]) 
     requires { ⌜ (n ≤ 17) × (length (now distances) ≡ 64) × (length (now tags) ≡ 64) ⌝ }
 {
     let point = [coordinate(MAX_COORDINATE + n)];
-    index::question_outcome(index, &point, Criteria { k: k }, MAX_ROWS, distances, tags)
+    let what = Criteria {
+        k: k,
+        stages: FULL_SET,
+    };
+    index::question_outcome(index, &point, what, MAX_ROWS, distances, tags)
 }
 
 fn ask_nine(index: &[u8]) {
@@ -166,5 +178,6 @@ pub fn run() {
     four_pages(&mut four);
     questions(&four);
     lent::run(&four);
+    stages::ask_two_leaves(&four);
     fewer(&mut four);
 }

@@ -20,11 +20,11 @@ Lent distances tags = (64 ≤ length distances) × (64 ≤ length tags)
 
 -- each point has 16 places and a mark
 abbrev pub Points : List ℕ → List ℕ → Type 0
-Points places live = length places ≡ 16 * length live
+Points places marks = length places ≡ 16 * length marks
 
 -- the arrays of a batch: marks and places of 1,024 points
 abbrev pub Arrays : List ℕ → List ℕ → Type 0
-Arrays places live = (length live ≡ 1024) × (length places ≡ 16384)
+Arrays places marks = (length marks ≡ 1024) × (length places ≡ 16384)
 
 -- a batch of 1 to 16 features whose points have room in these arrays
 abbrev pub Fits : Batch → Type 0

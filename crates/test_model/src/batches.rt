@@ -1,4 +1,5 @@
 // Batches of points: what is asked of each, and what is reported.
+ghost use Prim.Native.Nat.{_<_};
 use crate::Batch;
 use crate::Seen;
 use crate::numbers::CLUSTERED;
@@ -7,6 +8,7 @@ use crate::numbers::WIDE;
 use crate::numbers::leap;
 use search_rows::MAX_ROWS;
 use std::num::wrapping_add_u64;
+use test_parts::FULL_SET;
 use test_parts::show;
 
 // Every fourth question of a batch is asked from anywhere.
@@ -14,8 +16,29 @@ pub fn asked_kind(kind: u32, seed: u64) -> u32 {
     if seed % 4 == 0 { WIDE } else { kind }
 }
 
+// The set of one stage.
+fn single(stage: u64) -> u8
+    requires { ⌜ stage < 6 ⌝ }
+{
+    let sets = [1u8, 2, 4, 8, 16, 32];
+    sets[stage as usize]
+}
+
 pub fn asked_k(seed: u64) -> usize {
     (seed / 1024 % MAX_ROWS as u64) as usize + 1
+}
+
+// The set of a question: any of 63 or a single stage, a quarter of the questions each, else all stages.
+pub fn asked_stages(seed: u64) -> u8 {
+    let turn = seed / 65536 % 4;
+    let drawn = seed / 262144;
+    if turn == 0 {
+        return (drawn % 63) as u8 + 1;
+    }
+    if turn == 1 {
+        return single(drawn % 6);
+    }
+    FULL_SET
 }
 
 pub fn both(a: Seen, b: Seen) -> Seen {

@@ -16,18 +16,18 @@ use search_rows::Row;
 use search_rows::row_of;
 
 // 1 if a row is not the one that the scan finds next, or is not held by the leaf at its position.
-fn compare_row(index: &[u8], pages: &[u32], distances: &mut [u64], row: Row) -> u64
-    requires { ⌜ 0 < length (now distances) ⌝ }
+fn compare_row(index: &[u8], pages: &[u32], distances: &mut [u64], marks: &[u64], row: Row) -> u64
+    requires { ⌜ (0 < length (now distances)) × (length (now marks) ≡ length (now distances)) ⌝ }
     ensures { λ r. ⌜ (r ≤ 1) × (length (now (distances .exit)) ≡ length (now (distances .entry))) ⌝ }
 {
-    let near = take(distances);
+    let near = take(distances, marks);
     if near.distance != row.distance {
         return 1;
     }
     if near.id != row.id {
         return 1;
     }
-    if holds(index, pages, row.position as usize, row.id) {
+    if holds(index, pages, row.position as usize, row.id, near.mark) {
         return 0;
     }
     1
@@ -38,17 +38,18 @@ fn compare_rows(
     index: &[u8],
     pages: &[u32],
     distances: &mut [u64],
+    marks: &[u64],
     near: &[u64],
     tags: &[u64],
     n: usize,
 ) -> u64
-    requires { ⌜ (n ≤ 64) × Lent (now near) (now tags) × (0 < length (now distances)) ⌝ }
+    requires { ⌜ (n ≤ 64) × Lent (now near) (now tags) × (0 < length (now distances)) × (length (now marks) ≡ length (now distances)) ⌝ }
     ensures { λ r. ⌜ (r ≤ 64) × (length (now (distances .exit)) ≡ length (now (distances .entry))) ⌝ }
 {
     let mut differences: u64 = 0;
     let mut i = 0;
     while i < n {
-        differences += compare_row(index, pages, distances, row_of(near[i], tags[i]));
+        differences += compare_row(index, pages, distances, marks, row_of(near[i], tags[i]));
         i += 1;
     }
     differences
@@ -58,11 +59,11 @@ fn lesser(a: usize, b: usize) -> usize {
     if a < b { a } else { b }
 }
 
-// The leaves to be read: all of them if fewer than k points live, else those whose bound is at most the last distance.
+// The leaves to be read: all of them if there are fewer than k candidates, else those whose bound is at most the last distance.
 fn leaves_wanted(index: &[u8], pages: &[u32], table: &[u64], last: u64, asked: Asked) -> usize
     requires { ⌜ Counts asked (now pages) × (length (now table) ≡ pairs) ⌝ }
 {
-    if asked.live < asked.k {
+    if asked.candidates < asked.k {
         return asked.leaves;
     }
     set_count(index, pages, asked.leaves, table, last, asked.d)
@@ -98,26 +99,30 @@ pub fn compare(
     index: &[u8],
     pages: &[u32],
     distances: &mut [u64],
+    marks: &[u64],
     table: &[u64],
     asked: Asked,
     answer: Answer,
     near: &[u64],
     tags: &[u64],
 ) -> Seen
-    requires { ⌜ Counts asked (now pages) × (length (now table) ≡ pairs) × (0 < length (now distances)) × Lent (now near) (now tags) ⌝ }
+    requires { ⌜
+        Counts asked (now pages) × (length (now table) ≡ pairs) × (0 < length (now distances))
+        × (length (now marks) ≡ length (now distances)) × Lent (now near) (now tags)
+        ⌝ }
 {
     let n = answer.count;
     if answer.code != 0 {
         return wrong();
     }
-    if n != lesser(asked.k, asked.live) {
+    if n != lesser(asked.k, asked.candidates) {
         return wrong();
     }
     if MAX_ROWS < n {
         return wrong();
     }
     let last = last_distance(near, n);
-    let rows = compare_rows(index, pages, distances, near, tags, n);
+    let rows = compare_rows(index, pages, distances, marks, near, tags, n);
     let wanted = leaves_wanted(index, pages, table, last, asked);
     let leaves = answer.leaves as u64;
     Seen {
@@ -127,13 +132,20 @@ pub fn compare(
     }
 }
 
-// Works out what a full scan says of the point q.
-pub fn prepare(distances: &mut [u64], table: &mut [u64], places: &[u16], live: &[u8], q: &[u16])
-    requires { ⌜ (length (now q) ≤ 16) × Points (now places) (now live) × (length (now distances) ≡ length (now live)) ⌝ }
+// Works out what a full scan says of the point q and some stages.
+pub fn prepare(
+    distances: &mut [u64],
+    table: &mut [u64],
+    places: &[u16],
+    marks: &[u64],
+    q: &[u16],
+    stages: u8,
+)
+    requires { ⌜ (length (now q) ≤ 16) × Points (now places) (now marks) × (length (now distances) ≡ length (now marks)) ⌝ }
     ensures { λ r. ⌜
         (length (now (distances .exit)) ≡ length (now (distances .entry))) × (length (now (table .exit)) ≡ length (now (table .entry)))
         ⌝ }
 {
-    measure(distances, places, live, q);
+    measure(distances, places, marks, q, stages);
     fill_table(table, q);
 }

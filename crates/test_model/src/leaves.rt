@@ -4,6 +4,7 @@ ghost use mathlib.Core.Path.{_≡_};
 ghost use Prim.Native.Nat.{_≤_, _<_, _*_, _+_, max};
 ghost use lib.ListN.{length};
 use crate::HEIGHTS;
+use crate::marks::mark_of;
 use crate::scan::FAR;
 use crate::scan::gap;
 use crate::scan::square;
@@ -242,17 +243,24 @@ pub fn set_count(
     count
 }
 
-// 1 if the record at a place of a leaf has the identifier.
-fn is_at(leaf: Leaf, i: usize, id: u32) -> usize
+// 1 if the record at a place of a leaf has the identifier, with the mark of its stage and its stamp.
+fn is_at(leaf: Leaf, i: usize, id: u32, mark: u64) -> usize
     requires { ⌜ i < 16 ⌝ }
     ensures { λ r. ⌜ r ≤ 1 ⌝ }
 {
     let x = leaf.records[i];
-    if x.id == id { 1 } else { 0 }
+    if x.id != id {
+        return 0;
+    }
+    if mark_of(x.stage, x.stamp) == mark {
+        1
+    } else {
+        0
+    }
 }
 
-// Whether the leaf at a position holds an identifier, once.
-pub fn holds(index: &[u8], pages: &[u32], position: usize, id: u32) -> bool {
+// Whether the leaf at a position holds an identifier with its mark, once.
+pub fn holds(index: &[u8], pages: &[u32], position: usize, id: u32, mark: u64) -> bool {
     if pages.len() <= position {
         return false;
     }
@@ -261,7 +269,7 @@ pub fn holds(index: &[u8], pages: &[u32], position: usize, id: u32) -> bool {
     let mut found = 0;
     let mut i = 0;
     while i < n {
-        found += is_at(leaf, i, id);
+        found += is_at(leaf, i, id, mark);
         i += 1;
     }
     found == 1

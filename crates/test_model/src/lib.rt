@@ -5,6 +5,7 @@ use geometry::MAX_FEATURES;
 pub mod batches;
 pub mod comparing;
 pub mod leaves;
+pub mod marks;
 pub mod numbers;
 pub mod scan;
 
@@ -16,11 +17,12 @@ pub const HEIGHTS: usize = 1001;
 // The pairs of a pyramid and a height.
 pub const PAIRS: usize = 2 * MAX_FEATURES * HEIGHTS;
 
-// What a question asks for: the features, k, the number of points that are live and of leaves.
+// What a question asks for: the features, k and the set of stages; the number of live points whose stage is in the set, and of leaves.
 pub struct Asked {
     pub d: usize,
     pub k: usize,
-    pub live: usize,
+    pub stages: u8,
+    pub candidates: usize,
     pub leaves: usize,
 }
 
@@ -31,7 +33,7 @@ pub struct Seen {
     pub differences: u64,
 }
 
-// A batch: the features, the points and how they lie, and how many questions are asked at each stage.
+// A batch: the features, the points and how they lie, and how many questions are asked in each round.
 pub struct Batch {
     pub d: usize,
     pub points: usize,

@@ -1,12 +1,13 @@
 // A full scan of the points, written apart from the index and its search: every distance, and the nearest by repeated minimum.
-// The mark of a point is 1 while it is live.
+// `marks` has a mark for each point; points that are not live, or whose stage is not asked for, are passed over.
 ghost use mathlib.Core.Path.{_≡_};
 ghost use Prim.Native.Nat.{_≤_, _<_, _*_, _+_, max};
 ghost use lib.ListN.{length};
+use crate::marks::chosen;
 use crate::numbers::id_of;
 use geometry::MAX_FEATURES;
 
-// The distance of a point that is not live, or was taken.
+// The distance of a point that is passed over, or was taken.
 pub const FAR: u64 = 18446744073709551615;
 
 fn wide(x: u16) -> u64
@@ -41,23 +42,23 @@ fn distance(places: &[u16], at: usize, q: &[u16]) -> u64
     sum
 }
 
-fn distance_if(live: u8, places: &[u16], at: usize, q: &[u16]) -> u64
+fn distance_if(wanted: bool, places: &[u16], at: usize, q: &[u16]) -> u64
     requires { ⌜ (length (now q) ≤ 16) × (at + 16 ≤ length (now places)) ⌝ }
 {
-    if live == 0 {
-        return FAR;
+    if wanted {
+        return distance(places, at, q);
     }
-    distance(places, at, q)
+    FAR
 }
 
-// The distances of all points from q.
-pub fn measure(distances: &mut [u64], places: &[u16], live: &[u8], q: &[u16])
-    requires { ⌜ (length (now q) ≤ 16) × (length (now places) ≡ 16 * length (now live)) × (length (now distances) ≡ length (now live)) ⌝ }
+// The distances of all points of some stages from q.
+pub fn measure(distances: &mut [u64], places: &[u16], marks: &[u64], q: &[u16], stages: u8)
+    requires { ⌜ (length (now q) ≤ 16) × (length (now places) ≡ 16 * length (now marks)) × (length (now distances) ≡ length (now marks)) ⌝ }
     ensures { λ r. ⌜ length (now (distances .exit)) ≡ length (now (distances .entry)) ⌝ }
 {
     let mut p = 0;
-    while p < live.len() {
-        distances[p] = distance_if(live[p], places, p * MAX_FEATURES, q);
+    while p < marks.len() {
+        distances[p] = distance_if(chosen(marks[p], stages), places, p * MAX_FEATURES, q);
         p += 1;
     }
 }
@@ -93,11 +94,12 @@ fn least(distances: &[u64]) -> usize
 pub struct Near {
     pub distance: u64,
     pub id: u32,
+    pub mark: u64,
 }
 
 // Takes the nearest point that is left.
-pub fn take(distances: &mut [u64]) -> Near
-    requires { ⌜ 0 < length (now distances) ⌝ }
+pub fn take(distances: &mut [u64], marks: &[u64]) -> Near
+    requires { ⌜ (0 < length (now distances)) × (length (now marks) ≡ length (now distances)) ⌝ }
     ensures { λ r. ⌜ length (now (distances .exit)) ≡ length (now (distances .entry)) ⌝ }
 {
     let p = least(distances);
@@ -106,17 +108,18 @@ pub fn take(distances: &mut [u64]) -> Near
     Near {
         distance: d,
         id: id_of(p),
+        mark: marks[p],
     }
 }
 
-// How many points are live.
-pub fn live_count(live: &[u8]) -> usize
-    ensures { λ r. ⌜ r ≤ length (now (live .entry)) ⌝ }
+// How many live points have a stage of the set.
+pub fn candidate_count(marks: &[u64], stages: u8) -> usize
+    ensures { λ r. ⌜ r ≤ length (now (marks .entry)) ⌝ }
 {
     let mut n = 0;
     let mut p = 0;
-    while p < live.len() {
-        if live[p] != 0 {
+    while p < marks.len() {
+        if chosen(marks[p], stages) {
             n += 1;
         }
         p += 1;

@@ -3,3 +3,6 @@ pub mod answers;
 pub mod listing;
 pub mod places;
 pub mod show;
+
+// The set of all six stages.
+pub const FULL_SET: u8 = 63;

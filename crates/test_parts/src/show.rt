@@ -17,15 +17,27 @@ pub fn field(name: &[u8], n: u64) {
     number(n);
 }
 
-// What was done, what came of it, and what the specification says.
-pub fn line(what: &[u8], came: u64, said: u64) {
+// What was done, what came of it, and what a document says.
+fn compared(what: &[u8], document: &[u8], came: u64, said: u64) {
     text(what);
     text(b": ");
     number(came);
-    text(b", 01 says ");
+    text(b", ");
+    text(document);
+    text(b" says ");
     number(said);
     if came != said {
         text(b" DIFFERS");
     }
     text(b"\n");
+}
+
+// Beside what 01 says.
+pub fn line(what: &[u8], came: u64, said: u64) {
+    compared(what, b"01", came, said);
+}
+
+// Beside what the change request on stages says.
+pub fn staged(what: &[u8], came: u64, said: u64) {
+    compared(what, b"Q-2", came, said);
 }

@@ -12,19 +12,26 @@ use test_model::comparing::compare;
 use test_model::comparing::prepare;
 use test_model::numbers::point_at;
 
-// The question for the k nearest of the point with these places.
-fn ask(index: &[u8], q: &[u16], d: usize, k: usize, near: &mut [u64], tags: &mut [u64]) -> Answer
+// The question for the nearest of the point with these places.
+fn ask(
+    index: &[u8],
+    q: &[u16],
+    d: usize,
+    what: Criteria,
+    near: &mut [u64],
+    tags: &mut [u64],
+) -> Answer
     requires { ⌜ (d ≤ 16) × (16 ≤ length (now q)) × Lent (now near) (now tags) ⌝ }
 {
     let point = point_at(q, 0);
-    index::question_outcome(index, &point[..d], Criteria { k: k }, MAX_ROWS, near, tags)
+    index::question_outcome(index, &point[..d], what, MAX_ROWS, near, tags)
 }
 
 // Asks one question, from the point q.
 pub fn ask_from(
     index: &[u8],
     places: &[u16],
-    live: &[u8],
+    marks: &[u64],
     pages: &[u32],
     distances: &mut [u64],
     table: &mut [u64],
@@ -33,13 +40,27 @@ pub fn ask_from(
 ) -> Seen
     requires { ⌜
         Counts asked (now pages) × (length (now table) ≡ pairs) × (length (now q) ≡ 16)
-        × (0 < length (now live)) × Points (now places) (now live) × (length (now distances) ≡ length (now live))
+        × (0 < length (now marks)) × Points (now places) (now marks) × (length (now distances) ≡ length (now marks))
         ⌝ }
 {
     let d = asked.d;
-    prepare(distances, table, places, live, &q[..d]);
+    prepare(distances, table, places, marks, &q[..d], asked.stages);
     let mut near = [0u64; MAX_ROWS];
     let mut tags = [0u64; MAX_ROWS];
-    let answer = ask(index, q, d, asked.k, &mut near, &mut tags);
-    compare(index, pages, distances, table, asked, answer, &near, &tags)
+    let what = Criteria {
+        k: asked.k,
+        stages: asked.stages,
+    };
+    let answer = ask(index, q, d, what, &mut near, &mut tags);
+    compare(
+        index,
+        pages,
+        distances,
+        marks,
+        table,
+        asked,
+        answer,
+        &near,
+        &tags,
+    )
 }

@@ -31,6 +31,20 @@ fn record(id: u32, slot: u16) -> Record {
     coords[0] = slot;
     Record {
         id: id,
+        stage: 0,
+        stamp: 0,
+        coords: coords,
+    }
+}
+
+// The same of a stage, with the last stamp that there is.
+fn staged(id: u32, slot: u16, stage: u8) -> Record {
+    let r = record(id, slot);
+    let coords = r.coords;
+    Record {
+        id: id,
+        stage: stage,
+        stamp: 4294967295,
         coords: coords,
     }
 }
@@ -215,6 +229,20 @@ fn damage_both(index: &mut [u8], k: u32) {
     }
 }
 
+// Stages: 6 is none, 5 is one, with any stamp, and a slot past the count has no rule.
+fn damage_stage(index: &mut [u8], k: u32) {
+    match k {
+        30 => set_leaf(index, 2, leaf_with(9, 3, staged(12, 1012, 6))),
+        31 => set_leaf(index, 2, leaf_with(9, 3, staged(12, 1012, 5))),
+        32 => {
+            if 2072 < index.len() {
+                index[2072] = 255;
+            }
+        }
+        _ => {}
+    }
+}
+
 fn damage(index: &mut [u8], k: u32) {
     damage_header(index, k);
     damage_freed(index, k);
@@ -232,6 +260,7 @@ fn judged(index: &mut [u8], k: u32) -> Checked {
     damage(index, k);
     damage_more(index, k);
     damage_both(index, k);
+    damage_stage(index, k);
     check(index)
 }
 
@@ -248,7 +277,7 @@ fn print_case(k: u32) {
 
 fn main() {
     let mut k = 0;
-    while k < 30 {
+    while k < 33 {
         print_case(k);
         k += 1;
     }

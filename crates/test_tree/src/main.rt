@@ -12,6 +12,8 @@ fn record_of(n: u16) -> Record
     coords[0] = 1000 + n;
     Record {
         id: n as u32,
+        stage: 0,
+        stamp: 0,
         coords: coords,
     }
 }

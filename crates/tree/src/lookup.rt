@@ -19,6 +19,8 @@ fn blank_record() -> Record
 {
     Record {
         id: 0,
+        stage: 0,
+        stamp: 0,
         coords: [0u16; MAX_FEATURES],
     }
 }

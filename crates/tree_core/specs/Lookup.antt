@@ -21,7 +21,7 @@ withIdent i rs = filter (λ r. eqb (r .id) i) rs
 
 -- in the place of a record, where there is none: identifier 0
 abbrev pub blank : Record
-blank = record { id = 0; coords = replicate 16 0 }
+blank = record { id = 0; stage = 0; stamp = 0; coords = replicate 16 0 }
 
 -- the record of identifier i below page p of level l, or the blank
 unfoldable pub findUnder : ℕ → List ℕ → ℕ → ℕ → Record

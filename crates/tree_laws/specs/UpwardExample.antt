@@ -36,7 +36,7 @@ use Rattle.geometry.proofs.StoredLaws.{coord-high}
 
 -- identifier n at n
 abbrev pub numbered : ℕ → Record
-numbered n = record { id = n; coords = slotsOf (pos n ∷ []) }
+numbered n = record { id = n; stage = 0; stamp = 0; coords = slotsOf (pos n ∷ []) }
 
 -- 1, 2, .. up to n
 abbrev pub upTo : ℕ → List Record
@@ -55,11 +55,11 @@ zeros-fit (suc k) = also {x = 0} (omega arith) (zeros-fit k)
 
 numbered-fits : (n : ℕ) → n ≤ 1000 → RecordFits (numbered n)
 unfolding slotsOf
-numbered-fits n h = record { id = omega arith; slots = refl; coords = also {x = 1000 + n} (omega arith) (zeros-fit 15) }
+numbered-fits n h = record { id = omega arith; stage = omega arith; stamp = omega arith; slots = refl; coords = also {x = 1000 + n} (omega arith) (zeros-fit 15) }
 
 numbered-ok : (n : ℕ) → 1 ≤ n → n ≤ 1000 → RecordOk 1 (numbered n)
 unfolding slotsOf
-numbered-ok n l h = record { ident = l; coords = also {x = 1000 + n} (omega arith) none }
+numbered-ok n l h = record { ident = l; stage = omega arith; coords = also {x = 1000 + n} (omega arith) none }
 
 point-is : (n : ℕ) → pointOf (take 1 (slotsOf (pos n ∷ []))) ≡ pos n ∷ []
 unfolding slotsOf pointOf

@@ -42,9 +42,14 @@ unfoldable pub Filled : (l : ℕ) → Item l → Type 0
 Filled zero r = Unit {0}
 Filled (suc l) t = (minItems ≤ length (t .1)) × (length (t .1) ≤ maxItems) × All (Filled l) (t .1)
 
--- identifier and coordinates in range (a slot holds 1,000 more than its coordinate)
+-- the last of the six stages (02): 0 wake, 1 to 3 the N stages, 4 REM, 5 unscored
+abbrev pub maxStage : ℕ
+maxStage = 5
+
+-- identifier, stage and coordinates in range (a slot holds 1,000 more than its coordinate); a stamp may be any number of 32 bits
 pub record RecordOk (d : ℕ) (r : Record) : Type 0 where
   pub ident : 1 ≤ r .id
+  pub stage : r .stage ≤ maxStage
   pub coords : All (λ c. c ≤ 2000) (take d (r .coords))
 
 pub record Sound (v : View) : Type 0 where

@@ -33,7 +33,7 @@ identOf r = r .id
 
 -- the first and the last key of some records
 unfoldable pub noRecord : Record
-noRecord = record { id = 0; coords = [] }
+noRecord = record { id = 0; stage = 0; stamp = 0; coords = [] }
 
 unfoldable pub firstKey : ℕ → List Record → Key
 firstKey d rs = keyOf d (headOr noRecord rs)

@@ -3,7 +3,7 @@
 use crate::ffi;
 use crate::judge;
 use crate::layout::*;
-use crate::model::{Answer, Model, Row, Tally};
+use crate::model::{Answer, Asked, Model, Row, Tally};
 use crate::run::Run;
 
 pub const ROWS: usize = 72;
@@ -11,10 +11,10 @@ pub const ROWS: usize = 72;
 #[derive(Clone, Debug)]
 pub enum Act {
     Make(u8),
-    Insert(u32, Vec<i16>),
+    Insert(Tag, Vec<i16>),
     Delete(u32),
-    /// Point, k, rows lent, tally before.
-    Question(Vec<i16>, usize, usize, Tally),
+    /// What is asked, rows lent, tally before.
+    Question(Asked, usize, Tally),
     Check,
 }
 
@@ -25,11 +25,6 @@ pub fn lent_rows() -> [Row; ROWS] {
         distance: 0xFEDC_BA98_0000_0000 + i as u64,
         position: 0x5A5A_0000 + i as u32,
     })
-}
-
-/// k as the model takes it: anything above 64 is out of range.
-fn small(k: usize) -> u32 {
-    k.min(65) as u32
 }
 
 impl Run {
@@ -43,15 +38,15 @@ impl Run {
         let vouched = trusted && self.counts.trusted % 2 == 0;
         let (got, want) = match act {
             Act::Make(d) => (ffi::make(lib, *d), model.make(*d as u32)),
-            Act::Insert(id, x) if vouched => (self.vouched_insert(lib, model, *id, x), model.insert(*id, x)),
-            Act::Insert(id, x) => (ffi::insert(lib, *id, x, trusted), model.insert(*id, x)),
+            Act::Insert(tag, x) if vouched => (self.vouched_insert(lib, model, *tag, x), model.insert(*tag, x)),
+            Act::Insert(tag, x) => (ffi::insert(lib, *tag, x, trusted), model.insert(*tag, x)),
             Act::Delete(id) if vouched => (self.vouched_delete(lib, model, *id), model.delete(*id)),
             Act::Delete(id) => (ffi::delete(lib, *id, trusted), model.delete(*id)),
             Act::Question(..) => self.ask(lib, model, act, trusted),
             Act::Check => self.checked(lib, model),
         };
         self.counts.acts += 1;
-        self.counts.codes[want.min(13) as usize] += 1;
+        self.counts.codes[want as usize] += 1;
         self.expect(got == want, || format!("{act:?}: library {got}, model {want}"));
         match before {
             Some(before) if want == 0 && got == 0 && before != model.b => {
@@ -71,12 +66,12 @@ impl Run {
     }
 
     /// An insert whose caller vouches that the identifier is not live, where that is so.
-    fn vouched_insert(&mut self, lib: &mut [u8], model: &Model, id: u32, x: &[i16]) -> u32 {
-        if permitted(lib.len()) && model.record(id).is_some() {
-            return ffi::insert(lib, id, x, true);
+    fn vouched_insert(&mut self, lib: &mut [u8], model: &Model, tag: Tag, x: &[i16]) -> u32 {
+        if permitted(lib.len()) && model.record(tag.id).is_some() {
+            return ffi::insert(lib, tag, x, true);
         }
         self.counts.vouched += 1;
-        ffi::vouched_insert(lib, id, x)
+        ffi::vouched_insert(lib, tag, x)
     }
 
     /// A delete whose caller gives the point. With another point it is refused with 7 first; so is an identifier that is not live.
@@ -98,19 +93,19 @@ impl Run {
     }
 
     fn ask(&mut self, lib: &[u8], model: &mut Model, act: &Act, trusted: bool) -> (u32, u32) {
-        let Act::Question(x, k, lent, tally) = act else { unreachable!() };
-        let (k, lent, tally) = (*k, *lent, *tally);
+        let Act::Question(asked, lent, tally) = act else { unreachable!() };
+        let (lent, tally) = (*lent, *tally);
         let (mut rows, mut wanted) = (lent_rows(), lent_rows());
         let (mut tally_got, mut tally_want) = (tally, tally);
-        let got = ffi::question(lib, x, k, &mut rows, lent, &mut tally_got, trusted);
-        let want = model.question(x, small(k), &mut wanted[..lent], &mut tally_want);
+        let got = ffi::question(lib, asked, &mut rows, lent, &mut tally_got, trusted);
+        let want = model.question(asked, &mut wanted[..lent], &mut tally_want);
         self.counts.rows += want.rows as u64;
-        self.expect(got == want, || format!("question {x:?} k {k} lent {lent}: library {got:?}, model {want:?}"));
+        self.expect(got == want, || format!("{asked:?}, lent {lent}: library {got:?}, model {want:?}"));
         self.expect(rows == wanted, || {
             let at = (0..ROWS).find(|&i| rows[i] != wanted[i]).unwrap();
-            format!("question {x:?} k {k}: row {at}: library {:?}, model {:?}", rows[at], wanted[at])
+            format!("{asked:?}: row {at}: library {:?}, model {:?}", rows[at], wanted[at])
         });
-        self.expect(tally_got == tally_want, || format!("question {x:?} k {k}: tally: library {tally_got:?}, model {tally_want:?}"));
+        self.expect(tally_got == tally_want, || format!("{asked:?}: tally: library {tally_got:?}, model {tally_want:?}"));
         (got.code, want.code)
     }
 
@@ -130,15 +125,15 @@ impl Run {
     }
 
     /// The search by itself against rows and leaves that it should give.
-    pub fn search_gives(&mut self, what: &str, lib: &[u8], x: &[i16], k: usize, want_rows: &[Row], leaves: u32) {
+    pub fn search_gives(&mut self, what: &str, lib: &[u8], asked: &Asked, want_rows: &[Row], leaves: u32) {
         let mut rows = lent_rows();
         let mut wanted = lent_rows();
         wanted[..want_rows.len()].copy_from_slice(want_rows);
-        let got = ffi::search(lib, x, k, &mut rows, k);
+        let got = ffi::search(lib, asked, &mut rows, asked.k);
         self.counts.searches += 1;
         self.counts.rows += want_rows.len() as u64;
         let want = Answer { code: 0, rows: want_rows.len(), leaves };
-        self.expect(got == want, || format!("{what}: search {x:?} k {k}: library {got:?}, model {want:?}"));
-        self.expect(rows == wanted, || format!("{what}: search {x:?} k {k}: other rows"));
+        self.expect(got == want, || format!("{what}: {asked:?}: library {got:?}, model {want:?}"));
+        self.expect(rows == wanted, || format!("{what}: {asked:?}: other rows"));
     }
 }

@@ -1,12 +1,12 @@
 //! Sound indexes that no series of acts need ever reach: any fills, any page numbers, any chain of freed pages, any unused bytes.
 
 use crate::acts::{Act, ROWS};
-use crate::data::{point, Kind, Rng, KINDS};
+use crate::data::{point, tag, Kind, Rng, KINDS, MIXES};
 use crate::ffi;
 use crate::judge;
 use crate::layout::*;
 use crate::lent::Lent;
-use crate::model::{Model, Tally};
+use crate::model::{Asked, Model, Tally};
 use crate::run::Run;
 use crate::series::{Ids, Series};
 
@@ -73,8 +73,12 @@ fn sorted_records(rng: &mut Rng, plan: Plan) -> Vec<Record> {
     while ids.len() < plan.points {
         ids.insert((rng.next() as u32).max(1));
     }
-    let mut point = || point(rng, plan.kind, plan.d).iter().map(|&c| c as i64).collect::<Vec<_>>();
-    let mut records: Vec<Record> = ids.into_iter().map(|id| Record::new(id, &point())).collect();
+    let mix = rng.pick(&MIXES);
+    let mut record = |id| {
+        let x: Vec<i64> = point(rng, plan.kind, plan.d).iter().map(|&c| c as i64).collect();
+        Record::new(tag(rng, id, mix), &x)
+    };
+    let mut records: Vec<Record> = ids.into_iter().map(&mut record).collect();
     records.sort_by_key(|r| r.key(plan.d));
     records
 }
@@ -162,6 +166,8 @@ fn unnamed(q: &[u8], d: usize) -> [u8; PAGE] {
     for i in 0..q[1] as usize {
         if q[0] == 0 {
             bits[identifier_at(i)..][..4].fill(0);
+            bits[stage_at(i)] = 0;
+            bits[stamp_at(i)..][..4].fill(0);
             (0..d).for_each(|m| bits[coordinate_at(m, i)..][..2].copy_from_slice(&(!(COORDINATES - 1)).to_le_bytes()));
         } else {
             bits[4 + 20 * i..][..20].fill(0);
@@ -202,10 +208,10 @@ fn acted(run: &mut Run, rng: &mut Rng, plan: Plan, steps: usize) {
     let mut s = Series::over(bytes, plan.kind, Ids::Any, rng.next());
     s.act(run, &Act::Check);
     for _ in 0..6 {
-        let (x, k) = (s.point(), 1 + rng.below(64));
-        let found = s.model.search(&x, k as u32);
-        run.search_gives("built", &s.lib, &x, k, &found.rows, found.leaves);
-        s.act(run, &Act::Question(x, k, ROWS, Tally::default()));
+        let asked = Asked { x: s.point(), k: 1 + rng.below(64), stages: s.set() };
+        let found = s.model.search(&asked);
+        run.search_gives("built", &s.lib, &asked, &found.rows, found.leaves);
+        s.act(run, &Act::Question(asked, ROWS, Tally::default()));
     }
     for step in 0..steps {
         let act = s.some_act(step % 2 == 0);
@@ -213,7 +219,7 @@ fn acted(run: &mut Run, rng: &mut Rng, plan: Plan, steps: usize) {
         let code = run.act(&mut s.lib, &mut s.model, &act, !plan.junk);
         if code == 0 {
             s.model.touch().copy_from_slice(&s.lib);
-            s.live = s.model.records().iter().map(|r| r.id).collect();
+            s.live = s.model.records().iter().map(|r| r.tag.id).collect();
         }
     }
     run.trusted = false;
@@ -227,14 +233,15 @@ fn too_many(run: &mut Run, rng: &mut Rng, points: usize, shape: Shape) {
     run.expect(fails.iter().eq(&[0]), || format!("{points} points: judge {fails:?}"));
     let mut lib = Lent::new(&bytes);
     let mut model = Model::over(bytes);
-    for act in [Act::Check, Act::Insert(1, vec![3, 4]), Act::Delete(1), Act::Question(vec![3, 4], 5, 5, Tally::default())] {
+    let asked = Asked::new(&[3, 4], 5, ALL_STAGES);
+    for act in [Act::Check, Act::Insert(Tag::of(1), vec![3, 4]), Act::Delete(1), Act::Question(asked, 5, Tally::default())] {
         let code = run.act(&mut lib, &mut model, &act, true);
         run.expect(code == 2, || format!("{points} points: {code}"));
     }
     let mut rows = crate::acts::lent_rows();
-    let got = ffi::search(&lib, &[3, 4], 64, &mut rows, 64);
+    let got = ffi::search(&lib, &Asked::new(&[3, 4], 64, ALL_STAGES), &mut rows, 64);
     run.expect(got.rows <= 64, || format!("{points} points: {got:?}"));
-    ffi::insert(&mut lib, 1, &[3, 4], true);
+    ffi::insert(&mut lib, Tag::of(1), &[3, 4], true);
     ffi::delete(&mut lib, 1, true);
 }
 
@@ -262,7 +269,9 @@ fn no_page_free(run: &mut Run) {
     let mut s = Series::over(built(&mut Rng(6), plan), plan.kind, Ids::Any, 6);
     let mut codes = std::collections::BTreeSet::new();
     for i in 0..12 {
-        let (new, old, x) = (s.new_id(), s.live[s.live.len() / 2], s.point());
+        let (new, old, x) = (s.new_tag(), s.live[s.live.len() / 2], s.point());
+        let stage = s.act(run, &Act::Insert(Tag { stage: 6, ..new }, x.clone()));
+        run.expect(stage == 15, || format!("insert with stage 6: {stage}"));
         codes.insert(s.act(run, &Act::Insert(new, x)));
         if i > 2 {
             s.act(run, &Act::Delete(old));

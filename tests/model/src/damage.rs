@@ -6,7 +6,7 @@ use crate::data::{Kind, Rng};
 use crate::ffi;
 use crate::layout::*;
 use crate::lent::Lent;
-use crate::model::{Model, Tally};
+use crate::model::{Asked, Model, Tally};
 use crate::run::Run;
 use crate::series::{Ids, Series};
 use crate::shapes::{grown, shrunk};
@@ -15,25 +15,29 @@ use std::time::Instant;
 /// The acts that a damaged index is given: valid ones for the index before.
 struct Given {
     acts: Vec<Act>,
-    new: u32,
-    old: u32,
+    new: Tag,
+    old: Tag,
     x: Vec<i16>,
 }
+
+/// Some of the stages.
+const SOME: u8 = 0b01_0110;
 
 fn given(s: &mut Series) -> Given {
     let x = s.point();
     let old = s.live.first().copied().unwrap_or(5);
-    let new = (1..).find(|id| !s.live.contains(id)).unwrap();
+    let new = (1..).find(|id| !s.live.contains(id)).map(Tag::of).unwrap();
     let tally = Tally { questions: 3, leaves: u32::MAX - 1 };
     let acts = vec![
         Act::Check,
         Act::Insert(new, x.clone()),
         Act::Delete(old),
-        Act::Question(x.clone(), 5, 7, tally),
-        Act::Insert(0, vec![]),
-        Act::Question(vec![], 0, 0, tally),
+        Act::Question(Asked::new(&x, 5, ALL_STAGES), 7, tally),
+        Act::Question(Asked::new(&x, 5, SOME), 7, tally),
+        Act::Insert(Tag { stage: 6, ..Tag::of(0) }, vec![]),
+        Act::Question(Asked::new(&[], 0, 0), 0, tally),
     ];
-    Given { acts, new, old, x }
+    Given { acts, new, old: Tag::of(old), x }
 }
 
 /// Counts a damaged index; whether it is still sound, by the judge.
@@ -89,9 +93,9 @@ fn unchecked(run: &mut Run, lib: &mut Lent, bytes: &[u8], given: &Given) {
     let start = Instant::now();
     let high = bytes[LEVEL] > 4;
     run.counts.high += high as u64;
-    for k in [1, 64] {
+    for (k, stages) in [(1, ALL_STAGES), (64, SOME)] {
         let mut rows = lent_rows();
-        let got = ffi::search(lib, &given.x, k, &mut rows, k);
+        let got = ffi::search(lib, &Asked::new(&given.x, k, stages), &mut rows, k);
         run.counts.searches += 1;
         run.expect(got.rows <= k && rows[got.rows..] == lent_rows()[got.rows..], || {
             format!("search: {got:?}, or rows past those returned")
@@ -104,9 +108,9 @@ fn unchecked(run: &mut Run, lib: &mut Lent, bytes: &[u8], given: &Given) {
     let codes = [
         ffi::insert(lib, given.new, &given.x, true),
         ffi::vouched_insert(lib, given.old, &given.x),
-        ffi::vouched_delete(lib, given.new, &given.x),
-        ffi::delete(lib, given.old, true),
-        ffi::delete(lib, given.new, true),
+        ffi::vouched_delete(lib, given.new.id, &given.x),
+        ffi::delete(lib, given.old.id, true),
+        ffi::delete(lib, given.new.id, true),
     ];
     run.expect((codes[0] == 2) == high, || format!("insert at level {}: {}", bytes[LEVEL], codes[0]));
     if high {
@@ -177,7 +181,7 @@ fn strike(rng: &mut Rng, b: &mut [u8]) {
     let p = rng.range(1, used as i64 - 1) as usize * PAGE;
     let q = rng.range(1, used as i64 - 1) as usize * PAGE;
     let slot = rng.below(16);
-    match rng.below(17) {
+    match rng.below(18) {
         0 => b[rng.pick(&[SIZE, FEATURES, ROOT, LEVEL, TOTAL, FREED, FRESH, FREED, FRESH, ROOT])] = rng.below(n + 2) as u8,
         1 => b[p] = rng.below(4) as u8,
         2 => b[p + 1] = rng.pick(&[0, 1, 7, 8, 9, 15, 16, 17, 200, 255]),
@@ -197,6 +201,7 @@ fn strike(rng: &mut Rng, b: &mut [u8]) {
             b[p..p + PAGE].copy_from_slice(&junk);
         }
         15 => put_u16(b, p + coordinate_at(rng.below(16), slot), rng.pick(&[0, 1999, 2000, 2001, 2047, 2048, 4048, 4049, u16::MAX])),
+        16 => b[p + stage_at(slot)] = rng.pick(&[0, 1, 4, 5, 6, 7, 8, 63, 128, 255]),
         _ => b[rng.below(used * PAGE)] = rng.next() as u8,
     }
 }

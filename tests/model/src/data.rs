@@ -1,5 +1,7 @@
 //! Chosen numbers: the same in every run.
 
+use crate::layout::Tag;
+
 /// SplitMix64.
 #[derive(Clone)]
 pub struct Rng(pub u64);
@@ -44,6 +46,15 @@ pub enum Kind {
 }
 
 pub const KINDS: [Kind; 4] = [Kind::Uniform, Kind::Clustered, Kind::Tied, Kind::Edge];
+
+/// The stages that the epochs of an index have, as sets: all six, some, one.
+pub const MIXES: [u8; 6] = [0b11_1111, 0b11_1111, 0b01_1110, 0b00_1100, 0b10_0001, 0b00_1000];
+
+/// An epoch of some stage of a mix, with any stamp.
+pub fn tag(rng: &mut Rng, id: u32, mix: u8) -> Tag {
+    let stages: Vec<u8> = (0..6).filter(|stage| mix & (1 << stage) != 0).collect();
+    Tag { id, stage: rng.pick(&stages), stamp: rng.next() as u32 }
+}
 
 /// A point in range.
 pub fn point(rng: &mut Rng, kind: Kind, d: usize) -> Vec<i16> {

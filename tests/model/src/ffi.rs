@@ -1,6 +1,7 @@
 //! The library's functions, called through the C interface.
 
-use crate::model::{Answer, Row, Tally};
+use crate::layout::Tag;
+use crate::model::{Answer, Asked, Row, Tally};
 
 /// As the C interface has a row.
 #[repr(C)]
@@ -24,13 +25,13 @@ struct CAnswer {
     leaves: u32,
 }
 
-type Insert = unsafe extern "C" fn(*mut u8, usize, u32, *const i16, usize) -> u32;
+type Insert = unsafe extern "C" fn(*mut u8, usize, u32, u8, u32, *const i16, usize) -> u32;
 type Delete = unsafe extern "C" fn(*mut u8, usize, u32) -> u32;
-type Question = unsafe extern "C" fn(*const u8, usize, *const i16, usize, usize, *mut CRow, usize, *mut CTally) -> CAnswer;
+type Question = unsafe extern "C" fn(*const u8, usize, *const i16, usize, usize, u8, *mut CRow, usize, *mut CTally) -> CAnswer;
 
 extern "C" {
     fn epoch_index_make(index: *mut u8, index_len: usize, features: u8) -> u32;
-    fn epoch_index_insert(index: *mut u8, index_len: usize, id: u32, point: *const i16, point_len: usize) -> u32;
+    fn epoch_index_insert(index: *mut u8, index_len: usize, id: u32, stage: u8, stamp: u32, point: *const i16, point_len: usize) -> u32;
     fn epoch_index_delete(index: *mut u8, index_len: usize, id: u32) -> u32;
     fn epoch_index_check(index: *const u8, index_len: usize, page: *mut u32) -> u32;
     fn epoch_index_question(
@@ -39,13 +40,30 @@ extern "C" {
         point: *const i16,
         point_len: usize,
         k: usize,
+        stages: u8,
         rows: *mut CRow,
         rows_len: usize,
         tally: *mut CTally,
     ) -> CAnswer;
-    fn epoch_index_trusted_insert(index: *mut u8, index_len: usize, id: u32, point: *const i16, point_len: usize) -> u32;
+    fn epoch_index_trusted_insert(
+        index: *mut u8,
+        index_len: usize,
+        id: u32,
+        stage: u8,
+        stamp: u32,
+        point: *const i16,
+        point_len: usize,
+    ) -> u32;
     fn epoch_index_trusted_delete(index: *mut u8, index_len: usize, id: u32) -> u32;
-    fn epoch_index_vouched_insert(index: *mut u8, index_len: usize, id: u32, point: *const i16, point_len: usize) -> u32;
+    fn epoch_index_vouched_insert(
+        index: *mut u8,
+        index_len: usize,
+        id: u32,
+        stage: u8,
+        stamp: u32,
+        point: *const i16,
+        point_len: usize,
+    ) -> u32;
     fn epoch_index_vouched_delete(index: *mut u8, index_len: usize, id: u32, point: *const i16, point_len: usize) -> u32;
     fn epoch_index_trusted_question(
         index: *const u8,
@@ -53,6 +71,7 @@ extern "C" {
         point: *const i16,
         point_len: usize,
         k: usize,
+        stages: u8,
         rows: *mut CRow,
         rows_len: usize,
         tally: *mut CTally,
@@ -64,9 +83,9 @@ pub fn make(index: &mut [u8], features: u8) -> u32 {
 }
 
 /// An insert, with the check or without.
-pub fn insert(index: &mut [u8], id: u32, x: &[i16], trusted: bool) -> u32 {
+pub fn insert(index: &mut [u8], tag: Tag, x: &[i16], trusted: bool) -> u32 {
     let f: Insert = if trusted { epoch_index_trusted_insert } else { epoch_index_insert };
-    unsafe { f(index.as_mut_ptr(), index.len(), id, x.as_ptr(), x.len()) }
+    unsafe { f(index.as_mut_ptr(), index.len(), tag.id, tag.stage, tag.stamp, x.as_ptr(), x.len()) }
 }
 
 /// A delete, with the check or without.
@@ -76,8 +95,8 @@ pub fn delete(index: &mut [u8], id: u32, trusted: bool) -> u32 {
 }
 
 /// An insert of an identifier that the caller knows not to be live.
-pub fn vouched_insert(index: &mut [u8], id: u32, x: &[i16]) -> u32 {
-    unsafe { epoch_index_vouched_insert(index.as_mut_ptr(), index.len(), id, x.as_ptr(), x.len()) }
+pub fn vouched_insert(index: &mut [u8], tag: Tag, x: &[i16]) -> u32 {
+    unsafe { epoch_index_vouched_insert(index.as_mut_ptr(), index.len(), tag.id, tag.stage, tag.stamp, x.as_ptr(), x.len()) }
 }
 
 /// A delete of an identifier whose point the caller knows.
@@ -93,12 +112,13 @@ pub fn check(index: &[u8]) -> (u32, u32) {
 }
 
 /// A question, with the check or without. Rows that are not lent stand behind those that are, in one array.
-pub fn question(index: &[u8], x: &[i16], k: usize, rows: &mut [Row], lent: usize, tally: &mut Tally, trusted: bool) -> Answer {
+pub fn question(index: &[u8], asked: &Asked, rows: &mut [Row], lent: usize, tally: &mut Tally, trusted: bool) -> Answer {
+    let Asked { x, k, stages } = asked;
     let f: Question = if trusted { epoch_index_trusted_question } else { epoch_index_question };
     let mut run: Vec<CRow> = rows.iter().map(|r| CRow { distance: r.distance, id: r.id, position: r.position }).collect();
     let mut counts = CTally { questions: tally.questions, leaves: tally.leaves };
     assert!(lent <= run.len());
-    let answer = unsafe { f(index.as_ptr(), index.len(), x.as_ptr(), x.len(), k, run.as_mut_ptr(), lent, &mut counts) };
+    let answer = unsafe { f(index.as_ptr(), index.len(), x.as_ptr(), x.len(), *k, *stages, run.as_mut_ptr(), lent, &mut counts) };
     for (row, r) in rows.iter_mut().zip(run) {
         *row = Row { id: r.id, distance: r.distance, position: r.position };
     }
@@ -107,6 +127,6 @@ pub fn question(index: &[u8], x: &[i16], k: usize, rows: &mut [Row], lent: usize
 }
 
 /// The search by itself, as the question without the check.
-pub fn search(index: &[u8], x: &[i16], k: usize, rows: &mut [Row], lent: usize) -> Answer {
-    question(index, x, k, rows, lent, &mut Tally::default(), true)
+pub fn search(index: &[u8], asked: &Asked, rows: &mut [Row], lent: usize) -> Answer {
+    question(index, asked, rows, lent, &mut Tally::default(), true)
 }

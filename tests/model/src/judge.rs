@@ -129,8 +129,9 @@ impl Judge<'_> {
     fn leaf(&mut self, p: u32) {
         self.leaves.push(p);
         let records = records(self.b, p);
-        let ranged = records.iter().all(|r| r.id != 0 && r.slots[..self.d].iter().all(|&s| s <= 2000));
-        if !ranged || !records.windows(2).all(|w| w[0].key(self.d) < w[1].key(self.d)) {
+        let ranged = records.iter().all(|r| r.slots[..self.d].iter().all(|&s| s <= 2000));
+        let tagged = records.iter().all(|r| r.tag.id != 0 && r.tag.stage <= MOST_STAGE);
+        if !ranged || !tagged || !records.windows(2).all(|w| w[0].key(self.d) < w[1].key(self.d)) {
             self.fails.insert(p);
         }
     }
@@ -150,7 +151,7 @@ impl Judge<'_> {
         let mut holders: HashMap<u32, Vec<u32>> = HashMap::new();
         for &p in &self.leaves {
             for r in records(self.b, p) {
-                holders.entry(r.id).or_default().push(p);
+                holders.entry(r.tag.id).or_default().push(p);
             }
         }
         self.fails.extend(holders.into_values().filter(|pages| pages.len() > 1).flatten());

@@ -4,7 +4,7 @@ use crate::acts::Act;
 use crate::data::{Kind, Rng};
 use crate::ffi;
 use crate::layout::*;
-use crate::model::{Model, Tally};
+use crate::model::{Asked, Model, Tally};
 use crate::run::Run;
 use crate::series::{Ids, Series};
 use crate::unread;
@@ -20,15 +20,17 @@ fn lengths(run: &mut Run) {
         }
         let acts = [
             Act::Check,
-            Act::Insert(0, vec![]),
-            Act::Insert(9, vec![4]),
-            Act::Insert(9, vec![1000]),
-            Act::Insert(4, vec![1001]),
+            Act::Insert(Tag::of(0), vec![]),
+            Act::Insert(Tag { stage: 6, ..Tag::of(9) }, vec![4]),
+            Act::Insert(Tag::of(9), vec![4]),
+            Act::Insert(Tag::of(9), vec![1000]),
+            Act::Insert(Tag::of(4), vec![1001]),
             Act::Delete(0),
             Act::Delete(77),
-            Act::Question(vec![-3], 1, 1, Tally::default()),
-            Act::Question(vec![-3], 65, 70, Tally::default()),
-            Act::Question(vec![-1001], 0, 0, Tally::default()),
+            Act::Question(Asked::new(&[-3], 1, ALL_STAGES), 1, Tally::default()),
+            Act::Question(Asked::new(&[-3], 1, 0), 1, Tally::default()),
+            Act::Question(Asked::new(&[-3], 65, ALL_STAGES), 70, Tally::default()),
+            Act::Question(Asked::new(&[-1001], 0, 64), 0, Tally::default()),
             Act::Delete(9),
             Act::Check,
         ];
@@ -44,15 +46,17 @@ fn seventeen(run: &mut Run) {
     for (pages, want) in [(3, 9), (4, 0)] {
         let mut s = Series::new(run, pages, 1, Kind::Uniform, Ids::Upward, 1);
         for i in 1..=16 {
-            s.act(run, &Act::Insert(i, vec![i as i16]));
+            let tag = s.tag(i);
+            s.act(run, &Act::Insert(tag, vec![i as i16]));
         }
-        let code = s.act(run, &Act::Insert(17, vec![17]));
+        let code = s.act(run, &Act::Insert(Tag::of(17), vec![17]));
         run.expect(code == want, || format!("the 17th insert in {pages} pages gives {code}"));
         if code == 0 {
             for (x, k, leaves) in [(9, 1, 1), (9, 2, 2), (1, 9, 1), (1, 18, 2)] {
-                let found = s.model.search(&[x], k);
+                let asked = Asked::new(&[x], k, ALL_STAGES);
+                let found = s.model.search(&asked);
                 run.expect(found.leaves == leaves, || format!("from {x}, k {k}: {} leaves", found.leaves));
-                s.act(run, &Act::Question(vec![x], k as usize, 64, Tally::default()));
+                s.act(run, &Act::Question(asked, 64, Tally::default()));
             }
             s.act(run, &Act::Delete(17));
             let fills: Vec<usize> = s.model.leaves().iter().map(|&p| count(&s.model.b, p)).collect();
@@ -68,15 +72,16 @@ fn seventeen(run: &mut Run) {
 fn fill(run: &mut Run, s: &mut Series, upward: bool, each: bool) {
     for id in 1..=MOST_POINTS {
         let x = if upward { vec![(id % 1001) as i16; s.model.d()] } else { s.point() };
+        let tag = s.tag(id);
         let compared = id % 2048 == 0 || id == MOST_POINTS;
         if compared && !each {
             s.lib.copy_from_slice(&s.model.b);
         }
         if compared || each {
-            let code = ffi::insert(&mut s.lib, id, &x, true);
+            let code = ffi::insert(&mut s.lib, tag, &x, true);
             run.expect(code == 0, || format!("insert of {id}: {code}"));
         }
-        let code = s.model.insert_new(id, &x);
+        let code = s.model.insert_new(tag, &x);
         run.expect(code == 0, || format!("model's insert of {id}: {code}"));
         if compared {
             run.equal(&format!("{id} points"), &s.lib, &s.model.b);
@@ -91,19 +96,23 @@ fn limit(run: &mut Run, s: &mut Series) {
     let x = s.point();
     let again = s.rng.range(1, 65535) as u32;
     let tally = Tally { questions: 1, leaves: u32::MAX };
+    let sixth = |id| Tag { stage: 6, ..Tag::of(id) };
     let acts = [
         Act::Check,
-        Act::Insert(MOST_POINTS + 1, x.clone()),
-        Act::Insert(again, x.clone()),
-        Act::Insert(0, x.clone()),
-        Act::Question(x.clone(), 64, 64, tally),
+        Act::Insert(Tag::of(MOST_POINTS + 1), x.clone()),
+        Act::Insert(Tag::of(again), x.clone()),
+        Act::Insert(sixth(MOST_POINTS + 1), x.clone()),
+        Act::Insert(sixth(again), x.clone()),
+        Act::Insert(sixth(0), x.clone()),
+        Act::Question(Asked::new(&x, 64, ALL_STAGES), 64, tally),
+        Act::Question(Asked::new(&x, 64, 1 << 2), 64, tally),
         Act::Delete(again),
         Act::Delete(again),
-        Act::Insert(again, x.clone()),
-        Act::Insert(u32::MAX, x),
+        Act::Insert(Tag::of(again), x.clone()),
+        Act::Insert(Tag::of(u32::MAX), x),
     ];
     let codes: Vec<u32> = acts.iter().map(|act| s.act(run, act)).collect();
-    run.expect(codes == [0, 8, 6, 5, 0, 0, 7, 0, 8], || format!("codes at the limit: {codes:?}"));
+    run.expect(codes == [0, 8, 6, 15, 15, 5, 0, 0, 0, 7, 0, 8], || format!("codes at the limit: {codes:?}"));
 }
 
 fn full(run: &mut Run, d: usize, kind: Kind, upward: bool, each: bool) {
@@ -118,8 +127,8 @@ fn full(run: &mut Run, d: usize, kind: Kind, upward: bool, each: bool) {
         let code = s.act(run, &Act::Delete(id));
         run.trusted = i % 2 == 0;
         if code == 0 && i % 3 == 0 {
-            let x = s.point();
-            s.act(run, &Act::Insert(id, x));
+            let (tag, x) = (s.tag(id), s.point());
+            s.act(run, &Act::Insert(tag, x));
         }
     }
     run.trusted = false;
@@ -134,7 +143,7 @@ fn empty(run: &mut Run, s: &mut Series, d: usize) {
         let compared = i % 2048 == 0 || records.is_empty();
         if compared {
             s.lib.copy_from_slice(&s.model.b);
-            ffi::delete(&mut s.lib, r.id, true);
+            ffi::delete(&mut s.lib, r.tag.id, true);
         }
         s.model.delete_record(&r);
         if compared {
@@ -149,9 +158,9 @@ fn empty(run: &mut Run, s: &mut Series, d: usize) {
 fn middle(run: &mut Run, pages: usize, d: usize, kind: Kind, points: usize) {
     let mut s = Series::new(run, pages, d, kind, Ids::Any, pages as u64);
     for _ in 0..points {
-        let (id, x) = (s.new_id(), s.point());
-        if !s.live.contains(&id) && s.model.insert_new(id, &x) == 0 {
-            s.live.push(id);
+        let (tag, x) = (s.new_tag(), s.point());
+        if !s.live.contains(&tag.id) && s.model.insert_new(tag, &x) == 0 {
+            s.live.push(tag.id);
         }
     }
     s.lib.copy_from_slice(&s.model.b);

@@ -5,6 +5,8 @@ use crate::geometry::{pair, Key};
 pub const PAGE: usize = 1024;
 pub const MOST_PAGES: usize = 16384;
 pub const MOST_POINTS: u32 = 65535;
+pub const MOST_STAGE: u8 = 5;
+pub const ALL_STAGES: u8 = 63;
 
 pub const SIZE: usize = 0;
 pub const FEATURES: usize = 4;
@@ -14,17 +16,28 @@ pub const TOTAL: usize = 16;
 pub const FREED: usize = 20;
 pub const FRESH: usize = 24;
 
-/// Rooms of a leaf page for stages and for stamps, both unused.
-pub const STAGES: std::ops::Range<usize> = 16..32;
-pub const STAMPS: std::ops::Range<usize> = 640..704;
-
 /// A stored coordinate counts modulo this; the upper bits of its two bytes are unused.
 pub const COORDINATES: u16 = 2048;
 
+/// An epoch but for its point.
+#[derive(Clone, Copy, PartialEq, Eq, Debug)]
+pub struct Tag {
+    pub id: u32,
+    pub stage: u8,
+    pub stamp: u32,
+}
+
 #[derive(Clone, Copy, PartialEq, Eq, Debug)]
 pub struct Record {
-    pub id: u32,
+    pub tag: Tag,
     pub slots: [u16; 16],
+}
+
+impl Tag {
+    /// Of an identifier, where stage and stamp are of no account.
+    pub fn of(id: u32) -> Tag {
+        Tag { id, stage: (id % 6) as u8, stamp: !id }
+    }
 }
 
 #[derive(Clone, Copy, PartialEq, Eq, Debug)]
@@ -35,12 +48,12 @@ pub struct Entry {
 }
 
 impl Record {
-    pub fn new(id: u32, x: &[i64]) -> Record {
+    pub fn new(tag: Tag, x: &[i64]) -> Record {
         let mut slots = [0; 16];
         for (slot, c) in slots.iter_mut().zip(x) {
             *slot = (c + 1000) as u16;
         }
-        Record { id, slots }
+        Record { tag, slots }
     }
 
     pub fn point(&self, d: usize) -> Vec<i64> {
@@ -49,7 +62,7 @@ impl Record {
 
     pub fn key(&self, d: usize) -> Key {
         let (pyramid, height) = pair(&self.point(d));
-        Key { pyramid, height, id: self.id }
+        Key { pyramid, height, id: self.tag.id }
     }
 }
 
@@ -99,13 +112,28 @@ pub fn identifier_at(i: usize) -> usize {
     576 + 4 * i
 }
 
-/// The bytes of a leaf page that hold record i: its identifier's, then its coordinates'.
-pub fn cells(i: usize) -> [usize; 36] {
-    std::array::from_fn(|n| if n < 4 { identifier_at(i) + n } else { coordinate_at((n - 4) / 2, i) + n % 2 })
+/// Where it has the stage, one byte.
+pub fn stage_at(i: usize) -> usize {
+    16 + i
+}
+
+/// Where it has the stamp.
+pub fn stamp_at(i: usize) -> usize {
+    640 + 4 * i
+}
+
+/// The bytes of a leaf page that hold record i: its identifier's, stage's and stamp's, then its coordinates'.
+pub fn cells(i: usize) -> Vec<usize> {
+    let tag = (0..4).map(|n| identifier_at(i) + n).chain([stage_at(i)]).chain((0..4).map(|n| stamp_at(i) + n));
+    tag.chain((0..16).flat_map(|m| [coordinate_at(m, i), coordinate_at(m, i) + 1])).collect()
+}
+
+fn tag_at(q: &[u8], i: usize) -> Tag {
+    Tag { id: u32_at(q, identifier_at(i)), stage: q[stage_at(i)], stamp: u32_at(q, stamp_at(i)) }
 }
 
 fn record_at(q: &[u8], i: usize) -> Record {
-    Record { id: u32_at(q, identifier_at(i)), slots: std::array::from_fn(|m| u16_at(q, coordinate_at(m, i)) % COORDINATES) }
+    Record { tag: tag_at(q, i), slots: std::array::from_fn(|m| u16_at(q, coordinate_at(m, i)) % COORDINATES) }
 }
 
 fn key_at(q: &[u8], at: usize) -> Key {
@@ -133,7 +161,9 @@ pub fn put_leaf(b: &mut [u8], p: u32, records: &[Record]) {
     q.fill(0);
     q[1] = records.len() as u8;
     for (i, r) in records.iter().enumerate() {
-        put_u32(q, identifier_at(i), r.id);
+        put_u32(q, identifier_at(i), r.tag.id);
+        q[stage_at(i)] = r.tag.stage;
+        put_u32(q, stamp_at(i), r.tag.stamp);
         for (m, slot) in r.slots.iter().enumerate() {
             put_u16(q, coordinate_at(m, i), slot % COORDINATES);
         }

@@ -18,6 +18,7 @@ mod series;
 mod shapes;
 mod sides;
 mod space;
+mod stages;
 mod unread;
 mod unused;
 
@@ -29,6 +30,7 @@ fn main() {
     series::all(&mut run);
     built::all(&mut run);
     space::all(&mut run);
+    stages::all(&mut run);
     unread::all(&mut run);
     unused::all(&mut run);
     rules::all(&mut run);

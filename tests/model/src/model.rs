@@ -18,6 +18,25 @@ pub struct Tally {
     pub leaves: u32,
 }
 
+/// What is asked: a point, how many rows, and the stages looked among, bit s for stage s.
+#[derive(Clone, PartialEq, Eq, Debug)]
+pub struct Asked {
+    pub x: Vec<i16>,
+    pub k: usize,
+    pub stages: u8,
+}
+
+impl Asked {
+    pub fn new(x: &[i16], k: usize, stages: u8) -> Asked {
+        Asked { x: x.to_vec(), k, stages }
+    }
+
+    /// Whether a record is looked for.
+    fn seeks(&self, r: &Record) -> bool {
+        (0..=MOST_STAGE).any(|stage| self.stages & (1 << stage) != 0 && r.tag.stage == stage)
+    }
+}
+
 /// A question's code, number of rows and leaves read.
 #[derive(Clone, Copy, PartialEq, Eq, Debug, Default)]
 pub struct Answer {
@@ -122,7 +141,7 @@ impl Model {
     }
 
     pub fn record(&self, id: u32) -> Option<Record> {
-        self.records().into_iter().find(|r| r.id == id)
+        self.records().into_iter().find(|r| r.tag.id == id)
     }
 
     fn idle(&self) -> u32 {
@@ -174,7 +193,7 @@ impl Model {
         (run + (run == way.len()) as usize) as u32
     }
 
-    pub fn insert(&mut self, id: u32, x: &[i16]) -> u32 {
+    pub fn insert(&mut self, tag: Tag, x: &[i16]) -> u32 {
         if let Some(code) = self.refused() {
             return code;
         }
@@ -184,21 +203,24 @@ impl Model {
         if !in_range(x) {
             return 4;
         }
-        if id == 0 {
+        if tag.id == 0 {
             return 5;
         }
-        if self.record(id).is_some() {
+        if tag.stage > MOST_STAGE {
+            return 15;
+        }
+        if self.record(tag.id).is_some() {
             return 6;
         }
-        self.insert_new(id, x)
+        self.insert_new(tag, x)
     }
 
     /// The rest of an insert, of an identifier known not to be live.
-    pub fn insert_new(&mut self, id: u32, x: &[i16]) -> u32 {
+    pub fn insert_new(&mut self, tag: Tag, x: &[i16]) -> u32 {
         if self.total() >= MOST_POINTS {
             return 8;
         }
-        let record = Record::new(id, &wide(x));
+        let record = Record::new(tag, &wide(x));
         if self.wanted(record.key(self.d())) > self.idle() {
             return 9;
         }
@@ -280,7 +302,7 @@ impl Model {
         let lv = level(&self.b, p);
         if lv == 0 {
             let mut all = records(&self.b, p);
-            all.retain(|r| r.id != record.id);
+            all.retain(|r| r.tag.id != record.tag.id);
             put_leaf(&mut self.b, p, &all);
             return;
         }
@@ -322,21 +344,27 @@ impl Model {
         }
     }
 
-    /// A full scan, and the exact set by every leaf's bound.
-    pub fn search(&self, x: &[i16], k: u32) -> Found {
-        let d = self.d();
-        let asked = wide(x);
-        let leaves = self.leaves();
+    /// The rows of all candidates, nearest first, by a full scan.
+    fn candidates(&self, asked: &Asked) -> Vec<Row> {
+        let (d, from) = (self.d(), wide(&asked.x));
         let mut rows = Vec::new();
-        for (position, &p) in leaves.iter().enumerate() {
-            for r in records(&self.b, p) {
-                rows.push(Row { id: r.id, distance: squared(&r.point(d), &asked), position: position as u32 });
+        for (position, &p) in self.leaves().iter().enumerate() {
+            for r in records(&self.b, p).iter().filter(|r| asked.seeks(r)) {
+                rows.push(Row { id: r.tag.id, distance: squared(&r.point(d), &from), position: position as u32 });
             }
         }
         rows.sort_by_key(|r| (r.distance, r.id));
-        let few = rows.len() < k as usize;
-        rows.truncate(k as usize);
-        let slices = Slices::of(&asked);
+        rows
+    }
+
+    /// A full scan, and the exact set by every leaf's bound: all leaves that hold records where fewer than k candidates live.
+    pub fn search(&self, asked: &Asked) -> Found {
+        let d = self.d();
+        let mut rows = self.candidates(asked);
+        let few = rows.len() < asked.k;
+        rows.truncate(asked.k);
+        let leaves = self.leaves();
+        let slices = Slices::of(&wide(&asked.x));
         let mut found = Found::default();
         for &p in &leaves {
             if count(&self.b, p) == 0 {
@@ -355,24 +383,27 @@ impl Model {
         found
     }
 
-    pub fn question(&mut self, x: &[i16], k: u32, rows: &mut [Row], tally: &mut Tally) -> Answer {
+    pub fn question(&mut self, asked: &Asked, rows: &mut [Row], tally: &mut Tally) -> Answer {
         let refusal = |code| Answer { code, ..Answer::default() };
         if let Some(code) = self.refused() {
             return refusal(code);
         }
-        if x.len() != self.d() {
+        if asked.x.len() != self.d() {
             return refusal(3);
         }
-        if !in_range(x) {
+        if !in_range(&asked.x) {
             return refusal(4);
         }
-        if !(1..=64).contains(&k) {
+        if !(1..=64).contains(&asked.k) {
             return refusal(10);
         }
-        if rows.len() < k as usize {
+        if rows.len() < asked.k {
             return refusal(11);
         }
-        let found = self.search(x, k);
+        if !(1..=ALL_STAGES).contains(&asked.stages) {
+            return refusal(16);
+        }
+        let found = self.search(asked);
         rows[..found.rows.len()].copy_from_slice(&found.rows);
         tally.questions = tally.questions.saturating_add(1);
         tally.leaves = tally.leaves.saturating_add(found.leaves);

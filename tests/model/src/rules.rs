@@ -7,7 +7,7 @@ use crate::ffi;
 use crate::judge;
 use crate::layout::*;
 use crate::lent::Lent;
-use crate::model::{Model, Tally};
+use crate::model::{Asked, Model, Tally};
 use crate::run::Run;
 use std::collections::BTreeSet;
 
@@ -151,7 +151,7 @@ const HEADER: [(&str, Rule); 14] = [
     }),
 ];
 
-const LEAVES: [(&str, Rule); 12] = [
+const LEAVES: [(&str, Rule); 15] = [
     ("identifier 0", |s, b| {
         put_u32(b, identifier(s.leaves[3], 2), 0);
         vec![s.leaves[3]]
@@ -167,6 +167,19 @@ const LEAVES: [(&str, Rule); 12] = [
     ("coordinate of 2,001 by its low 11 bits", |s, b| {
         put_u16(b, coordinate(s.leaves[3], 2, 2), 2001 | 0xF800);
         vec![s.leaves[3]]
+    }),
+    ("stage of 6", |s, b| {
+        b[byte(s.leaves[3], stage_at(0))] = 6;
+        vec![s.leaves[3]]
+    }),
+    ("stage of 255 in the last record", |s, b| {
+        b[byte(s.leaves[5], stage_at(count(b, s.leaves[5]) - 1))] = 255;
+        vec![s.leaves[5]]
+    }),
+    ("stages of 8 and 64 in two leaves", |s, b| {
+        b[byte(s.leaves[1], stage_at(4))] = 8;
+        b[byte(s.leaves[7], stage_at(7))] = 64;
+        vec![s.leaves[1], s.leaves[7]]
     }),
     ("records out of order", |s, b| {
         swap_records(b, s.leaves[4], 2, 3);
@@ -201,6 +214,7 @@ const LEAVES: [(&str, Rule); 12] = [
     ("leaf of 7, and its contents", |s, b| {
         b[byte(s.leaves[6], 1)] = 7;
         put_u32(b, identifier(s.leaves[6], 2), 0);
+        b[byte(s.leaves[6], stage_at(3))] = 6;
         put_u32(b, TOTAL, 3);
         vec![s.parent(s.leaves[6])]
     }),
@@ -304,8 +318,8 @@ fn rule(run: &mut Run, name: &str, s: &Sound, rule: impl Fn(&Sound, &mut [u8]) -
     run.expect(got == want, || format!("{name}: judge {got:?}, expected {want:?}"));
     let mut lib = Lent::new(&b);
     let mut model = Model::over(b);
-    let x = vec![1, 2, 3];
-    for act in [Act::Check, Act::Insert(5, x.clone()), Act::Delete(5), Act::Question(x, 4, 4, Tally::default())] {
+    let asked = Asked::new(&[1, 2, 3], 4, ALL_STAGES);
+    for act in [Act::Check, Act::Insert(Tag::of(5), asked.x.clone()), Act::Delete(5), Act::Question(asked, 4, Tally::default())] {
         let code = run.act(&mut lib, &mut model, &act, true);
         run.expect(code == 2, || format!("{name}: {act:?} gives {code}"));
     }
@@ -325,12 +339,12 @@ fn ring(run: &mut Run, level: u8) {
     (0..16).for_each(|i| put_u32(&mut b, entry(1, i), 1));
     let mut lib = Lent::new(&b);
     run.act(&mut lib, &mut Model::over(b.clone()), &Act::Check, true);
-    let got = ffi::search(&lib, &[3, 4], 64, &mut lent_rows(), 64);
+    let got = ffi::search(&lib, &Asked::new(&[3, 4], 64, ALL_STAGES), &mut lent_rows(), 64);
     run.expect(got.rows <= 64, || format!("ring of level {level}: {got:?}"));
     run.counts.searches += 1;
     let deleted = ffi::delete(&mut lib, 5, true);
     lib.copy_from_slice(&b);
-    let codes = [got.code, deleted, ffi::insert(&mut lib, 5, &[3, 4], true)];
+    let codes = [got.code, deleted, ffi::insert(&mut lib, Tag::of(5), &[3, 4], true)];
     run.expect(codes.iter().all(|&code| (code == 2) == (level > 4)), || format!("ring of level {level}: {codes:?}"));
     run.expect(lib.intact(), || format!("ring of level {level}: bytes before the index changed"));
 }

@@ -1,10 +1,10 @@
 //! Series of acts, refused ones among them, compared after each act.
 
 use crate::acts::{Act, ROWS};
-use crate::data::{point, Kind, Rng, KINDS};
+use crate::data::{point, tag, Kind, Rng, KINDS, MIXES};
 use crate::layout::*;
 use crate::lent::Lent;
-use crate::model::{Model, Tally};
+use crate::model::{Asked, Model, Tally};
 use crate::run::Run;
 
 /// How new identifiers are chosen.
@@ -23,6 +23,8 @@ pub struct Series {
     pub kind: Kind,
     pub ids: Ids,
     pub live: Vec<u32>,
+    /// The stages of its epochs, as a set.
+    mix: u8,
     next: u32,
 }
 
@@ -31,7 +33,8 @@ impl Series {
     pub fn new(run: &mut Run, pages: usize, d: usize, kind: Kind, ids: Ids, seed: u64) -> Series {
         let mut rng = Rng(seed);
         let bytes = rng.bytes(pages * PAGE);
-        let mut series = Series { lib: Lent::new(&bytes), model: Model::over(bytes), rng, kind, ids, live: Vec::new(), next: 0 };
+        let mix = rng.pick(&MIXES);
+        let mut series = Series { lib: Lent::new(&bytes), model: Model::over(bytes), rng, kind, ids, live: Vec::new(), mix, next: 0 };
         series.act(run, &Act::Make(d as u8));
         series
     }
@@ -39,14 +42,17 @@ impl Series {
     /// An index that is there.
     pub fn over(bytes: Vec<u8>, kind: Kind, ids: Ids, seed: u64) -> Series {
         let model = Model::over(bytes);
-        let live = model.records().iter().map(|r| r.id).collect();
-        Series { lib: Lent::new(&model.b), model, rng: Rng(seed), kind, ids, live, next: 0 }
+        let records = model.records();
+        let live = records.iter().map(|r| r.tag.id).collect();
+        let mix = records.iter().fold(0, |mix, r| mix | 1 << r.tag.stage);
+        let mix = if mix == 0 { ALL_STAGES } else { mix };
+        Series { lib: Lent::new(&model.b), model, rng: Rng(seed), kind, ids, live, mix, next: 0 }
     }
 
     pub fn act(&mut self, run: &mut Run, act: &Act) -> u32 {
         let code = run.act(&mut self.lib, &mut self.model, act, true);
         match act {
-            Act::Insert(id, _) if code == 0 => self.live.push(*id),
+            Act::Insert(tag, _) if code == 0 => self.live.push(tag.id),
             Act::Delete(id) if code == 0 => self.live.retain(|live| live != id),
             _ => (),
         }
@@ -60,6 +66,41 @@ impl Series {
             Ids::Any => (self.rng.next() as u32).max(1),
             Ids::SameLowBits => self.next.wrapping_mul(1 << 16) | 1,
             Ids::Few => 1 + self.rng.below(40) as u32,
+        }
+    }
+
+    pub fn tag(&mut self, id: u32) -> Tag {
+        tag(&mut self.rng, id, self.mix)
+    }
+
+    pub fn new_tag(&mut self) -> Tag {
+        let id = self.new_id();
+        self.tag(id)
+    }
+
+    /// An epoch, sometimes of a stage that is refused.
+    fn some_tag(&mut self, id: u32) -> Tag {
+        let tag = self.tag(id);
+        let stage = if self.rng.one_in(20) { self.rng.pick(&[6, 7, 8, 63, 64, 128, 255]) } else { tag.stage };
+        Tag { stage, ..tag }
+    }
+
+    /// A set of stages: all, one, those that no epoch has, any.
+    pub fn set(&mut self) -> u8 {
+        match self.rng.below(8) {
+            0 | 1 => ALL_STAGES,
+            2 | 3 => 1 << self.rng.below(6),
+            4 if self.mix != ALL_STAGES => ALL_STAGES & !self.mix,
+            _ => 1 + self.rng.below(63) as u8,
+        }
+    }
+
+    /// A set, sometimes one that is refused.
+    fn some_set(&mut self) -> u8 {
+        if self.rng.one_in(20) {
+            self.rng.pick(&[0, 64, 65, 127, 128, 192, 255])
+        } else {
+            self.set()
         }
     }
 
@@ -108,7 +149,7 @@ impl Series {
                 1 | 2 => self.some_live(),
                 _ => self.new_id(),
             };
-            Act::Insert(id, self.some_point())
+            Act::Insert(self.some_tag(id), self.some_point())
         } else if draw < insert + delete {
             let id = match self.rng.below(30) {
                 0 => 0,
@@ -122,7 +163,8 @@ impl Series {
             let lent = if self.rng.one_in(15) { self.rng.below(most.max(1)) } else { most + self.rng.below(ROWS - most + 1) };
             let start = self.rng.pick(&[0, 5, u32::MAX - 1, u32::MAX]);
             let leaves = self.rng.pick(&[0, 77, u32::MAX - 2, u32::MAX]);
-            Act::Question(self.some_point(), k, lent, Tally { questions: start, leaves })
+            let asked = Asked { x: self.some_point(), k, stages: self.some_set() };
+            Act::Question(asked, lent, Tally { questions: start, leaves })
         } else {
             Act::Check
         }
@@ -174,8 +216,8 @@ fn series(run: &mut Run, pages: usize, d: usize, kind: Kind, ids: Ids, steps: us
         s.act(run, &Act::Delete(id));
     }
     s.act(run, &Act::Delete(1));
-    let x = s.point();
-    s.act(run, &Act::Question(x, 1, 1, Tally::default()));
+    let asked = Asked { x: s.point(), k: 1, stages: s.set() };
+    s.act(run, &Act::Question(asked, 1, Tally::default()));
 }
 
 /// A series for each kind of points, or for one of them where the index is large.

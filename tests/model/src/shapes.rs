@@ -11,9 +11,9 @@ pub fn grown(run: &mut Run, pages: usize, d: usize, kind: Kind, points: usize, d
     let mut s = Series::new(run, pages, d, kind, Ids::Any, seed);
     let mut given = Vec::new();
     for _ in 0..points {
-        let (id, x) = (s.new_id(), s.point());
-        if s.act(run, &Act::Insert(id, x)) == 0 {
-            given.push(id);
+        let (tag, x) = (s.new_tag(), s.point());
+        if s.act(run, &Act::Insert(tag, x)) == 0 {
+            given.push(tag.id);
         }
     }
     if drop > 0 {
@@ -29,7 +29,7 @@ pub fn shrunk(run: &mut Run, pages: usize, d: usize, kind: Kind, points: usize, 
     let mut s = grown(run, pages, d, kind, points, 0);
     while s.live.len() > left {
         let records = s.model.records();
-        let id = records[records.len() / 3].id;
+        let id = records[records.len() / 3].tag.id;
         s.act(run, &Act::Delete(id));
     }
     s

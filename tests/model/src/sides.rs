@@ -48,7 +48,8 @@ fn sides(run: &mut Run, d: usize) {
     let mut s = Series::new(run, points.len() / 7 + 8, d, Kind::Uniform, Ids::Upward, d as u64);
     for (id, (_, x)) in (1..).zip(&points) {
         run.trusted = id % 3 == 0;
-        let code = s.act(run, &Act::Insert(id, x.clone()));
+        let tag = s.tag(id);
+        let code = s.act(run, &Act::Insert(tag, x.clone()));
         run.expect(code == 0, || format!("insert of {x:?}: {code}"));
     }
     run.trusted = false;

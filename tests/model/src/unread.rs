@@ -2,9 +2,9 @@
 //! an exchange of their records.
 
 use crate::acts::{Act, ROWS};
-use crate::data::{Kind, Rng, KINDS};
+use crate::data::{tag, Kind, Rng, KINDS};
 use crate::layout::*;
-use crate::model::{Found, Model, Tally};
+use crate::model::{Asked, Found, Model, Tally};
 use crate::run::Run;
 use crate::series::Series;
 use crate::shapes::grown;
@@ -28,7 +28,7 @@ fn overwrite(rng: &mut Rng, b: &mut [u8], unread: &[u32]) {
     }
 }
 
-/// Other coordinates beside the greatest: the key stays.
+/// Other coordinates beside the greatest, any stage and any stamp: the key stays.
 fn exchange_record(rng: &mut Rng, r: &mut Record, d: usize) {
     let key = r.key(d);
     let (j, h) = (key.pyramid as usize % d, key.height as i64);
@@ -36,10 +36,11 @@ fn exchange_record(rng: &mut Rng, r: &mut Record, d: usize) {
         let reach = if i < j { h - 1 } else { h };
         r.slots[i] = (1000 + rng.range(-reach, reach)) as u16;
     }
+    r.tag = tag(rng, r.tag.id, ALL_STAGES);
     assert_eq!(key, r.key(d));
 }
 
-/// Records of the same keys with other coordinates.
+/// Records of the same keys with other coordinates, stages and stamps.
 fn exchange(rng: &mut Rng, b: &mut [u8], d: usize, unread: &[u32]) {
     for &p in unread {
         let mut all = records(b, p);
@@ -48,7 +49,7 @@ fn exchange(rng: &mut Rng, b: &mut [u8], d: usize, unread: &[u32]) {
     }
 }
 
-fn asked(s: &mut Series) -> Vec<i16> {
+fn asked_point(s: &mut Series) -> Vec<i16> {
     let mut x = s.point();
     if s.rng.one_in(2) && !s.live.is_empty() {
         let records = s.model.records();
@@ -59,24 +60,24 @@ fn asked(s: &mut Series) -> Vec<i16> {
 
 /// One question, with the pages of the leaves that it leaves unread as they are, overwritten, and exchanged.
 pub fn once(run: &mut Run, s: &mut Series) {
-    let x = asked(s);
     let k = 1 + if s.rng.one_in(4) { s.rng.below(64) } else { s.rng.below(5) };
-    let Found { rows, leaves, unread } = s.model.search(&x, k as u32);
-    run.search_gives("sound", &s.lib, &x, k, &rows, leaves);
+    let asked = Asked { x: asked_point(s), k, stages: s.set() };
+    let Found { rows, leaves, unread } = s.model.search(&asked);
+    run.search_gives("sound", &s.lib, &asked, &rows, leaves);
     if unread.is_empty() {
         return;
     }
     run.counts.unread += 2 * unread.len() as u64;
     let mut bytes = s.model.b.clone();
     overwrite(&mut s.rng, &mut bytes, &unread);
-    run.search_gives("unread leaves overwritten", &bytes, &x, k, &rows, leaves);
+    run.search_gives("unread leaves overwritten", &bytes, &asked, &rows, leaves);
     let mut bytes = s.model.b.clone();
     exchange(&mut s.rng, &mut bytes, s.model.d(), &unread);
-    run.search_gives("unread leaves exchanged", &bytes, &x, k, &rows, leaves);
+    run.search_gives("unread leaves exchanged", &bytes, &asked, &rows, leaves);
     let mut after = Model::over(bytes.clone());
-    let found = after.search(&x, k as u32);
-    run.expect(found.rows == rows && found.leaves == leaves, || format!("exchange: the model's answer to {x:?}, k {k}, changes"));
-    run.act(&mut bytes, &mut after, &Act::Question(x, k, ROWS, Tally::default()), true);
+    let found = after.search(&asked);
+    run.expect(found.rows == rows && found.leaves == leaves, || format!("exchange: the model's answer to {asked:?} changes"));
+    run.act(&mut bytes, &mut after, &Act::Question(asked, ROWS, Tally::default()), true);
 }
 
 pub fn all(run: &mut Run) {
@@ -86,7 +87,7 @@ pub fn all(run: &mut Run) {
         let mut bytes = s.model.b.clone();
         for fill in [0, 1, 16, 255] {
             page_mut(&mut bytes, 1).fill(fill);
-            run.search_gives("empty", &bytes, &[3, -4], 5, &[], 0);
+            run.search_gives("empty", &bytes, &Asked::new(&[3, -4], 5, ALL_STAGES), &[], 0);
         }
     });
     for (pages, d, points, drop) in

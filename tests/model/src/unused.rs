@@ -6,7 +6,7 @@ use crate::data::{Rng, KINDS};
 use crate::judge;
 use crate::layout::*;
 use crate::lent::Lent;
-use crate::model::{Model, Tally};
+use crate::model::{Asked, Model, Tally};
 use crate::run::Run;
 use crate::series::{Ids, Series};
 
@@ -17,10 +17,8 @@ fn whole(bytes: impl Iterator<Item = usize>) -> Vec<(usize, u8)> {
     bytes.map(|at| (at, 255)).collect()
 }
 
-const PARTS: [(&str, Part); 6] = [
+const PARTS: [(&str, Part); 4] = [
     ("the upper 5 bits of each coordinate", |d, n| (0..d).flat_map(|m| (0..n).map(move |i| (coordinate_at(m, i) + 1, 0xF8))).collect()),
-    ("the room for stages", |_, _| whole(STAGES)),
-    ("the room for stamps", |_, _| whole(STAMPS)),
     ("bytes between and behind the fields", |_, _| whole((2..16).chain(544..576).chain(704..PAGE))),
     ("columns past d", |d, _| whole((d..16).flat_map(|m| coordinate_at(m, 0)..coordinate_at(m, 16)))),
     ("slots behind the last record", |_, n| whole((n..16).flat_map(cells))),
@@ -52,16 +50,16 @@ fn filled(run: &mut Run, s: &mut Series, name: &str, part: Part) {
     let code = run.act(&mut lib, &mut model, &Act::Check, true);
     run.expect(code == 0, || format!("{name}: check gives {code}"));
     for k in [1, 1 + s.rng.below(64)] {
-        let x = s.point();
-        let found = s.model.search(&x, k as u32);
-        run.search_gives(name, &lib, &x, k, &found.rows, found.leaves);
-        run.expect(model.search(&x, k as u32) == found, || format!("{name}: the model's answer to {x:?}, k {k}, changes"));
-        run.act(&mut lib, &mut model, &Act::Question(x, k, ROWS, Tally::default()), true);
+        let asked = Asked { x: s.point(), k, stages: s.set() };
+        let found = s.model.search(&asked);
+        run.search_gives(name, &lib, &asked, &found.rows, found.leaves);
+        run.expect(model.search(&asked) == found, || format!("{name}: the model's answer to {asked:?} changes"));
+        run.act(&mut lib, &mut model, &Act::Question(asked, ROWS, Tally::default()), true);
     }
     // Without the check every other act is vouched: in both orders each act is both.
     for (trusted, turned) in [(false, false), (true, false), (true, true)] {
-        let (new, x) = (s.new_id(), s.point());
-        let mut acts = vec![Act::Insert(new, x)];
+        let (tag, x) = (s.new_tag(), s.point());
+        let mut acts = vec![Act::Insert(tag, x)];
         acts.extend(s.live.first().map(|_| Act::Delete(s.rng.pick(&s.live))));
         if turned {
             acts.reverse();

@@ -7,7 +7,7 @@ use std::collections::BTreeMap;
 struct Series {
     checked: Index<Vec<u8>>,
     sound: SoundIndex<Vec<u8>>,
-    points: BTreeMap<u32, Vec<i16>>,
+    points: BTreeMap<u32, (Stage, Vec<i16>)>,
     tallies: [Tally; 2],
 }
 
@@ -18,16 +18,17 @@ impl Series {
         Series { checked, sound, points: BTreeMap::new(), tallies: [Tally::default(); 2] }
     }
 
-    fn insert(&mut self, id: u32, point: Vec<i16>) {
-        let done = self.checked.insert(id, &point);
-        assert_eq!(self.sound.insert(id, &point), done);
+    fn insert(&mut self, epoch: Epoch, point: Vec<i16>) {
+        let id = epoch.id;
+        let done = self.checked.insert(epoch, &point);
+        assert_eq!(self.sound.insert(epoch, &point), done);
         match done {
             Err(Refusal::NoPages) => (),
             Err(refusal) if id == 0 => assert_eq!(refusal, Refusal::ZeroIdentifier),
             Err(refusal) => assert_eq!((refusal, self.points.contains_key(&id)), (Refusal::AlreadyLive, true)),
             Ok(()) => {
                 assert_ne!(id, 0);
-                assert_eq!(self.points.insert(id, point), None);
+                assert_eq!(self.points.insert(id, (epoch.stage, point)), None);
             }
         }
     }
@@ -38,17 +39,18 @@ impl Series {
         assert_eq!(done.is_ok(), self.points.remove(&id).is_some());
     }
 
-    fn question(&mut self, point: &[i16], k: usize) {
-        let found = self.checked.question(point, k, &mut self.tallies[0]).unwrap();
+    fn question(&mut self, point: &[i16], k: usize, stages: StageSet) {
+        let found = self.checked.question(point, k, stages, &mut self.tallies[0]).unwrap();
         let rows: Vec<(u64, u32)> = found.rows.iter().map(|row| (row.distance, row.id)).collect();
-        assert_eq!(self.sound.question(point, k, &mut self.tallies[1]), Ok(found));
-        assert_eq!(rows, self.full_scan(point, k));
+        assert_eq!(self.sound.question(point, k, stages, &mut self.tallies[1]), Ok(found));
+        assert_eq!(rows, self.full_scan(point, k, stages));
     }
 
-    /// The nearest by a look at every point.
-    fn full_scan(&self, asked: &[i16], k: usize) -> Vec<(u64, u32)> {
+    /// The nearest of some stages by a look at every point.
+    fn full_scan(&self, asked: &[i16], k: usize, stages: StageSet) -> Vec<(u64, u32)> {
         let squared = |p: &[i16]| p.iter().zip(asked).map(|(a, b)| (i64::from(*a) - i64::from(*b)).pow(2) as u64).sum();
-        let mut rows: Vec<(u64, u32)> = self.points.iter().map(|(id, p)| (squared(p), *id)).collect();
+        let candidates = self.points.iter().filter(|(_, (stage, _))| stages.contains(*stage));
+        let mut rows: Vec<(u64, u32)> = candidates.map(|(id, (_, p))| (squared(p), *id)).collect();
         rows.sort_unstable();
         rows.truncate(k);
         rows
@@ -62,9 +64,9 @@ fn series(d: usize, reach: u64, seed: u64) {
         let id = random.below(400) as u32;
         let point = random.point(d, reach);
         match random.below(4) {
-            0 | 1 => series.insert(id, point),
+            0 | 1 => series.insert(random.epoch(id), point),
             2 => series.delete(id),
-            _ => series.question(&point, 1 + random.below(MAX_K as u64) as usize),
+            _ => series.question(&point, 1 + random.below(MAX_K as u64) as usize, random.stages()),
         }
         assert_eq!(series.sound.as_bytes(), series.checked.as_bytes());
     }

@@ -1,5 +1,5 @@
 //! Acts in threads of the stack sizes that the headers state.
-use super::{bytes, upward};
+use super::{bytes, epoch, upward};
 use crate::*;
 
 /// A damaged index that leads 255 levels down, each page with some entries for the next: every recursion goes as deep as it can.
@@ -24,7 +24,7 @@ fn deepest(entries: usize) -> Vec<u8> {
 fn crowded() -> Vec<u8> {
     let mut index = SoundIndex::open(Index::make(bytes(2600), 1).unwrap().into_inner()).unwrap().into_tabled();
     for n in 1..=16_500u32 {
-        index.insert(n << 16, &[(n % 2001) as i16 - 1000]).unwrap();
+        index.insert(epoch(n << 16), &[(n % 2001) as i16 - 1000]).unwrap();
     }
     index.into_sound().into_inner()
 }
@@ -38,32 +38,33 @@ fn acts_keep_to_their_stack() {
     on_stack(1536 * 1024, || {
         let mut index = Index::new(deepest(8));
         assert_eq!(index.check().unwrap_err().refusal, Refusal::Unsound);
-        assert_eq!(index.insert(2, &[2]), Err(Refusal::Unsound));
+        assert_eq!(index.insert(epoch(2), &[2]), Err(Refusal::Unsound));
         assert_eq!(index.delete(1), Err(Refusal::Unsound));
-        assert_eq!(index.question(&[1], 64, &mut Tally::default()), Err(Refusal::Unsound));
+        assert_eq!(index.question(&[1], 64, StageSet::ALL, &mut Tally::default()), Err(Refusal::Unsound));
         let mut sound = upward(4, 17);
-        sound.insert(18, &[18]).unwrap();
+        sound.insert(epoch(18), &[18]).unwrap();
         sound.delete(1).unwrap();
-        sound.question(&[1], 64, &mut Tally::default()).unwrap();
+        sound.question(&[1], 64, StageSet::ALL, &mut Tally::default()).unwrap();
         let mut large = Index::new(crowded());
-        large.insert(1, &[1]).unwrap();
+        large.insert(epoch(1), &[1]).unwrap();
         large.delete(1 << 16).unwrap();
-        large.question(&[1], 64, &mut Tally::default()).unwrap();
+        large.question(&[1], 64, StageSet::ALL, &mut Tally::default()).unwrap();
     });
     on_stack(512 * 1024, || {
         let mut bytes = deepest(1);
-        assert_eq!(acts::insert(sys::epoch_index_trusted_insert, &mut bytes, 2, &[2]), Err(Refusal::Unsound));
+        let asked = Asked { point: &[1], k: 64, stages: StageSet::ALL };
+        assert_eq!(acts::insert(sys::epoch_index_trusted_insert, &mut bytes, epoch(2), &[2]), Err(Refusal::Unsound));
         assert_eq!(acts::delete(sys::epoch_index_trusted_delete, &mut bytes, 2), Err(Refusal::Unsound));
-        assert_eq!(found(sys::epoch_index_trusted_question, &bytes, &[1], 64, &mut Tally::default()), Err(Refusal::Unsound));
-        assert_eq!(acts::insert(sys::epoch_index_vouched_insert, &mut bytes, 2, &[2]), Err(Refusal::Unsound));
+        assert_eq!(found(sys::epoch_index_trusted_question, &bytes, asked, &mut Tally::default()), Err(Refusal::Unsound));
+        assert_eq!(acts::insert(sys::epoch_index_vouched_insert, &mut bytes, epoch(2), &[2]), Err(Refusal::Unsound));
         assert_eq!(acts::delete_point(&mut bytes, 2, &[2]), Err(Refusal::Unsound));
         // level 4 is the highest that they follow; what they do to a damaged index means nothing, here they only have to end
         bytes[8..12].copy_from_slice(&252u32.to_le_bytes());
         bytes[12] = 4;
-        let _ = acts::insert(sys::epoch_index_trusted_insert, &mut bytes, 2, &[2]);
+        let _ = acts::insert(sys::epoch_index_trusted_insert, &mut bytes, epoch(2), &[2]);
         let _ = acts::delete(sys::epoch_index_trusted_delete, &mut bytes, 2);
-        let _ = acts::insert(sys::epoch_index_vouched_insert, &mut bytes, 3, &[3]);
+        let _ = acts::insert(sys::epoch_index_vouched_insert, &mut bytes, epoch(3), &[3]);
         let _ = acts::delete_point(&mut bytes, 2, &[2]);
-        let _ = found(sys::epoch_index_trusted_question, &bytes, &[1], 64, &mut Tally::default());
+        let _ = found(sys::epoch_index_trusted_question, &bytes, asked, &mut Tally::default());
     });
 }

@@ -27,7 +27,7 @@ plain-features-requires c κs = let S = (c .before .before) in let O = (c .befor
 
 returns : tie.Need-returns
 returns c = let S = (c .before .before .before) in let O = (c .before .before) in
-    query-for (questionOf (now (S .args .point)) (S .args .what)) (O .slots-of .result) _ (O .slots-of .ensures) (S .pre) (c .plain-features .ensures)
+    query-for (questionOf (now (S .args .point)) (S .args .what)) (O .slots-of .result) _ (O .slots-of .ensures) (S .pre) _ (omega arith) (c .plain-features .ensures)
 
 pub query-of-spec : {M : Type 1} → statement M
 query-of-spec =

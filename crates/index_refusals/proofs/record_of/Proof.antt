@@ -10,7 +10,7 @@ slots-of-requires : tie.Need-slots-of-requires
 slots-of-requires c κs = search needs
 
 returns : tie.Need-returns
-returns c = ap (λ (s : List ℕ). record { id = c .before .args .id; coords = s }) (c .slots-of .ensures)
+returns c = let e = c .before .args .epoch in ap (λ (s : List ℕ). record { id = e .id; stage = e .stage; stamp = e .stamp; coords = s }) (c .slots-of .ensures)
 
 pub record-of-spec : {M : Type 1} → statement M
 record-of-spec = tie.close (tie.spec slots-of-requires returns)

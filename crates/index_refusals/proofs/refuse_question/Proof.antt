@@ -6,7 +6,7 @@ use mathlib.Core.Logic.{inl, inr}
 use Prim.Native.Nat.{_≤_}
 use native.Mathlib.Omega.{arith}
 use Rattle.index_query.specs.Asking.{questionOf}
-use Rattle.index_refusals.specs.Refusals.{badK, fewRows}
+use Rattle.index_refusals.specs.Refusals.{badK, fewRows, badStageSet}
 use Rattle.index_refusals.proofs.RuleLaws.{question-point, question-further}
 use Rattle.index_refusals.proofs.refuse_question.Statement.{statement}
 use Rattle.index_refusals.proofs.refuse_question.Tie as tie
@@ -35,9 +35,21 @@ returns-4 c =
 
 returns-5 : tie.Need-returns-5
 returns-5 c =
-    let a = c .before .before .before .before .before .before .before .before .before .args in
-    question-further (now (a .index)) (questionOf (now (a .point)) (a .what)) (a .lent) _ (c .before .before .before .before .before .before .before .refuse-point .ensures) (c .before .before .before .before .before .before .if1 .left) 0 (inr ((omega arith, omega arith), inr (omega arith, refl)))
+    let a = c .before .before .before .before .before .before .before .before .before .before .before .args in
+    question-further (now (a .index)) (questionOf (now (a .point)) (a .what)) (a .lent) _ (c .before .before .before .before .before .before .before .before .before .refuse-point .ensures) (c .before .before .before .before .before .before .before .before .if1 .left) badStageSet
+    (inr ((omega arith, omega arith), inr (omega arith, inl (refl, λ h. let l : 1 ≤ a .what .stages = h .0 in omega arith))))
+
+returns-6 : tie.Need-returns-6
+returns-6 c =
+    let a = c .before .before .before .before .before .before .before .before .before .before .before .before .before .args in
+    question-further (now (a .index)) (questionOf (now (a .point)) (a .what)) (a .lent) _ (c .before .before .before .before .before .before .before .before .before .before .before .refuse-point .ensures) (c .before .before .before .before .before .before .before .before .before .before .if1 .left) badStageSet
+    (inr ((omega arith, omega arith), inr (omega arith, inl (refl, λ h. let l : a .what .stages ≤ 63 = h .1 in omega arith))))
+
+returns-7 : tie.Need-returns-7
+returns-7 c =
+    let a = c .before .before .before .before .before .before .before .before .before .before .before .before .before .args in
+    question-further (now (a .index)) (questionOf (now (a .point)) (a .what)) (a .lent) _ (c .before .before .before .before .before .before .before .before .before .before .before .refuse-point .ensures) (c .before .before .before .before .before .before .before .before .before .before .if1 .left) 0 (inr ((omega arith, omega arith), inr (omega arith, inr ((omega arith, omega arith), refl))))
 
 pub refuse-question-spec : {M : Type 1} → statement M
 refuse-question-spec =
-    tie.close (tie.spec refuse-point-requires returns returns-2 returns-3 returns-4 returns-5)
+    tie.close (tie.spec refuse-point-requires returns returns-2 returns-3 returns-4 returns-5 returns-6 returns-7)

@@ -36,18 +36,18 @@ returns-2 : tie.Need-returns-2
 returns-2 c =
     let a = c .before .before .before .before .before .before .before .args in let index = now (a .index) in
     let total : c .before .before .before .before .before .total-records .result ≡ viewOf index .total = c .before .before .before .before .before .total-records .ensures ∙ total-view index in
-    let wanted : c .before .before .pages-wanted .result ≡ pagesWanted index (recordOf (a .id) (now (a .point))) = c .before .before .pages-wanted .ensures ∙ ap (pagesWanted index) (c .before .before .before .record-of .ensures) in
+    let wanted : c .before .before .pages-wanted .result ≡ pagesWanted index (recordOf (a .epoch) (now (a .point))) = c .before .before .pages-wanted .ensures ∙ ap (pagesWanted index) (c .before .before .before .record-of .ensures) in
     let few : viewOf index .total < 65535 = omega (arith, c .before .before .before .before .if1 .left) in
-    inr (few, inl (refl, λ (l : pagesWanted index (recordOf (a .id) (now (a .point))) ≤ length (freeAt index)). omega (arith, passes (c .before .too-few .ensures) (c .if2 .taken))))
+    inr (few, inl (refl, λ (l : pagesWanted index (recordOf (a .epoch) (now (a .point))) ≤ length (freeAt index)). omega (arith, passes (c .before .too-few .ensures) (c .if2 .taken))))
 
 returns-3 : tie.Need-returns-3
 returns-3 c =
     let a = c .before .before .before .before .before .before .before .args in let index = now (a .index) in
     let total : c .before .before .before .before .before .total-records .result ≡ viewOf index .total = c .before .before .before .before .before .total-records .ensures ∙ total-view index in
-    let wanted : c .before .before .pages-wanted .result ≡ pagesWanted index (recordOf (a .id) (now (a .point))) = c .before .before .pages-wanted .ensures ∙ ap (pagesWanted index) (c .before .before .before .record-of .ensures) in
+    let wanted : c .before .before .pages-wanted .result ≡ pagesWanted index (recordOf (a .epoch) (now (a .point))) = c .before .before .pages-wanted .ensures ∙ ap (pagesWanted index) (c .before .before .before .record-of .ensures) in
     let few : viewOf index .total < 65535 = omega (arith, c .before .before .before .before .if1 .left) in
     let many : ¬ (length (freeAt index) < c .before .before .pages-wanted .result) = faults (c .before .too-few .ensures) (c .if2 .left) in
-    let room : pagesWanted index (recordOf (a .id) (now (a .point))) ≤ length (freeAt index) = omega (arith, not-below (length (freeAt index)) (c .before .before .pages-wanted .result) many) in
+    let room : pagesWanted index (recordOf (a .epoch) (now (a .point))) ≤ length (freeAt index) = omega (arith, not-below (length (freeAt index)) (c .before .before .pages-wanted .result) many) in
     inr (few, inr (room, refl))
 
 pub refuse-room-spec : {M : Type 1} → statement M

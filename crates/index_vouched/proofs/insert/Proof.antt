@@ -1,11 +1,13 @@
 -- `index_vouched::insert` meets its contract. Assumes nothing.
 use denote.Ref.{now}
 use borrow.Author.Needs.{needs}
-use mathlib.Core.Path.{refl, ap, _∙_}
+use mathlib.Core.Path.{_≡_, refl, ap, _∙_}
+use mathlib.Core.List.{_++_}
 use Rattle.tree_core.specs.Insertion.{insertInto}
+use Rattle.index_refusals.specs.Refusals.{recordOf}
 use Rattle.index_refusals.specs.OutcomeLaws.{carried-out, left-alone}
 use Rattle.index_refusals.specs.Trusted.{roomRules}
-use Rattle.index_refusals.proofs.RuleLaws.{pair-fits}
+use Rattle.index_refusals.proofs.RuleLaws.{pair-fits, stageRule}
 use Rattle.index_vouched.proofs.insert.Statement.{statement}
 use Rattle.index_vouched.proofs.insert.Tie as tie
 
@@ -13,7 +15,7 @@ refuse-vouched-requires : tie.Need-refuse-vouched-requires
 refuse-vouched-requires c κs = search needs
 
 record-of-requires : tie.Need-record-of-requires
-record-of-requires c κs = let a = c .before .before .before .before .args in pair-fits (now (a .index)) (a .id) (now (a .point)) (roomRules (now (a .index)) (a .id) (now (a .point))) refl _ (c .before .refuse-vouched .ensures) (c .if1 .taken)
+record-of-requires c κs = let a = c .before .before .before .before .args in pair-fits (now (a .index)) (a .epoch .id) (now (a .point)) (stageRule (a .epoch) ++ roomRules (now (a .index)) (a .epoch) (now (a .point))) refl _ (c .before .refuse-vouched .ensures) (c .if1 .taken)
 
 insert-requires : tie.Need-insert-requires
 insert-requires c κs = search needs
@@ -22,10 +24,10 @@ same-length : tie.Need-same-length
 same-length c = search needs
 
 returns : tie.Need-returns
-returns c = (
-  c .before .before .before .before .before .before .refuse-vouched .ensures,
-  carried-out _ _ _ _ (c .before .before .before .before .before .if1 .taken) (c .before .before .insert .ensures ∙ ap (insertInto _) (c .before .before .before .before .record-of .ensures)),
-)
+returns c =
+    let a = c .before .before .before .before .before .before .before .before .before .args in
+    let R = c .before .before .before .before .record-of in
+    let brought : R .result ≡ recordOf (a .epoch) (now (a .point)) = R .ensures in (c .before .before .before .before .before .before .refuse-vouched .ensures, carried-out _ _ _ _ (c .before .before .before .before .before .if1 .taken) (c .before .before .insert .ensures ∙ ap (insertInto _) brought))
 
 same-length-2 : tie.Need-same-length-2
 same-length-2 c = search needs

@@ -13,7 +13,7 @@ array-share-prefix-features : tie.Need-array-share-prefix-features
 array-share-prefix-features c = search needs
 
 slice-aggregate-search-for : tie.Need-slice-aggregate-search-for
-slice-aggregate-search-for c = let S = (c .before .before .before .before .before .before) in sym (length-take-le _ _ (omega (arith, S .pre .slots, S .pre .few)))
+slice-aggregate-search-for c = let S = (c .before .before .before .before .before .before .before) in sym (length-take-le _ _ (omega (arith, S .pre .slots, S .pre .few)))
 
 search-for-requires : tie.Need-search-for-requires
 search-for-requires c κs = search needs

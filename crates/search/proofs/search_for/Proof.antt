@@ -14,7 +14,7 @@ reads-none-requires c κs = search needs
 
 returns : tie.Need-returns
 returns c =
-    let S = (c .before .before .before .before .before .before) in let q = asking (now (S .args .asked)) (S .args .k) in
+    let S = (c .before .before .before .before .before .before) in let q = asking (now (S .args .asked)) (S .args .k) (S .args .choice) in
     searched (now (S .args .index)) q _ _ _ (S .pre .one) (omega arith) (answer-none (now (S .args .index)) q (sym (c .before .reads-none .ensures) ∙ c .if1 .taken))
 
 total-records-requires : tie.Need-total-records-requires

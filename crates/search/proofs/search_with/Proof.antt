@@ -45,8 +45,8 @@ same-length-3 c = search needs
 
 returns : tie.Need-returns
 returns c = let S = (c .before .before .before .before .before .before .before .before .before .before .before .before .before .before .before .before .before .before .before .before .before .before) in let B = c .before .before .before .before .before .before .best-first in
-    searched (now (S .args .index)) (asking (now (S .args .asked)) (S .args .k)) _ _ _ (S .pre .one) (B .ensures .held .few)
-    (B .ensures .answer ∙ answer-some (now (S .args .index)) (asking (now (S .args .asked)) (S .args .k)) (S .pre .some))
+    searched (now (S .args .index)) (asking (now (S .args .asked)) (S .args .k) (S .args .choice)) _ _ _ (S .pre .one) (B .ensures .held .few)
+    (B .ensures .answer ∙ answer-some (now (S .args .index)) (asking (now (S .args .asked)) (S .args .k) (S .args .choice)) (S .pre .some))
 
 pub search-with-spec : {M : Type 1} → statement M
 search-with-spec =

@@ -57,7 +57,7 @@ loop-less c = search needs
 loop-again : tie.Need-loop-again Inv-loop μ-loop
 loop-again c = let S = (c .before .before .before .before .before .before .before .before .before .before .before .before .before .before .before .before) in let b = now (S .args .index) in let L = c .before .before .before .before .before .before .before .before .loop in let P = c .before .before .before .push in let E = c .before .before .before .before .before .entry-key in let X = c .before .before .before .before .before .before .entry-at in let C = c .leaf-count in
     opening-next _ _ _ _ _ _ _ _ _ _ _ _ _ _ _ (L .inv) _ _ _ _ _ (c .before .before .before .before .before .before .before .loop-test .taken)
-    (λ k. E .ensures k ∙ ap (λ (x : Entry). keyOf (branchOf b (asking (now (S .args .asked)) k) (S .args .level) (L .at) x)) (X .ensures)) (P .ensures) (P .kept .0)
+    (λ k choice. E .ensures k choice ∙ ap (λ (x : Entry). keyOf (branchOf b (asking (now (S .args .asked)) k choice) (S .args .level) (L .at) x)) (X .ensures)) (P .ensures) (P .kept .0)
     (C .ensures .0 ∙ ap (λ (x : Entry). leafCount (S .args .level) b (x .child)) (X .ensures)) (C .ensures .1)
 
 same-length : tie.Need-same-length Inv-loop μ-loop

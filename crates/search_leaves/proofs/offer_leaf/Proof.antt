@@ -16,11 +16,11 @@ use Rattle.search_leaves.proofs.offer_leaf.Statement.{statement}
 use Rattle.search_leaves.proofs.offer_leaf.Tie as tie
 
 abbrev Inv-loop : tie.InvT-loop
-Inv-loop page q position distances₀ tags₀ n k count full sums rows₀ i₀ distances tags rows i = (i ≤ count) × (count ≡ min (leafOf page .count) 16) × (count ≤ full) × Sums page q (length q) full sums × (length distances ≡ length distances₀) × (length tags ≡ length tags₀) × Held distances tags rows k
-    × (offersFrom (askingPoint q k) position k (recordsIn (leafOf page)) i (rowsIn distances tags rows) ≡ offersFrom (askingPoint q k) position k (recordsIn (leafOf page)) 0 (rowsIn distances₀ tags₀ n))
+Inv-loop page q position distances₀ tags₀ n k choice count full sums rows₀ i₀ distances tags rows i = (i ≤ count) × (count ≡ min (leafOf page .count) 16) × (count ≤ full) × Sums page q (length q) full sums × (length distances ≡ length distances₀) × (length tags ≡ length tags₀) × Held distances tags rows k
+    × (offersFrom (askingPoint q k choice) position k (recordsIn (leafOf page)) i (rowsIn distances tags rows) ≡ offersFrom (askingPoint q k choice) position k (recordsIn (leafOf page)) 0 (rowsIn distances₀ tags₀ n))
 
 abbrev μ-loop : tie.MeasureT-loop
-μ-loop page q position distances₀ tags₀ n k count full sums rows₀ i₀ distances tags rows i = count - i
+μ-loop page q position distances₀ tags₀ n k choice count full sums rows₀ i₀ distances tags rows i = count - i
 
 read-count-requires : tie.Need-read-count-requires Inv-loop μ-loop
 read-count-requires c κs = c .before .before .before .before .pre .0
@@ -53,7 +53,7 @@ returns : tie.Need-returns Inv-loop μ-loop
 returns c =
     let a = c .before .before .before .before .before .before .before .before .before .before .before .before .before .before .before .args in
     let number = c .before .before .before .before .before .before .before .before .before .filled .ensures ∙ ap (λ (x : ℕ). min x 16) (c .before .before .before .before .before .before .before .before .before .before .read-count .ensures) in
-    none-offered (now (a .page)) (now (a .q)) (a .position) (a .k) (a .n) _ _ (now (a .distances)) (now (a .tags)) _ (c .before .before .before .before .before .before .before .before .before .before .before .before .before .before .before .pre .2) (c .before .before .before .before .before .before .add-columns .ensures) (omega (arith, number, c .before .before .before .before .before .before .before .before .lanes .ensures .0)) (c .before .before .limit-of .ensures) (sym (c .before .within .ensures) ∙ c .if1 .taken)
+    none-offered (now (a .page)) (now (a .q)) (a .position) (a .k) (a .choice) (a .n) _ _ (now (a .distances)) (now (a .tags)) _ (c .before .before .before .before .before .before .before .before .before .before .before .before .before .before .before .pre .2) (c .before .before .before .before .before .before .add-columns .ensures) (omega (arith, number, c .before .before .before .before .before .before .before .before .lanes .ensures .0)) (c .before .before .limit-of .ensures) (sym (c .before .within .ensures) ∙ c .if1 .taken)
 
 loop-holds : tie.Need-loop-holds Inv-loop μ-loop
 loop-holds c =
@@ -81,8 +81,8 @@ loop-again : tie.Need-loop-again Inv-loop μ-loop
 loop-again c =
     let a = c .before .before .before .before .before .before .before .before .before .before .before .before .before .before .before .before .before .before .before .before .before .before .before .before .before .args in let L = c .before .before .before .before .before .before .before .before .before .loop in let O = c .before .before .before .before .offer-record in let W = c .before .before .before .before .before .before .before .wide in let t = c .before .before .before .before .before .before .before .before .loop-test .taken in
     let D = W .ensures ∙ sums-end (now (a .page)) (now (a .q)) _ _ (L .inv .3) (L .i) (omega (arith, L .inv .2, t)) in
-    let q = askingPoint (now (a .q)) (a .k) in
-    let near = point-distance (now (a .q)) (a .k) (recordIn (now (a .page)) (L .i)) (W .result) D in (
+    let q = askingPoint (now (a .q)) (a .k) (a .choice) in
+    let near = point-distance (now (a .q)) (a .k) (a .choice) (recordIn (now (a .page)) (L .i)) (W .result) D in (
       omega (arith, t),
       L .inv .1,
       L .inv .2,
@@ -90,7 +90,7 @@ loop-again c =
       O .kept .1 .1 .1 .1 .0 ∙ L .inv .4,
       O .kept .1 .1 .1 .1 .1 .0 ∙ L .inv .5,
       O .ensures .held,
-      offers-next (now (a .page)) q (a .position) (a .k) (leafOf (now (a .page))) refl _ (L .inv .1) (L .i) noRecord _ _ t (O .ensures .rows q near) ∙ L .inv .7,
+      offers-next (now (a .page)) q (a .position) (a .k) (leafOf (now (a .page))) refl _ (L .inv .1) (L .i) noRecord _ _ t (O .ensures .rows q refl near) ∙ L .inv .7,
     )
 
 same-length-2 : tie.Need-same-length-2 Inv-loop μ-loop
@@ -104,8 +104,8 @@ returns-2 c =
     let a = c .before .before .before .before .before .before .before .before .before .before .before .before .before .before .before .before .before .args in let L = c .before .loop in
     record {
       held = L .inv .6;
-      rows = sym (offers-end (now (a .page)) (askingPoint (now (a .q)) (a .k)) (a .position) (a .k) (leafOf (now (a .page))) refl _ (L .inv .1) (L .i) _ (c .loop-test .left)) ∙ L .inv .7
-          ∙ offers-all (now (a .page)) (askingPoint (now (a .q)) (a .k)) (a .position) (a .k) (leafOf (now (a .page))) refl _ (L .inv .1) _;
+      rows = sym (offers-end (now (a .page)) (askingPoint (now (a .q)) (a .k) (a .choice)) (a .position) (a .k) (leafOf (now (a .page))) refl _ (L .inv .1) (L .i) _ (c .loop-test .left)) ∙ L .inv .7
+          ∙ offers-all (now (a .page)) (askingPoint (now (a .q)) (a .k) (a .choice)) (a .position) (a .k) (leafOf (now (a .page))) refl _ (L .inv .1) _;
     }
 
 pub offer-leaf-spec : {M : Type 1} → statement M

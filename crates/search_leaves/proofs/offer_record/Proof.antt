@@ -16,7 +16,7 @@ same-length c = search needs
 
 returns : tie.Need-returns
 returns c = let S = (c .before .before .before .before .before .before) in
-    record-behind (now (S .args .page)) (S .args .i) (S .args .distance) (S .args .position) (now (S .args .distances)) (now (S .args .tags)) (S .args .n) (S .args .k) (S .pre .2) (sym (c .before .behind .ensures) ∙ c .if1 .taken)
+    record-behind (now (S .args .page)) (S .args .i) (S .args .distance) (S .args .position) (now (S .args .distances)) (now (S .args .tags)) (S .args .n) (S .args .k) (S .args .choice) (S .pre .2) (sym (c .before .behind .ensures) ∙ c .if1 .taken)
 
 is-candidate-requires : tie.Need-is-candidate-requires
 is-candidate-requires c κs = search needs
@@ -26,7 +26,7 @@ same-length-2 c = search needs
 
 returns-2 : tie.Need-returns-2
 returns-2 c = let S = (c .before .before .before .before .before .before .before .before) in
-    record-passed (now (S .args .page)) (S .args .i) (S .args .distance) (S .args .position) (now (S .args .distances)) (now (S .args .tags)) (S .args .n) (S .args .k) (S .pre .2) (λ q. sym (c .before .is-candidate .ensures q) ∙ not-true _ (c .if2 .taken))
+    record-passed (now (S .args .page)) (S .args .i) (S .args .distance) (S .args .position) (now (S .args .distances)) (now (S .args .tags)) (S .args .n) (S .args .k) (S .args .choice) (S .pre .2) (λ q w. sym (c .before .is-candidate .ensures q w) ∙ not-true _ (c .if2 .taken))
 
 read-ident-requires : tie.Need-read-ident-requires
 read-ident-requires c κs = search needs
@@ -43,7 +43,7 @@ same-length-4 c = search needs
 returns-3 : tie.Need-returns-3
 returns-3 c = let S = (c .before .before .before .before .before .before .before .before .before .before .before .before .before .before .before .before) in let I = c .before .before .before .before .before .before .before .read-ident in let O = c .before .before .before .before .offer in
     let e : record { distance = S .args .distance; id = I .result; position = S .args .position } ≡ rowAt (now (S .args .page)) (S .args .i) (S .args .distance) (S .args .position) = λ j. record { distance = S .args .distance; id = I .ensures j; position = S .args .position } in
-    record-taken (now (S .args .page)) (S .args .i) (S .args .distance) (S .args .position) (now (S .args .distances)) (now (S .args .tags)) (S .args .n) (S .args .k) _ _ _ (λ q. sym (c .before .before .before .before .before .before .before .before .before .is-candidate .ensures q) ∙ not-false _ (c .before .before .before .before .before .before .before .before .if2 .left)) (rw e at (O .ensures))
+    record-taken (now (S .args .page)) (S .args .i) (S .args .distance) (S .args .position) (now (S .args .distances)) (now (S .args .tags)) (S .args .n) (S .args .k) (S .args .choice) _ _ _ (λ q w. sym (c .before .before .before .before .before .before .before .before .before .is-candidate .ensures q w) ∙ not-false _ (c .before .before .before .before .before .before .before .before .if2 .left)) (rw e at (O .ensures))
 
 pub offer-record-spec : {M : Type 1} → statement M
 offer-record-spec =

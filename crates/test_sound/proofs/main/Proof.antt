@@ -4,10 +4,10 @@ use Rattle.test_sound.proofs.main.Statement.{statement}
 use Rattle.test_sound.proofs.main.Tie as tie
 
 abbrev Inv-loop : tie.InvT-loop
-Inv-loop k₀ k = k ≤ 30
+Inv-loop k₀ k = k ≤ 33
 
 abbrev μ-loop : tie.MeasureT-loop
-μ-loop k₀ k = 30 - k
+μ-loop k₀ k = 33 - k
 
 loop-holds : tie.Need-loop-holds Inv-loop μ-loop
 loop-holds c = search needs

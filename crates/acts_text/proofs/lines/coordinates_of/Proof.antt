@@ -6,7 +6,7 @@ use mathlib.Core.Path.{_∙_, _≡_, refl}
 use Rattle.lists.specs.Basics.{tabulate}
 use Rattle.lists.specs.Tabulated.{tabulate-more, tabulate-done}
 use Rattle.acts_fields.specs.Fields.{ofBits}
-use Rattle.acts_text.specs.Lines.{coordinates}
+use Rattle.acts_text.specs.Lines.{leading, coordinates}
 use lib.ListN.{length, take, getD}
 use lib.IntN.{ℤ}
 use mathlib.Core.List.{List}
@@ -17,7 +17,7 @@ use Rattle.acts_text.proofs.lines.coordinates_of.Statement.{statement}
 use Rattle.acts_text.proofs.lines.coordinates_of.Tie as tie
 
 abbrev coordinate : List ℕ → ℕ → ℤ
-coordinate v m = ofBits (getD v (3 + m) 0)
+coordinate v m = ofBits (getD v (leading + m) 0)
 
 abbrev Inv-loop : tie.InvT-loop
 Inv-loop v c₀ i₀ c i = (i ≤ 16) × (length c ≡ 16) × (take i c ≡ tabulate i (coordinate v))

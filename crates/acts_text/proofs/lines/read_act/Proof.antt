@@ -1,6 +1,5 @@
 -- `lines::read_act` meets its contract: each return is one branch of `actOf`; readable values fit 32 bits.
 use mathlib.Core.Path.{sym, ap, _∙_}
-use Prim.Native.Nat.{_+_}
 use borrow.Author.Tests.{not-true, not-false}
 use Rattle.acts_text.specs.Lines.{readableCells}
 use Rattle.acts_text.proofs.CellLaws.{act-long, act-wide, act-bad, act-good, cells-fit}
@@ -39,46 +38,21 @@ returns-3 c =
     c .no-line3 .ensures
     ∙ act-bad (c .before .before .before .before .before .before .before .before .args .d) (c .before .before .before .before .before .before .before .before .args .line .now) (c .before .before .before .before .before .before .if1 .left) (c .before .before .before .before .before .if2 .left) (sym (b .ensures ∙ ap readableCells (v .ensures)) ∙ not-true (b .result) (c .before .if3 .taken))
 
-slice-aggregate-coordinates-of : tie.Need-slice-aggregate-coordinates-of
-slice-aggregate-coordinates-of c = search needs
+slice-aggregate-line-of : tie.Need-slice-aggregate-line-of
+slice-aggregate-line-of c = search needs
 
-coordinates-of-requires : tie.Need-coordinates-of-requires
-coordinates-of-requires c κs = search needs
-
-array-read-narrow : tie.Need-array-read-narrow
-array-read-narrow c = search needs
-
-narrow-requires : tie.Need-narrow-requires
-narrow-requires c κs =
-    let b = c .before .before .before .readable-cells in
-    let v = c .before .before .before .before .before .read-cells in
-    cells-fit (3 + c .before .before .before .before .before .before .before .before .before .args .d) (c .before .before .before .before .before .before .before .before .before .args .line .now) (v .result) (v .ensures) (sym (b .ensures) ∙ not-false (b .result) (c .before .before .if3 .left)) 0
-
-array-read-narrow-2 : tie.Need-array-read-narrow-2
-array-read-narrow-2 c = search needs
-
-narrow-requires-2 : tie.Need-narrow-requires-2
-narrow-requires-2 c κs =
-    let b = c .before .before .before .before .readable-cells in
-    let v = c .before .before .before .before .before .before .read-cells in
-    cells-fit (3 + c .before .before .before .before .before .before .before .before .before .before .args .d) (c .before .before .before .before .before .before .before .before .before .before .args .line .now) (v .result) (v .ensures) (sym (b .ensures) ∙ not-false (b .result) (c .before .before .before .if3 .left)) 1
-
-array-read-narrow-3 : tie.Need-array-read-narrow-3
-array-read-narrow-3 c = search needs
-
-narrow-requires-3 : tie.Need-narrow-requires-3
-narrow-requires-3 c κs =
-    let b = c .before .before .before .before .before .readable-cells in
-    let v = c .before .before .before .before .before .before .before .read-cells in
-    cells-fit (3 + c .before .before .before .before .before .before .before .before .before .before .before .args .d) (c .before .before .before .before .before .before .before .before .before .before .before .args .line .now) (v .result) (v .ensures) (sym (b .ensures) ∙ not-false (b .result) (c .before .before .before .before .if3 .left)) 2
+line-of-requires : tie.Need-line-of-requires
+line-of-requires c κs =
+    let b = c .before .before .readable-cells in
+    let v = c .before .before .before .before .read-cells in
+    (search needs, cells-fit _ _ (v .result) (v .ensures) (sym (b .ensures) ∙ not-false (b .result) (c .before .if3 .left)))
 
 returns-4 : tie.Need-returns-4
 returns-4 c =
-    let b = c .before .before .before .before .before .before .readable-cells in
-    let v = c .before .before .before .before .before .before .before .before .read-cells in
-    act-good (c .before .before .before .before .before .before .before .before .before .before .before .before .args .d) (c .before .before .before .before .before .before .before .before .before .before .before .before .args .line .now) (v .result) (c .before .before .before .coordinates-of .result) (c .before .before .narrow .result) (c .before .narrow2 .result)
-    (c .narrow3 .result) (c .before .before .before .before .before .before .before .before .before .before .if1 .left) (c .before .before .before .before .before .before .before .before .before .if2 .left) (v .ensures) (sym (b .ensures) ∙ not-false (b .result) (c .before .before .before .before .before .if3 .left))
-    (c .before .before .narrow .ensures) (c .before .narrow2 .ensures) (c .narrow3 .ensures) (c .before .before .before .coordinates-of .ensures)
+    let b = c .before .before .before .readable-cells in
+    let v = c .before .before .before .before .before .read-cells in
+    c .line-of .ensures
+    ∙ act-good _ _ (v .result) (c .before .before .before .before .before .before .before .if1 .left) (c .before .before .before .before .before .before .if2 .left) (v .ensures) (sym (b .ensures) ∙ not-false (b .result) (c .before .before .if3 .left))
 
 pub read-act-spec : {M : Type 1} → statement M
 read-act-spec =
@@ -93,12 +67,6 @@ read-act-spec =
     readable-cells-requires
     no-line-requires-3
     returns-3
-    slice-aggregate-coordinates-of
-    coordinates-of-requires
-    array-read-narrow
-    narrow-requires
-    array-read-narrow-2
-    narrow-requires-2
-    array-read-narrow-3
-    narrow-requires-3
+    slice-aggregate-line-of
+    line-of-requires
     returns-4)

@@ -1,17 +1,20 @@
 -- `lines::read_cells` meets its contract: the values stored, with those of the columns left, are the values of the line.
 use Rattle.acts_text.proofs.CellLaws.{row-start, row-step, row-done, cells-are}
 use lib.Seq.{sets}
-use Rattle.acts_text.specs.Lines.{row}
+use Rattle.acts_text.specs.Lines.{leading, maxFeatures, row}
 use mathlib.Core.Path.{_≡_, refl}
 use lib.ListN.{replicate, length, drop}
-use Prim.Native.Nat.{_≤_, _+_, _-_}
+use Prim.Native.Nat.{ℕ, _≤_, _+_, _-_}
 use borrow.Author.Needs.{needs}
 use native.Mathlib.Omega.{arith}
 use Rattle.acts_text.proofs.lines.read_cells.Statement.{statement}
 use Rattle.acts_text.proofs.lines.read_cells.Tie as tie
 
+abbrev columns : ℕ
+columns = leading + maxFeatures
+
 abbrev Inv-loop : tie.InvT-loop
-Inv-loop line d n v₀ at₀ j₀ v at j = (sets v j (row (n - j) j (drop at line)) ≡ sets (replicate 19 0) 0 (row n 0 line)) × (j ≤ n) × (at ≤ length line) × (length v ≡ 19)
+Inv-loop line d n v₀ at₀ j₀ v at j = (sets v j (row (n - j) j (drop at line)) ≡ sets (replicate columns 0) 0 (row n 0 line)) × (j ≤ n) × (at ≤ length line) × (length v ≡ columns)
 
 abbrev μ-loop : tie.MeasureT-loop
 μ-loop line d n v₀ at₀ j₀ v at j = n - j
@@ -20,7 +23,7 @@ add-n : tie.Need-add-n Inv-loop μ-loop
 add-n c = search needs
 
 loop-holds : tie.Need-loop-holds Inv-loop μ-loop
-loop-holds c = (row-start (replicate 19 0) (c .before .args .line .now) (3 + c .before .args .d), omega arith, omega arith, refl)
+loop-holds c = (row-start (replicate columns 0) (c .before .args .line .now) (leading + c .before .args .d), omega arith, omega arith, refl)
 
 sub-left : tie.Need-sub-left Inv-loop μ-loop
 sub-left c = search needs
@@ -59,13 +62,13 @@ loop-less : tie.Need-loop-less Inv-loop μ-loop
 loop-less c = search needs
 
 loop-again : tie.Need-loop-again Inv-loop μ-loop
-loop-again c = let a = c .before .before .before .before .before .before .before .args in let p = c .before .before .before .before .before .loop in (row-step (a .line .now) (p .v) (sets (replicate 19 0) 0 (row (3 + a .d) 0 (a .line .now))) (3 + a .d) (p .j) (p .at) (c .before .before .before .field-end .result) (c .before .read-cell .result) (c .past .result) (omega arith) (c .before .before .before .field-end .ensures .0) (c .before .read-cell .ensures .0) (c .past .ensures) (p .inv .0), omega arith, omega arith, search needs)
+loop-again c = let a = c .before .before .before .before .before .before .before .args in let p = c .before .before .before .before .before .loop in (row-step (a .line .now) (p .v) (sets (replicate columns 0) 0 (row (leading + a .d) 0 (a .line .now))) (leading + a .d) (p .j) (p .at) (c .before .before .before .field-end .result) (c .before .read-cell .result) (c .past .result) (omega arith) (c .before .before .before .field-end .ensures .0) (c .before .read-cell .ensures .0) (c .past .ensures) (p .inv .0), omega arith, omega arith, search needs)
 
 returns : tie.Need-returns Inv-loop μ-loop
 returns c =
     let a = c .before .before .before .args in
     let p = c .before .loop in
-    cells-are (a .line .now) (p .v) (3 + a .d) (row-done (a .line .now) (p .v) (sets (replicate 19 0) 0 (row (3 + a .d) 0 (a .line .now))) (3 + a .d) (p .j) (p .at) (c .loop-test .left) (p .inv .0))
+    cells-are (a .line .now) (p .v) (leading + a .d) (row-done (a .line .now) (p .v) (sets (replicate columns 0) 0 (row (leading + a .d) 0 (a .line .now))) (leading + a .d) (p .j) (p .at) (c .loop-test .left) (p .inv .0))
 
 pub read-cells-spec : {M : Type 1} → statement M
 read-cells-spec =

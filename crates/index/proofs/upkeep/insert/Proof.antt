@@ -17,7 +17,7 @@ same-length c = search needs
 returns : tie.Need-returns
 returns c =
     let a = c .before .before .before .before .args in
-    (insert-unsound (now (a .index)) _ (c .before .refuse-index .ensures) (c .if1 .taken) (a .id) (now (a .point)), left-alone _ _ _ _ (c .if1 .taken) refl)
+    (insert-unsound (now (a .index)) _ (c .before .refuse-index .ensures) (c .if1 .taken) (a .epoch) (now (a .point)), left-alone _ _ _ _ (c .if1 .taken) refl)
 
 insert-requires : tie.Need-insert-requires
 insert-requires c κs = search needs
@@ -29,7 +29,7 @@ returns-2 : tie.Need-returns-2
 returns-2 c =
     let a = c .before .before .before .before .before .before .before .before .args in
     let sound = checked-sound (now (a .index)) _ (c .before .before .before .before .before .refuse-index .ensures) (c .before .before .before .before .if1 .left) in
-    (insert-same (now (a .index)) sound (a .id) (now (a .point)) _ (c .before .before .insert .ensures .0), c .before .before .insert .ensures .1)
+    (insert-same (now (a .index)) sound (a .epoch) (now (a .point)) _ (c .before .before .insert .ensures .0), c .before .before .insert .ensures .1)
 
 pub insert-spec : {M : Type 1} → statement M
 insert-spec =

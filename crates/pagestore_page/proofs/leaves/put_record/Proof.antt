@@ -3,14 +3,8 @@ use borrow.Author.Needs.{needs}
 use Rattle.pagestore_page.proofs.leaves.put_record.Statement.{statement}
 use Rattle.pagestore_page.proofs.leaves.put_record.Tie as tie
 
-mul-put-u32 : tie.Need-mul-put-u32
-mul-put-u32 c = search needs
-
-add-put-u32 : tie.Need-add-put-u32
-add-put-u32 c = search needs
-
-put-u32-requires : tie.Need-put-u32-requires
-put-u32-requires c κs = search needs
+put-label-requires : tie.Need-put-label-requires
+put-label-requires c κs = search needs
 
 put-coords-requires : tie.Need-put-coords-requires
 put-coords-requires c κs = search needs
@@ -19,9 +13,7 @@ same-length : tie.Need-same-length
 same-length c = search needs
 
 returns : tie.Need-returns
-returns c = record-put _ _ _ _ (c .before .before .before .before .before .before .before .before .before .before .args .r) (c .before .before .before .before .before .before .before .put-u32 .ensures) (c .before .before .put-coords .ensures)
+returns c = record-put _ _ _ _ (c .before .before .before .before .before .before .before .before .before .before .args .r) (c .before .before .before .before .before .before .before .put-label .ensures) (c .before .before .put-coords .ensures)
 
 pub put-record-spec : {M : Type 1} → statement M
-put-record-spec =
-    tie.close
-    (tie.spec mul-put-u32 add-put-u32 put-u32-requires put-coords-requires same-length returns)
+put-record-spec = tie.close (tie.spec put-label-requires put-coords-requires same-length returns)

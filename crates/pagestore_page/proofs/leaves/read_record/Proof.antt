@@ -10,13 +10,19 @@ use Rattle.pagestore_page.proofs.leaves.read_record.Statement.{statemen
 use Rattle.pagestore_page.proofs.leaves.read_record.Tie as tie
 
 abbrev Inv-loop : tie.InvT-loop
-Inv-loop page i id coords₀ m₀ coords m = (m ≤ 16) × (length coords ≡ 16) × (take m coords ≡ tabulate m (λ k. getD (getD (leafOf page .records) i noRecord .coords) k 0))
+Inv-loop page i id stage stamp coords₀ m₀ coords m = (m ≤ 16) × (length coords ≡ 16) × (take m coords ≡ tabulate m (λ k. getD (getD (leafOf page .records) i noRecord .coords) k 0))
 
 abbrev μ-loop : tie.MeasureT-loop
-μ-loop page i id coords₀ m₀ coords m = 16 - m
+μ-loop page i id stage stamp coords₀ m₀ coords m = 16 - m
 
 read-ident-requires : tie.Need-read-ident-requires Inv-loop μ-loop
 read-ident-requires c κs = search needs
+
+read-stage-requires : tie.Need-read-stage-requires Inv-loop μ-loop
+read-stage-requires c κs = search needs
+
+read-stamp-requires : tie.Need-read-stamp-requires Inv-loop μ-loop
+read-stamp-requires c κs = search needs
 
 loop-holds : tie.Need-loop-holds Inv-loop μ-loop
 unfolding tabulate
@@ -41,7 +47,7 @@ loop-again : tie.Need-loop-again Inv-loop μ-loop
 loop-again c = let L = c .before .before .loop in let h : L .m < length (L .coords) = search needs in (search needs, search needs, tabulate-more _ (L .coords) (L .m) _ h (L .inv .2) (c .read-coord .ensures .0))
 
 returns : tie.Need-returns Inv-loop μ-loop
-returns c = let L = c .before .loop in record-whole _ (c .before .before .before .before .args .i) _ _ (search needs) (c .before .before .read-ident .ensures) (tabulate-done _ 16 (L .coords) (L .m) (L .inv .0) (c .loop-test .left) (L .inv .1) (L .inv .2))
+returns c = let L = c .before .loop in record-whole _ (c .before .before .before .before .before .before .args .i) _ _ _ _ (search needs) (c .before .before .before .before .read-ident .ensures) (c .before .before .before .read-stage .ensures) (c .before .before .read-stamp .ensures) (tabulate-done _ 16 (L .coords) (L .m) (L .inv .0) (c .loop-test .left) (L .inv .1) (L .inv .2))
 
 pub read-record-spec : {M : Type 1} → statement M
 read-record-spec =
@@ -50,6 +56,8 @@ read-record-spec =
     Inv-loop
     μ-loop
     read-ident-requires
+    read-stage-requires
+    read-stamp-requires
     loop-holds
     read-coord-requires
     mul-coords

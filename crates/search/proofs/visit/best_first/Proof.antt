@@ -11,10 +11,10 @@ use Rattle.search.proofs.visit.best_first.Statement.{statement}
 use Rattle.search.proofs.visit.best_first.Tie as tie
 
 abbrev Inv-loop : tie.InvT-loop
-Inv-loop index asked near whole k slots₀ distances₀ tags₀ n₀ rows₀ leaves₀ steps₀ slots distances tags n rows leaves steps = Visiting index asked near whole k slots₀ distances₀ tags₀ slots distances tags n rows leaves steps
+Inv-loop index asked near whole k choice slots₀ distances₀ tags₀ n₀ rows₀ leaves₀ steps₀ slots distances tags n rows leaves steps = Visiting index asked near whole k choice slots₀ distances₀ tags₀ slots distances tags n rows leaves steps
 
 abbrev μ-loop : tie.MeasureT-loop
-μ-loop index asked near whole k slots₀ distances₀ tags₀ n₀ rows₀ leaves₀ steps₀ slots distances tags n rows leaves steps = steps
+μ-loop index asked near whole k choice slots₀ distances₀ tags₀ n₀ rows₀ leaves₀ steps₀ slots distances tags n rows leaves steps = steps
 
 root-key-requires : tie.Need-root-key-requires Inv-loop μ-loop
 root-key-requires c κs = c .before .before .before .before .before .before .before .pre .low
@@ -29,10 +29,10 @@ mul-steps : tie.Need-mul-steps Inv-loop μ-loop
 mul-steps c = let e = c .page-count .ensures in let f = pages-few (now (c .before .before .before .before .before .before .before .before .before .args .index)) in omega arith
 
 loop-holds : tie.Need-loop-holds Inv-loop μ-loop
-loop-holds c = visiting-start _ _ _ _ _ _ _ _ _ _ (c .before .before .before .before .before .before .before .before .before .pre) (c .before .root-key .ensures) (c .page-count .ensures)
+loop-holds c = visiting-start _ _ _ _ _ _ _ _ _ _ _ (c .before .before .before .before .before .before .before .before .before .pre) (c .before .root-key .ensures) (c .page-count .ensures)
 
 goes-on-requires : tie.Need-goes-on-requires Inv-loop μ-loop
-goes-on-requires c κs = visiting-turns _ _ _ _ _ _ _ _ _ _ _ _ _ _ _ (c .before .before .loop .inv)
+goes-on-requires c κs = visiting-turns _ _ _ _ _ _ _ _ _ _ _ _ _ _ _ _ (c .before .before .loop .inv)
 
 sub-steps : tie.Need-sub-steps Inv-loop μ-loop
 sub-steps c = let g = ((c .before .goes-on .ensures) .goes (c .if1 .taken)) .left in omega arith
@@ -63,7 +63,7 @@ loop-less c = let g = ((c .before .before .before .before .before .before .befor
 
 loop-again : tie.Need-loop-again Inv-loop μ-loop
 loop-again c = let P = c .before .before .before .before .before .before .before .before .before .before .before .before .before .pop in let W = c .before .before .before .before .visit-leaf in
-    visiting-leaf _ _ _ _ _ _ _ _ _ _ _ _ _ _ _ (c .before .before .before .before .before .before .before .before .before .before .before .before .before .before .before .before .before .before .before .loop .inv) ((c .before .before .before .before .before .before .before .before .before .before .before .before .before .before .before .before .goes-on .ensures) .goes (c .before .before .before .before .before .before .before .before .before .before .before .before .before .before .before .if1 .taken)) _ _ (P .ensures) (P .kept .0)
+    visiting-leaf _ _ _ _ _ _ _ _ _ _ _ _ _ _ _ _ (c .before .before .before .before .before .before .before .before .before .before .before .before .before .before .before .before .before .before .before .loop .inv) ((c .before .before .before .before .before .before .before .before .before .before .before .before .before .before .before .before .goes-on .ensures) .goes (c .before .before .before .before .before .before .before .before .before .before .before .before .before .before .before .if1 .taken)) _ _ (P .ensures) (P .kept .0)
     _ _ _ _ _ _ (c .before .before .before .before .before .before .before .before .before .before .level-in .ensures) (c .before .before .before .before .before .before .before .before .place-in .ensures) (c .before .before .before .before .before .before .before .before .before .page-in .ensures) (c .before .before .before .before .before .before .before .if2 .taken) (W .ensures) (W .kept .1 .1 .1 .1 .0) (W .kept .1 .1 .1 .1 .1 .0)
 
 sub-open-page : tie.Need-sub-open-page Inv-loop μ-loop
@@ -71,14 +71,14 @@ sub-open-page c = omega (arith, c .before .if2 .left)
 
 open-page-requires : tie.Need-open-page-requires Inv-loop μ-loop
 open-page-requires c κs = let P = c .before .before .before .before .before .before .before .pop in
-    visiting-opens _ _ _ _ _ _ _ _ _ _ _ _ _ _ _ (c .before .before .before .before .before .before .before .before .before .before .before .before .before .loop .inv) ((c .before .before .before .before .before .before .before .before .before .before .goes-on .ensures) .goes (c .before .before .before .before .before .before .before .before .before .if1 .taken)) _ _ (P .ensures) (P .kept .0) _ _ _ (c .before .before .before .before .level-in .ensures) (c .before .before .place-in .ensures) (c .before .before .before .page-in .ensures) (c .before .if2 .left)
+    visiting-opens _ _ _ _ _ _ _ _ _ _ _ _ _ _ _ _ (c .before .before .before .before .before .before .before .before .before .before .before .before .before .loop .inv) ((c .before .before .before .before .before .before .before .before .before .before .goes-on .ensures) .goes (c .before .before .before .before .before .before .before .before .before .if1 .taken)) _ _ (P .ensures) (P .kept .0) _ _ _ (c .before .before .before .before .level-in .ensures) (c .before .before .place-in .ensures) (c .before .before .before .page-in .ensures) (c .before .if2 .left)
 
 loop-less-2 : tie.Need-loop-less-2 Inv-loop μ-loop
 loop-less-2 c = let g = ((c .before .before .before .before .before .before .before .before .before .before .before .before .before .goes-on .ensures) .goes (c .before .before .before .before .before .before .before .before .before .before .before .before .if1 .taken)) .left in omega arith
 
 loop-again-2 : tie.Need-loop-again-2 Inv-loop μ-loop
 loop-again-2 c = let P = c .before .before .before .before .before .before .before .before .before .before .pop in let O = c .before .before .open-page in
-    visiting-open _ _ _ _ _ _ _ _ _ _ _ _ _ _ _ (c .before .before .before .before .before .before .before .before .before .before .before .before .before .before .before .before .loop .inv) ((c .before .before .before .before .before .before .before .before .before .before .before .before .before .goes-on .ensures) .goes (c .before .before .before .before .before .before .before .before .before .before .before .before .if1 .taken)) _ _ (P .ensures) (P .kept .0) _ _ _ (c .before .before .before .before .before .before .before .level-in .ensures) (c .before .before .before .before .before .place-in .ensures) (c .before .before .before .before .before .before .page-in .ensures) (c .before .before .before .before .if2 .left) _ _ (O .ensures _) (O .kept .0)
+    visiting-open _ _ _ _ _ _ _ _ _ _ _ _ _ _ _ _ (c .before .before .before .before .before .before .before .before .before .before .before .before .before .before .before .before .loop .inv) ((c .before .before .before .before .before .before .before .before .before .before .before .before .before .goes-on .ensures) .goes (c .before .before .before .before .before .before .before .before .before .before .before .before .if1 .taken)) _ _ (P .ensures) (P .kept .0) _ _ _ (c .before .before .before .before .before .before .before .level-in .ensures) (c .before .before .before .before .before .place-in .ensures) (c .before .before .before .before .before .before .page-in .ensures) (c .before .before .before .before .if2 .left) _ _ (O .ensures _ _) (O .kept .0)
 
 same-length : tie.Need-same-length Inv-loop μ-loop
 same-length c = c .before .before .before .before .loop .inv .lengths ∙ length-set (now (c .before .before .before .before .before .before .before .before .before .before .before .before .before .before .args .slots)) 0 (c .before .before .before .before .before .before .root-key .result)
@@ -90,7 +90,7 @@ same-length-3 : tie.Need-same-length-3 Inv-loop μ-loop
 same-length-3 c = c .before .before .before .before .loop .inv .lengthsT
 
 returns : tie.Need-returns Inv-loop μ-loop
-returns c = visiting-ends _ _ _ _ _ _ _ _ _ _ _ _ _ _ _ (c .before .before .before .before .loop .inv) (c .before .goes-on .ensures .ends (c .if1 .left))
+returns c = visiting-ends _ _ _ _ _ _ _ _ _ _ _ _ _ _ _ _ (c .before .before .before .before .loop .inv) (c .before .goes-on .ensures .ends (c .if1 .left))
 
 pub best-first-spec : {M : Type 1} → statement M
 best-first-spec =

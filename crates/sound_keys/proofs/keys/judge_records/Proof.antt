@@ -39,14 +39,17 @@ shared-slice-read-lead-key c = omega (arith, c .before .before .before .before .
 lead-key-requires : tie.Need-lead-key-requires Inv-loop μ-loop
 lead-key-requires c κs = let s = (c .before .before .before .before .before) in let t = c .before .loop-test .taken in (s .pre .0, omega (arith, t, s .pre .2), s .pre .3, s .pre .4, s .pre .5 .top (c .before .before .loop .i) t)
 
-key-fine-requires : tie.Need-key-fine-requires Inv-loop μ-loop
-key-fine-requires c κs = search needs
+read-stage-requires : tie.Need-read-stage-requires Inv-loop μ-loop
+read-stage-requires c κs = let s = (c .before .before .before .before .before .before) in (s .pre .0, omega (arith, c .before .before .loop-test .taken, s .pre .2))
+
+record-fine-requires : tie.Need-record-fine-requires Inv-loop μ-loop
+record-fine-requires c κs = search needs
 
 faulty-requires : tie.Need-faulty-requires Inv-loop μ-loop
 faulty-requires c κs = search needs
 
 returns : tie.Need-returns Inv-loop μ-loop
-returns c = let s = (c .before .before .before .before .before .before .before .before .before) in let L = c .before .before .before .before .before .before .loop in let x = leafOf (s .args .page .now) in let slots = leaf-slots (s .args .page .now) in let r : Record = getD (x .records) (L .i) noRecord in let K = c .before .before .before .lead-key in let t = c .before .before .before .before .before .loop-test .taken in span-faulty (RecordsBad.field (L .i) r (take-spot noRecord (x .records) (L .i) (x .count) (omega (arith, t, s .pre .1)) (omega (arith, s .pre .1, s .pre .2, slots))) (faults (key-judged (s .args .d) r (K .result) (K .ensures) (c .before .before .key-fine .ensures)) (not-true _ (c .before .if1 .taken)))) (c .faulty .ensures)
+returns c = let s = (c .before .before .before .before .before .before .before .before .before .before) in let L = c .before .before .before .before .before .before .before .loop in let x = leafOf (s .args .page .now) in let slots = leaf-slots (s .args .page .now) in let r : Record = getD (x .records) (L .i) noRecord in let K = c .before .before .before .before .lead-key in let t = c .before .before .before .before .before .before .loop-test .taken in span-faulty (RecordsBad.field (L .i) r (take-spot noRecord (x .records) (L .i) (x .count) (omega (arith, t, s .pre .1)) (omega (arith, s .pre .1, s .pre .2, slots))) (faults (key-judged (s .args .d) r (K .result) (c .before .before .before .read-stage .result) (K .ensures) (c .before .before .before .read-stage .ensures) (c .before .before .record-fine .ensures)) (not-true _ (c .before .if1 .taken)))) (c .faulty .ensures)
 
 rank-requires : tie.Need-rank-requires Inv-loop μ-loop
 rank-requires c κs = search needs
@@ -55,7 +58,7 @@ faulty-requires-2 : tie.Need-faulty-requires-2 Inv-loop μ-loop
 faulty-requires-2 c κs = search needs
 
 returns-2 : tie.Need-returns-2 Inv-loop μ-loop
-returns-2 c = let s = (c .before .before .before .before .before .before .before .before .before .before .before) in let L = c .before .before .before .before .before .before .before .before .loop in let x = leafOf (s .args .page .now) in let slots = leaf-slots (s .args .page .now) in let r : Record = getD (x .records) (L .i) noRecord in let K = c .before .before .before .before .before .lead-key in let t = c .before .before .before .before .before .before .before .loop-test .taken in let R = c .before .before .rank in span-faulty (RecordsBad.order (ranks-stop (rankOf (s .args .d)) noRecord (x .records) (L .i) (L .first) (L .next) (x .count) (R .result) (omega (arith, t, s .pre .1)) (omega (arith, s .pre .1, s .pre .2, slots)) (rank-is (s .args .d) r (K .result) (R .result) (K .ensures) (R .ensures .0)) (L .inv .1) (c .before .if2 .taken))) (c .faulty2 .ensures)
+returns-2 c = let s = (c .before .before .before .before .before .before .before .before .before .before .before .before) in let L = c .before .before .before .before .before .before .before .before .before .loop in let x = leafOf (s .args .page .now) in let slots = leaf-slots (s .args .page .now) in let r : Record = getD (x .records) (L .i) noRecord in let K = c .before .before .before .before .before .before .lead-key in let t = c .before .before .before .before .before .before .before .before .loop-test .taken in let R = c .before .before .rank in span-faulty (RecordsBad.order (ranks-stop (rankOf (s .args .d)) noRecord (x .records) (L .i) (L .first) (L .next) (x .count) (R .result) (omega (arith, t, s .pre .1)) (omega (arith, s .pre .1, s .pre .2, slots)) (rank-is (s .args .d) r (K .result) (R .result) (K .ensures) (R .ensures .0)) (L .inv .1) (c .before .if2 .taken))) (c .faulty2 .ensures)
 
 first-of-requires : tie.Need-first-of-requires Inv-loop μ-loop
 first-of-requires c κs = search needs
@@ -67,10 +70,10 @@ add-i : tie.Need-add-i Inv-loop μ-loop
 add-i c = search needs
 
 loop-less : tie.Need-loop-less Inv-loop μ-loop
-loop-less c = omega (arith, c .before .before .before .before .before .before .before .loop-test .taken)
+loop-less c = omega (arith, c .before .before .before .before .before .before .before .before .loop-test .taken)
 
 loop-again : tie.Need-loop-again Inv-loop μ-loop
-loop-again c = let s = (c .before .before .before .before .before .before .before .before .before .before .before) in let L = c .before .before .before .before .before .before .before .before .loop in let x = leafOf (s .args .page .now) in let slots = leaf-slots (s .args .page .now) in let r : Record = getD (x .records) (L .i) noRecord in let K = c .before .before .before .before .before .lead-key in let t = c .before .before .before .before .before .before .before .loop-test .taken in let R = c .before .before .rank in (omega (arith, t), ranks-step (rankOf (s .args .d)) noRecord (x .records) (L .i) (L .first) (L .next) (R .result) (c .first-of .result) (omega (arith, t, s .pre .2, slots)) (rank-is (s .args .d) r (K .result) (R .result) (K .ensures) (R .ensures .0)) (L .inv .1) (c .before .if2 .left) (c .first-of .ensures ∙ ap (λ (t : Bool). if t (R .result) (L .first)) (L .inv .3)), all-more noRecord (x .records) (L .i) (omega (arith, t, s .pre .2, slots)) (L .inv .2) (passes (key-judged (s .args .d) r (K .result) (K .ensures) (c .before .before .before .before .key-fine .ensures)) (not-false _ (c .before .before .before .if1 .left))), later-items (L .i) (R .result))
+loop-again c = let s = (c .before .before .before .before .before .before .before .before .before .before .before .before) in let L = c .before .before .before .before .before .before .before .before .before .loop in let x = leafOf (s .args .page .now) in let slots = leaf-slots (s .args .page .now) in let r : Record = getD (x .records) (L .i) noRecord in let K = c .before .before .before .before .before .before .lead-key in let t = c .before .before .before .before .before .before .before .before .loop-test .taken in let R = c .before .before .rank in (omega (arith, t), ranks-step (rankOf (s .args .d)) noRecord (x .records) (L .i) (L .first) (L .next) (R .result) (c .first-of .result) (omega (arith, t, s .pre .2, slots)) (rank-is (s .args .d) r (K .result) (R .result) (K .ensures) (R .ensures .0)) (L .inv .1) (c .before .if2 .left) (c .first-of .ensures ∙ ap (λ (t : Bool). if t (R .result) (L .first)) (L .inv .3)), all-more noRecord (x .records) (L .i) (omega (arith, t, s .pre .2, slots)) (L .inv .2) (passes (key-judged (s .args .d) r (K .result) (c .before .before .before .before .before .read-stage .result) (K .ensures) (c .before .before .before .before .before .read-stage .ensures) (c .before .before .before .before .record-fine .ensures)) (not-false _ (c .before .before .before .if1 .left))), later-items (L .i) (R .result))
 
 span-to-requires : tie.Need-span-to-requires Inv-loop μ-loop
 span-to-requires c κs = search needs
@@ -88,7 +91,8 @@ judge-records-spec =
     mul-lead-key
     shared-slice-read-lead-key
     lead-key-requires
-    key-fine-requires
+    read-stage-requires
+    record-fine-requires
     faulty-requires
     returns
     rank-requires

@@ -6,16 +6,22 @@ use Rattle.test_model.proofs.scan.measure.Statement.{statement}
 use Rattle.test_model.proofs.scan.measure.Tie as tie
 
 abbrev Inv-loop : tie.InvT-loop
-Inv-loop distances₀ places live q p₀ distances p = (p ≤ length live) × (length distances ≡ length live)
+Inv-loop distances₀ places marks q stages p₀ distances p = (p ≤ length marks) × (length distances ≡ length marks)
 
 abbrev μ-loop : tie.MeasureT-loop
-μ-loop distances₀ places live q p₀ distances p = length live - p
+μ-loop distances₀ places marks q stages p₀ distances p = length marks - p
 
 loop-holds : tie.Need-loop-holds Inv-loop μ-loop
 loop-holds c = search needs
 
-shared-slice-read-distance-if : tie.Need-shared-slice-read-distance-if Inv-loop μ-loop
-shared-slice-read-distance-if c = search needs
+mul-chosen : tie.Need-mul-chosen Inv-loop μ-loop
+mul-chosen c = search needs
+
+shared-slice-read-chosen : tie.Need-shared-slice-read-chosen Inv-loop μ-loop
+shared-slice-read-chosen c = search needs
+
+chosen-requires : tie.Need-chosen-requires Inv-loop μ-loop
+chosen-requires c κs = search needs
 
 mul-distance-if : tie.Need-mul-distance-if Inv-loop μ-loop
 mul-distance-if c = search needs
@@ -51,7 +57,9 @@ measure-spec =
     Inv-loop
     μ-loop
     loop-holds
-    shared-slice-read-distance-if
+    mul-chosen
+    shared-slice-read-chosen
+    chosen-requires
     mul-distance-if
     distance-if-requires
     mul-distances

@@ -4,10 +4,10 @@ use Rattle.test_scan.proofs.batches.ask_all.Statement.{statement}
 use Rattle.test_scan.proofs.batches.ask_all.Tie as tie
 
 abbrev Inv-loop : tie.InvT-loop
-Inv-loop index places live pages b leaves seed n s₀ seen₀ i₀ s seen i = i ≤ n
+Inv-loop index places marks pages b leaves seed n s₀ seen₀ i₀ s seen i = i ≤ n
 
 abbrev μ-loop : tie.MeasureT-loop
-μ-loop index places live pages b leaves seed n s₀ seen₀ i₀ s seen i = n - i
+μ-loop index places marks pages b leaves seed n s₀ seen₀ i₀ s seen i = n - i
 
 batch-seed-requires : tie.Need-batch-seed-requires Inv-loop μ-loop
 batch-seed-requires c κs = search needs

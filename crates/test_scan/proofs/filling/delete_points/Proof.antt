@@ -6,10 +6,10 @@ use Rattle.test_scan.proofs.filling.delete_points.Statement.{statement}
 use Rattle.test_scan.proofs.filling.delete_points.Tie as tie
 
 abbrev Inv-loop : tie.InvT-loop
-Inv-loop index₀ live₀ first refused₀ p₀ index live refused p = (p ≤ length live₀ + 3) × (refused ≤ p) × (length index ≡ length index₀) × (length live ≡ length live₀)
+Inv-loop index₀ marks₀ first refused₀ p₀ index marks refused p = (p ≤ length marks₀ + 3) × (refused ≤ p) × (length index ≡ length index₀) × (length marks ≡ length marks₀)
 
 abbrev μ-loop : tie.MeasureT-loop
-μ-loop index₀ live₀ first refused₀ p₀ index live refused p = length live₀ + 3 - p
+μ-loop index₀ marks₀ first refused₀ p₀ index marks refused p = length marks₀ + 3 - p
 
 loop-holds : tie.Need-loop-holds Inv-loop μ-loop
 loop-holds c = search needs

@@ -13,6 +13,12 @@ point-at-requires c κs = search needs
 id-of-requires : tie.Need-id-of-requires
 id-of-requires c κs = search needs
 
+stage-in-requires : tie.Need-stage-in-requires
+stage-in-requires c κs = search needs
+
+stamp-in-requires : tie.Need-stamp-in-requires
+stamp-in-requires c κs = search needs
+
 array-share-prefix-point : tie.Need-array-share-prefix-point
 array-share-prefix-point c = search needs
 
@@ -35,6 +41,8 @@ insert-point-spec =
     mul-point-at
     point-at-requires
     id-of-requires
+    stage-in-requires
+    stamp-in-requires
     array-share-prefix-point
     slice-aggregate-insert
     insert-requires

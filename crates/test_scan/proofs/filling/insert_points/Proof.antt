@@ -6,13 +6,19 @@ use Rattle.test_scan.proofs.filling.insert_points.Statement.{statement}
 use Rattle.test_scan.proofs.filling.insert_points.Tie as tie
 
 abbrev Inv-loop : tie.InvT-loop
-Inv-loop index₀ places live₀ n d refused₀ p₀ index live refused p = (p ≤ n) × (refused ≤ p) × (length index ≡ length index₀) × (length live ≡ length live₀)
+Inv-loop index₀ places marks₀ n d seed refused₀ s₀ p₀ index marks refused s p = (p ≤ n) × (refused ≤ p) × (length index ≡ length index₀) × (length marks ≡ length marks₀)
 
 abbrev μ-loop : tie.MeasureT-loop
-μ-loop index₀ places live₀ n d refused₀ p₀ index live refused p = n - p
+μ-loop index₀ places marks₀ n d seed refused₀ s₀ p₀ index marks refused s p = n - p
 
 loop-holds : tie.Need-loop-holds Inv-loop μ-loop
 loop-holds c = search needs
+
+leap-requires : tie.Need-leap-requires Inv-loop μ-loop
+leap-requires c κs = search needs
+
+drawn-mark-requires : tie.Need-drawn-mark-requires Inv-loop μ-loop
+drawn-mark-requires c κs = search needs
 
 insert-if-requires : tie.Need-insert-if-requires Inv-loop μ-loop
 insert-if-requires c κs = search needs
@@ -45,6 +51,8 @@ insert-points-spec =
     Inv-loop
     μ-loop
     loop-holds
+    leap-requires
+    drawn-mark-requires
     insert-if-requires
     add-refused
     add-p

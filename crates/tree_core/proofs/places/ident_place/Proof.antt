@@ -40,7 +40,7 @@ returns c = let a = c .before .before .before .before .before .before .args in
     let T = c .before .before .loop-test .taken in
     let M = leafAt (now (a .index)) (a .page) in
     let slots = records-slots (now (a .index)) (a .page) in (
-      leading-stop (otherIdent (a .id)) (record { id = 0; coords = [] }) (M .records) (M .count) _ (L .i) (L .i) (L .inv .2) (omega arith) (omega arith)
+      leading-stop (otherIdent (a .id)) (record { id = 0; stage = 0; stamp = 0; coords = [] }) (M .records) (M .count) _ (L .i) (L .i) (L .inv .2) (omega arith) (omega arith)
           (other-no _ (a .id) (sym (c .before .ident-at .ensures) ∙ c .if1 .taken)),
       omega arith,
     )
@@ -59,7 +59,7 @@ loop-again c = let a = c .before .before .before .before .before .before .args i
     let slots = records-slots (now (a .index)) (a .page) in (
       L .inv .0,
       omega arith,
-      leading-step (otherIdent (a .id)) (record { id = 0; coords = [] }) (M .records) (M .count) _ (L .i) (L .i) (L .inv .2) (omega arith) (omega arith)
+      leading-step (otherIdent (a .id)) (record { id = 0; stage = 0; stamp = 0; coords = [] }) (M .records) (M .count) _ (L .i) (L .i) (L .inv .2) (omega arith) (omega arith)
           (other-yes _ (a .id) (λ e. c .if1 .left (c .before .ident-at .ensures ∙ e))),
     )
 
@@ -68,7 +68,7 @@ returns-2 c = let a = c .before .before .before .before .args in
     let L = c .before .loop in
     let M = leafAt (now (a .index)) (a .page) in
     let all = length-filled (M .records) _ (M .count) (records-slots (now (a .index)) (a .page)) (L .inv .0) in
-    (leading-end (otherIdent (a .id)) (record { id = 0; coords = [] }) (M .records) (M .count) _ (L .i) (L .i) (L .inv .2) (omega arith), omega arith)
+    (leading-end (otherIdent (a .id)) (record { id = 0; stage = 0; stamp = 0; coords = [] }) (M .records) (M .count) _ (L .i) (L .i) (L .inv .2) (omega arith), omega arith)
 
 pub ident-place-spec : {M : Type 1} → statement M
 ident-place-spec =

@@ -45,7 +45,7 @@ returns : tie.Need-returns Inv-loop μ-loop
 returns c = let S = (c .before .before .before .before .before .before) in
     let L = c .before .before .before .before .loop in
     let K = c .before .record-rank in (
-      leading-stop (rankBelow (S .args .d) (S .args .rank)) (record { id = 0; coords = [] }) (S .args .t1 .records) (S .args .t1 .count) _ (L .i) (L .i) (L .inv .3) (omega arith) (omega arith)
+      leading-stop (rankBelow (S .args .d) (S .args .rank)) (record { id = 0; stage = 0; stamp = 0; coords = [] }) (S .args .t1 .records) (S .args .t1 .count) _ (L .i) (L .i) (L .inv .3) (omega arith) (omega arith)
           (le-ltb _ (S .args .rank) (omega (arith, K .ensures, c .if1 .taken))),
       omega arith,
       omega arith,
@@ -64,7 +64,7 @@ loop-again c = let S = (c .before .before .before .before .before .before) in
       L .inv .0,
       L .inv .1,
       omega arith,
-      leading-step (rankBelow (S .args .d) (S .args .rank)) (record { id = 0; coords = [] }) (S .args .t1 .records) (S .args .t1 .count) _ (L .i) (L .i) (L .inv .3) (omega arith) (omega arith)
+      leading-step (rankBelow (S .args .d) (S .args .rank)) (record { id = 0; stage = 0; stamp = 0; coords = [] }) (S .args .t1 .records) (S .args .t1 .count) _ (L .i) (L .i) (L .inv .3) (omega arith) (omega arith)
           (lt-ltb _ (S .args .rank) (omega (arith, K .ensures, c .if1 .left))),
     )
 

@@ -3,20 +3,26 @@ use native.Mathlib.Omega.{arith}
 use Prim.Native.Nat.{_-_, _≤_}
 use lib.ListN.{length}
 use mathlib.Core.Logic.{⊎-elim}
-use Rattle.test_model.proofs.scan.live_count.Statement.{statement}
-use Rattle.test_model.proofs.scan.live_count.Tie as tie
+use Rattle.test_model.proofs.scan.candidate_count.Statement.{statement}
+use Rattle.test_model.proofs.scan.candidate_count.Tie as tie
 
 abbrev Inv-loop : tie.InvT-loop
-Inv-loop live n₀ p₀ n p = (p ≤ length live) × (n ≤ p)
+Inv-loop marks stages n₀ p₀ n p = (p ≤ length marks) × (n ≤ p)
 
 abbrev μ-loop : tie.MeasureT-loop
-μ-loop live n₀ p₀ n p = length live - p
+μ-loop marks stages n₀ p₀ n p = length marks - p
 
 loop-holds : tie.Need-loop-holds Inv-loop μ-loop
 loop-holds c = search needs
 
-shared-slice-read-if1 : tie.Need-shared-slice-read-if1 Inv-loop μ-loop
-shared-slice-read-if1 c = search needs
+mul-chosen : tie.Need-mul-chosen Inv-loop μ-loop
+mul-chosen c = search needs
+
+shared-slice-read-chosen : tie.Need-shared-slice-read-chosen Inv-loop μ-loop
+shared-slice-read-chosen c = search needs
+
+chosen-requires : tie.Need-chosen-requires Inv-loop μ-loop
+chosen-requires c κs = search needs
 
 add-n : tie.Need-add-n Inv-loop μ-loop
 add-n c = search needs
@@ -33,14 +39,16 @@ loop-again c = ⊎-elim (λ w. omega arith) (λ w. omega arith) (c .if1 .came)
 returns : tie.Need-returns Inv-loop μ-loop
 returns c = search needs
 
-pub live-count-spec : {M : Type 1} → statement M
-live-count-spec =
+pub candidate-count-spec : {M : Type 1} → statement M
+candidate-count-spec =
     tie.close
     (tie.spec
     Inv-loop
     μ-loop
     loop-holds
-    shared-slice-read-if1
+    mul-chosen
+    shared-slice-read-chosen
+    chosen-requires
     add-n
     add-p
     loop-less

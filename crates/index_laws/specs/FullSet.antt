@@ -1,0 +1,56 @@
+-- full-set (02, Q-2: "The full set returns what 01 does"), for the question as an act: with all six marks set, number, rows and count are those of
+-- 01's question, which knows no stages.
+use mathlib.Core.Path.{_≡_, refl}
+use mathlib.Core.Bool.{true}
+use mathlib.Core.Logic.{inl, inr}
+use mathlib.Core.List.{List, [], _∷_, _++_}
+use Prim.Native.Nat.{ℕ, _≤_}
+use lib.Dec.{lit≤}
+use lib.IntN.{ℤ}
+use lib.ListN.{length}
+use Rattle.geometry.specs.Stored.{inRange}
+use Rattle.pagestore.specs.Store.{viewOf}
+use Rattle.tree_model.specs.Sound.{Permitted, SoundIndex}
+use Rattle.search_model.specs.Asked.{fullSet}
+use Rattle.search_model.specs.FullSet.{plainDue}
+use Rattle.index_query.specs.Asking.{Question, nearestOf, sought, maxRows}
+use Rattle.index_query.specs.AskingLaws.{full-exact}
+use Rattle.index_refusals.specs.Refusals.{Rule, First, questionRules, badLength, unsound, badFeatures, badCoordinate, badK, fewRows, badStageSet}
+use Rattle.index_refusals.specs.RefusalLaws.{question-sound, question-carried, put-in}
+use Rattle.index_refusals.specs.Outcomes.{foundWith}
+
+-- 01's table of a question: the k nearest of a point, with n rows lent (sound as 02 has it: with a stored stage above 5 the number is 2)
+abbrev pub plainRules : List ℕ → List ℤ → ℕ → ℕ → List Rule
+plainRules b p k n =
+    (badLength, Permitted (length b))
+    ∷ (unsound, SoundIndex b)
+    ∷ (badFeatures, length p ≡ viewOf b .d)
+    ∷ (badCoordinate, inRange p ≡ true)
+    ∷ (badK, (1 ≤ k) × (k ≤ maxRows))
+    ∷ (fewRows, k ≤ n)
+    ∷ []
+
+-- a last rule that holds can be left out
+left-out : (rules : List Rule) (rule : Rule) (m : ℕ) → rule .1 → First (rules ++ (rule ∷ [])) m → First rules m
+left-out [] rule m h (inl e) = absurd (e .1 h)
+left-out [] rule m h (inr e) = e .1
+left-out (x ∷ rules) rule m h (inl e) = inl e
+left-out (x ∷ rules) rule m h (inr e) = inr (e .0, left-out rules rule m h (e .1))
+
+module _ (b : List ℕ) (p : List ℤ) (k n : ℕ) where
+  abbrev pub ofAll : Question
+  ofAll = nearestOf p k fullSet
+
+  -- 16 is never given, and each other number where 01 gives it
+  pub full-code : (m : ℕ) → First (questionRules b ofAll n) m → First (plainRules b p k n) m
+  full-code m f = left-out (plainRules b p k n) (badStageSet, (1 ≤ fullSet) × (fullSet ≤ fullSet)) m (lit≤ tt, lit≤ tt) f
+
+  pub plain-code : (m : ℕ) → First (plainRules b p k n) m → First (questionRules b ofAll n) m
+  plain-code m f = put-in (plainRules b p k n) [] (badStageSet, (1 ≤ fullSet) × (fullSet ≤ fullSet)) m (λ h. (lit≤ tt, lit≤ tt)) f
+
+  -- rows and count: the k nearest of all live records, and the number of leaves in the set that goes with them
+  pub full-answer : First (plainRules b p k n) 0 → foundWith 0 b ofAll ≡ plainDue (viewOf b) (sought ofAll)
+  full-answer h =
+      let f = plain-code 0 h in
+      let a = question-carried b ofAll n f in
+      full-exact b (question-sound b ofAll n f) ofAll (a .features) (a .some) refl
