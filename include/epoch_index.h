@@ -29,9 +29,9 @@ extern "C" {
 
 /* The version of these headers and of the library they declare. */
 #define EPOCH_INDEX_VERSION_MAJOR 0
-#define EPOCH_INDEX_VERSION_MINOR 3
+#define EPOCH_INDEX_VERSION_MINOR 4
 #define EPOCH_INDEX_VERSION_PATCH 0
-#define EPOCH_INDEX_VERSION "0.3.0"
+#define EPOCH_INDEX_VERSION "0.4.0"
 
 /* Limits. A length in bytes is a multiple of the page, EPOCH_INDEX_MIN_PAGES to EPOCH_INDEX_MAX_PAGES of them. */
 #define EPOCH_INDEX_PAGE_BYTES 1024
@@ -84,12 +84,13 @@ enum epoch_index_code {
     EPOCH_INDEX_BAD_STAGE_SET = 16    /* stage set is 0 or above 63 */
 };
 
-/* A record that a question found: its squared distance from the asked point, its identifier, and the position (0, 1, 2 .. in key order) of
- * the leaf that holds it. */
+/* A record that a question found: its squared distance from the asked point, its identifier, its stamp, and the position (0, 1, 2 .. in key
+ * order) of the leaf that holds it. Rows stand nearest first, equal distances by later stamp, then by lower identifier. */
 typedef struct epoch_index_row {
     uint64_t distance;
     uint32_t id;
-    uint32_t position;
+    uint32_t stamp;
+    uint64_t position;
 } epoch_index_row;
 
 /* A caller's tally: the questions carried out and the leaves that they read. It begins as two zeros; each stays at 4,294,967,295 once it
@@ -122,9 +123,9 @@ uint32_t epoch_index_insert(uint8_t *index, size_t index_len, uint32_t id, uint8
 uint32_t epoch_index_delete(uint8_t *index, size_t index_len, uint32_t id);
 
 /* Asks for the `k` records nearest to `point` among those whose stage is in the set `stages`; with EPOCH_INDEX_ALL_STAGES that is every
- * record. They are written to the first `count` of the `rows_len` rows lent, nearest first, equal distances by lower identifier: k of
- * them, or all of these stages if fewer are live; rows past those keep their contents. The tally counts the question and the leaves it
- * read. Refused, rows and tally stay as they are.
+ * record. They are written to the first `count` of the `rows_len` rows lent, nearest first, equal distances by later stamp, then by lower
+ * identifier, an order that also decides which are among the k: k of them, or all of these stages if fewer are live; rows past those keep
+ * their contents. The tally counts the question and the leaves it read. Refused, rows and tally stay as they are.
  * Refusals: EPOCH_INDEX_BAD_LENGTH, EPOCH_INDEX_UNSOUND, EPOCH_INDEX_BAD_FEATURES, EPOCH_INDEX_BAD_COORDINATE, EPOCH_INDEX_BAD_K,
  * EPOCH_INDEX_FEW_ROWS, EPOCH_INDEX_BAD_STAGE_SET. */
 epoch_index_answer epoch_index_question(const uint8_t *index, size_t index_len, const int16_t *point, size_t point_len, size_t k,

@@ -16,7 +16,7 @@ use scan::Scan;
 use std::env;
 use std::hint::black_box;
 use std::process::{Command, Stdio};
-use time::{quickest, timed};
+use time::{quickest, spread, timed};
 
 const FEATURES: [usize; 5] = [1, 2, 4, 8, 16];
 const SIZES: [usize; 3] = [1_000, 10_000, 65_535];
@@ -297,11 +297,8 @@ fn report(lines: &[String]) {
     println!("{}", if cfg!(others) { " k-d tree | flat | R*-tree |" } else { "" });
     println!("|---|{}", "---|".repeat(if cfg!(others) { 11 } else { 8 }));
     of_table(lines, '1').for_each(|line| println!("{line}"));
-    let mut again: Vec<f64> = of_table(lines, '0').map(|ratio| ratio.parse().unwrap()).collect();
-    again.sort_by(f64::total_cmp);
-    let (last, part) = (again.len() - 1, again.len() / 20);
-    print!("\nThe scan timed twice in each line: {:.2} to {:.2}, ", again[0], again[last]);
-    println!("nine tenths of the lines {:.2} to {:.2}.", again[part], again[last - part]);
+    let again = of_table(lines, '0').map(|ratio| ratio.parse().unwrap()).collect();
+    println!("\nThe scan timed twice in each line: {}.", spread(again));
     println!("\n## Check, insert and delete\n");
     print!("| points | d | n | check / touch | insert / map | delete / map | tabled insert / map | tabled delete / map ");
     println!("| insert act / check | delete act / check |");

@@ -18,3 +18,11 @@ pub fn quickest(rounds: usize, tasks: &mut [&mut dyn FnMut()]) -> Vec<f64> {
     }
     least
 }
+
+/// What ratios range over, and nine tenths of them.
+pub fn spread(mut ratios: Vec<f64>) -> String {
+    ratios.sort_by(f64::total_cmp);
+    let (last, part) = (ratios.len() - 1, ratios.len() / 20);
+    let [least, greatest, low, high] = [0, last, part, last - part].map(|at| ratios[at]);
+    format!("{least:.2} to {greatest:.2}, nine tenths of the lines {low:.2} to {high:.2}")
+}

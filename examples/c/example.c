@@ -17,7 +17,8 @@ static void print(epoch_index_answer answer, const epoch_index_row *rows)
 {
     printf("question: code %" PRIu32 ", %zu rows, %" PRIu32 " leaves\n", answer.code, answer.count, answer.leaves);
     for (size_t i = 0; i < answer.count; i++)
-        printf("  id %" PRIu32 " at squared distance %" PRIu64 ", leaf %" PRIu32 "\n", rows[i].id, rows[i].distance, rows[i].position);
+        printf("  id %" PRIu32 " at squared distance %" PRIu64 ", leaf %" PRIu64 ", stamp %" PRIu32 "\n", rows[i].id, rows[i].distance,
+               rows[i].position, rows[i].stamp);
 }
 
 int main(void)
@@ -31,10 +32,11 @@ int main(void)
         return 1;
 
     printf("make: code %" PRIu32 "\n", epoch_index_make(index, LENGTH, 2));
-    printf("insert 7: code %" PRIu32 "\n", epoch_index_insert(index, LENGTH, 7, EPOCH_INDEX_N3, TEN_PM, first, 2));
-    printf("insert 4: code %" PRIu32 "\n", epoch_index_insert(index, LENGTH, 4, EPOCH_INDEX_REM, TEN_PM + 30, second, 2));
-    printf("insert 4 again: code %" PRIu32 "\n", epoch_index_insert(index, LENGTH, 4, EPOCH_INDEX_REM, TEN_PM + 30, first, 2));
-    printf("insert 4 with stage 6: code %" PRIu32 "\n", epoch_index_insert(index, LENGTH, 4, 6, TEN_PM + 30, first, 2));
+    /* 7 is as far from the asked point as 4, and later: it comes first */
+    printf("insert 7: code %" PRIu32 "\n", epoch_index_insert(index, LENGTH, 7, EPOCH_INDEX_N3, TEN_PM + 30, first, 2));
+    printf("insert 4: code %" PRIu32 "\n", epoch_index_insert(index, LENGTH, 4, EPOCH_INDEX_REM, TEN_PM, second, 2));
+    printf("insert 4 again: code %" PRIu32 "\n", epoch_index_insert(index, LENGTH, 4, EPOCH_INDEX_REM, TEN_PM, first, 2));
+    printf("insert 4 with stage 6: code %" PRIu32 "\n", epoch_index_insert(index, LENGTH, 4, 6, TEN_PM, first, 2));
     print(epoch_index_question(index, LENGTH, asked, 2, K, EPOCH_INDEX_ALL_STAGES, rows, K, &tally), rows);
     print(epoch_index_question(index, LENGTH, asked, 2, K, EPOCH_INDEX_STAGE_BIT(EPOCH_INDEX_N3), rows, K, &tally), rows);
     print(epoch_index_question(index, LENGTH, asked, 2, K, 0, rows, K, &tally), rows);

@@ -1,9 +1,9 @@
 #!/usr/bin/env python3
 """A model of the acts program, apart from the product: reads an acts text on standard input and writes what the program has to print.
 
-It shares nothing with the index. Points and stages are kept in dictionaries and a question is a full scan of them. The tree is a list of leaves and
-of groups of pages, by the specification's rules of splitting and evening out, so that leaves, their spans and the free pages are known. The bound of a
-leaf is found by a plain search over all pairs of its span. Slow; meant for texts of a few thousand lines.
+It shares nothing with the index. Points, stages and stamps are kept in dictionaries and a question is a full scan of them. The tree is a list of leaves
+and of groups of pages, by the specification's rules of splitting and evening out, so that leaves, their spans and the free pages are known. The bound
+of a leaf is found by a plain search over all pairs of its span. Slow; meant for texts of a few thousand lines.
 """
 import sys
 
@@ -30,7 +30,7 @@ def field(text, low, high):
 
 
 def values(line, d):
-    """Act, identifier, k, stage and point of a line, or None. The stamp has to be readable, and that is all."""
+    """Act, identifier, k, stage, stamp and point of a line, or None."""
     if len(line) > 256:
         return None
     parts = line.split(b" ")
@@ -40,7 +40,7 @@ def values(line, d):
     got = [field(p, low, high) for p, (low, high) in zip(parts, ranges)]
     if any(v is None for v in got):
         return None
-    return *got[:4], tuple(got[5:])
+    return *got[:5], tuple(got[5:])
 
 
 def pair(point):
@@ -106,6 +106,7 @@ class Index:
         self.d = d
         self.points = {}
         self.stages = {}
+        self.stamps = {}
         self.root = Page(0, [])
         self.free = PAGES - 2
 
@@ -127,7 +128,7 @@ class Index:
             run += 1
         return run + 1
 
-    def insert(self, i, stage, point):
+    def insert(self, i, stage, stamp, point):
         if any(abs(c) > 1000 for c in point):
             return 4
         if i == 0:
@@ -141,6 +142,7 @@ class Index:
             return 9
         self.points[i] = point
         self.stages[i] = stage
+        self.stamps[i] = stamp
         way, page = self.path(key)
         page.items = sorted(page.items + [key])
         while len(page.items) > MOST:
@@ -162,7 +164,7 @@ class Index:
         if i not in self.points:
             return 7
         key = pair(self.points.pop(i)) + (i,)
-        del self.stages[i]
+        del self.stages[i], self.stamps[i]
         way, page = self.path(key)
         page.items.remove(key)
         while way and len(page.items) < LEAST:
@@ -186,14 +188,18 @@ class Index:
         return 0
 
     def question(self, q, k, marks):
-        """The code, the rows and the number of leaves; marks has bit s for each stage s that is looked for."""
+        """The code, the rows and the number of leaves; marks has bit s for each stage s that is looked for.
+
+        Rows go by lower distance, then by later stamp, then by lower identifier.
+        """
         if any(abs(c) > 1000 for c in q):
             return 4, [], 0
         if not 1 <= k <= 64:
             return 10, [], 0
         if not 1 <= marks <= 63:
             return 16, [], 0
-        rows = sorted((distance(p, q), i) for i, p in self.points.items() if marks & 2 ** self.stages[i])[:k]
+        ordered = sorted((distance(p, q), -self.stamps[i], i) for i, p in self.points.items() if marks & 2 ** self.stages[i])
+        rows = [(dist, i) for dist, _, i in ordered[:k]]
         leaves = [l for l in self.root.leaves() if l.items]
         if len(rows) < k:
             return 0, rows, len(leaves)
@@ -228,9 +234,9 @@ def main():
         if got is None:
             print(n, 13, 0, 0, 0)
             continue
-        act, i, k, stage, point = got
+        act, i, k, stage, stamp, point = got
         if act == 1:
-            print(n, index.insert(i, stage, point), i, 0, 0)
+            print(n, index.insert(i, stage, stamp, point), i, 0, 0)
         elif act == 2:
             print(n, index.delete(i), i, 0, 0)
         else:

@@ -8,8 +8,8 @@ fn print(asked: Result<Found, Refusal>) {
     match asked {
         Ok(found) => {
             println!("question: {} rows, {} leaves", found.rows.len(), found.leaves);
-            for Row { id, distance, position, .. } in found.rows {
-                println!("  id {id} at squared distance {distance}, leaf {position}");
+            for Row { id, distance, position, stamp, .. } in found.rows {
+                println!("  id {id} at squared distance {distance}, leaf {position}, stamp {stamp}");
             }
         }
         Err(refusal) => println!("question refused: {} ({refusal})", refusal.code()),
@@ -19,8 +19,9 @@ fn print(asked: Result<Found, Refusal>) {
 fn main() -> Result<(), Box<dyn std::error::Error>> {
     let mut tally = Tally::default();
     let mut index = Index::make(vec![0; 64 * PAGE_BYTES], 2)?;
-    index.insert(Epoch { id: 7, stage: Stage::N3, stamp: TEN_PM }, &[-300, 100])?;
-    let fourth = Epoch { id: 4, stage: Stage::Rem, stamp: TEN_PM + 30 };
+    // as far from the asked point as 4, and later: it comes first
+    index.insert(Epoch { id: 7, stage: Stage::N3, stamp: TEN_PM + 30 }, &[-300, 100])?;
+    let fourth = Epoch { id: 4, stage: Stage::Rem, stamp: TEN_PM };
     index.insert(fourth, &[100, -300])?;
     if let Err(refusal) = index.insert(fourth, &[5, 5]) {
         println!("insert 4 again refused: {} ({refusal})", refusal.code());

@@ -1,9 +1,10 @@
 //! The epoch index: an exact nearest-neighbour index over lent bytes.
 //!
 //! An epoch is a point of 1 to 16 whole numbers from -1,000 to 1,000 with an identifier, a sleep stage and a stamp ([`Epoch`]). A question
-//! asks for the epochs nearest to a point among those of some stages ([`StageSet`]). An index is whole pages of 1,024 bytes, 2 to 16,384 of
-//! them, and lies in its bytes entirely: they may be stored and read back as they are. The work is done by libepoch_index.a, each function
-//! of which is proved to meet its contract; this crate is a thin safe layer over it.
+//! asks for the epochs nearest to a point among those of some stages ([`StageSet`]); of those at equal distance the one with the later stamp
+//! comes first, then the one with the lower identifier. An index is whole pages of 1,024 bytes, 2 to 16,384 of them, and lies in its bytes
+//! entirely: they may be stored and read back as they are. The work is done by libepoch_index.a, each function of which is proved to meet
+//! its contract; this crate is a thin safe layer over it.
 //!
 //! - [`Index`]: five acts, each of which checks the whole index first and so is right about any bytes.
 //! - [`SoundIndex`]: checked once, by [`SoundIndex::open`], and changed by nothing but its own methods, which therefore need no check.
@@ -50,7 +51,7 @@ pub const MAX_FEATURES: usize = 16;
 /// The most points that an index holds.
 pub const MAX_POINTS: usize = 65_535;
 
-/// A record that a question found.
+/// A record that a question found. Its stage is no part of the row; [`TabledIndex::epoch`] tells it.
 #[derive(Clone, Copy, Debug, Default, PartialEq, Eq, Hash)]
 #[non_exhaustive]
 #[repr(C)]
@@ -59,8 +60,10 @@ pub struct Row {
     pub distance: u64,
     /// Its identifier.
     pub id: u32,
+    /// Its stamp. Of rows at equal distance the one with the later stamp comes first, then the one with the lower identifier.
+    pub stamp: u32,
     /// The position, in key order, of the leaf that holds it.
-    pub position: u32,
+    pub position: u64,
 }
 
 /// A caller's tally. Each count stays at 4,294,967,295 once it would pass it.
@@ -77,7 +80,8 @@ pub struct Tally {
 #[derive(Clone, Debug, Default, PartialEq, Eq, Hash)]
 #[non_exhaustive]
 pub struct Found {
-    /// The nearest records of the stages asked for, nearest first, equal distances by lower identifier: k of them, or all if fewer are live.
+    /// The nearest records of the stages asked for, nearest first, equal distances by later stamp, then by lower identifier: k of them, or
+    /// all if fewer are live.
     pub rows: Vec<Row>,
     /// The number of leaves read.
     pub leaves: u32,

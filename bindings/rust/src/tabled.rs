@@ -78,7 +78,7 @@ impl<B: StableBytes> TabledIndex<B> {
         self.kept.contains_key(&id)
     }
 
-    /// The epoch of a live identifier.
+    /// The epoch of a live identifier, with the stage, which no row has.
     pub fn epoch(&self, id: u32) -> Option<Epoch> {
         self.kept.get(&id).map(|&Kept { stage, stamp, .. }| Epoch { id, stage, stamp })
     }

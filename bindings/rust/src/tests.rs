@@ -3,11 +3,12 @@ mod series;
 mod stack;
 mod stages;
 mod tabled;
+mod ties;
 
 use super::*;
 use std::cell::Cell;
 use std::error::Error;
-use std::mem::{align_of, size_of};
+use std::mem::{align_of, offset_of, size_of};
 
 fn bytes(pages: usize) -> Vec<u8> {
     vec![0xa5; pages * PAGE_BYTES]
@@ -21,11 +22,11 @@ fn epoch(id: u32) -> Epoch {
     Epoch { id, stage: Stage::ALL[id as usize % 6], stamp: id.wrapping_mul(0x9e37_79b9) }
 }
 
-/// d = 1, identifiers 1..=n at 1..=n, inserted upward.
+/// d = 1, identifiers 1..=n at 1..=n, inserted upward, all stamps 0.
 fn upward(pages: usize, n: u32) -> Index<Vec<u8>> {
     let mut index = Index::make(bytes(pages), 1).unwrap();
     for id in 1..=n {
-        index.insert(epoch(id), &[id as i16]).unwrap();
+        index.insert(Epoch { stamp: 0, ..epoch(id) }, &[id as i16]).unwrap();
     }
     index
 }
@@ -42,8 +43,14 @@ impl Random {
         (self.0 >> 33) % n
     }
 
+    /// Any stamp, or one of a few, so that stamps are equal too.
+    fn stamp(&mut self) -> u32 {
+        let any = (self.below(1 << 16) << 16 | self.below(1 << 16)) as u32;
+        [0, 1, 1 << 31, u32::MAX, any][self.below(5) as usize]
+    }
+
     fn epoch(&mut self, id: u32) -> Epoch {
-        Epoch { id, stage: Stage::ALL[self.below(6) as usize], stamp: self.below(1 << 32) as u32 }
+        Epoch { id, stage: Stage::ALL[self.below(6) as usize], stamp: self.stamp() }
     }
 
     fn stages(&mut self) -> StageSet {
@@ -57,7 +64,8 @@ impl Random {
 
 #[test]
 fn layout_is_that_of_the_header() {
-    assert_eq!((size_of::<Row>(), align_of::<Row>()), (16, 8));
+    assert_eq!((size_of::<Row>(), align_of::<Row>()), (24, 8));
+    assert_eq!([offset_of!(Row, distance), offset_of!(Row, id), offset_of!(Row, stamp), offset_of!(Row, position)], [0, 8, 12, 16]);
     assert_eq!((size_of::<Tally>(), align_of::<Tally>()), (8, 4));
     assert_eq!((size_of::<sys::Answer>(), align_of::<sys::Answer>()), (24, 8));
 }
@@ -100,7 +108,7 @@ fn leaves_read() {
     }
     let all = index.question(&[1], 18, StageSet::ALL, &mut tally).unwrap();
     assert_eq!((all.rows.len(), all.leaves), (17, 2));
-    assert_eq!(all.rows[16], Row { distance: 256, id: 17, position: 1 });
+    assert_eq!(all.rows[16], Row { distance: 256, id: 17, position: 1, stamp: 0 });
     assert_eq!(tally, Tally { questions: 4, leaves: 6 });
 }
 
@@ -125,7 +133,8 @@ fn refused_acts_change_nothing() {
     let mut index = upward(4, 17);
     let before = index.as_bytes().to_vec();
     let mut tally = Tally { questions: 5, leaves: 6 };
-    let mut rows = [Row { distance: 1, id: 2, position: 3 }; 2];
+    let mark = Row { distance: 1, id: 2, position: 3, stamp: 4 };
+    let mut rows = [mark; 2];
     assert_eq!(index.insert(epoch(18), &[1, 2]), Err(Refusal::BadFeatures));
     assert_eq!(index.insert(epoch(18), &[1001]), Err(Refusal::BadCoordinate));
     assert_eq!(index.insert(epoch(0), &[1]), Err(Refusal::ZeroIdentifier));
@@ -144,18 +153,19 @@ fn refused_acts_change_nothing() {
     assert_eq!(index.question_into(&[1], 2, StageSet::EMPTY, &mut rows, &mut tally), Err(Refusal::BadStageSet));
     assert_eq!(index.question(&[1], 2, StageSet::EMPTY, &mut tally), Err(Refusal::BadStageSet));
     assert_eq!(index.as_bytes(), before);
-    assert_eq!(rows, [Row { distance: 1, id: 2, position: 3 }; 2]);
+    assert_eq!(rows, [mark; 2]);
     assert_eq!(tally, Tally { questions: 5, leaves: 6 });
 }
 
 #[test]
 fn rows_past_those_returned_keep_their_contents() {
-    let index = upward(2, 1);
-    let mark = Row { distance: 7, id: 8, position: 9 };
+    let mut index = Index::make(bytes(2), 1).unwrap();
+    index.insert(epoch(1), &[1]).unwrap();
+    let mark = Row { distance: 7, id: 8, position: 9, stamp: 10 };
     let mut rows = [mark; 3];
     let mut tally = Tally { questions: u32::MAX, leaves: u32::MAX - 1 };
     assert_eq!(index.question_into(&[4], 2, StageSet::ALL, &mut rows, &mut tally), Ok(Counts { rows: 1, leaves: 1 }));
-    assert_eq!(rows, [Row { distance: 9, id: 1, position: 0 }, mark, mark]);
+    assert_eq!(rows, [Row { distance: 9, id: 1, position: 0, stamp: epoch(1).stamp }, mark, mark]);
     assert_eq!(tally, Tally { questions: u32::MAX, leaves: u32::MAX });
 }
 

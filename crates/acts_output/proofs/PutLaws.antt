@@ -34,10 +34,10 @@ rows-last n code leaves (y ∷ xs) x =
     ap (λ (t : List ℕ). resultLine n code (y .id) (y .distance) leaves ++ t) (rows-last n code leaves xs x)
     ∙ sym (append-assoc (resultLine n code (y .id) (y .distance) leaves) (rowLines n code leaves xs) (resultLine n code (x .id) (x .distance) leaves))
 
-module _ (n leaves : ℕ) (ds ts out : List ℕ) (at : ℕ) where
+module _ (n leaves : ℕ) (hs ls out : List ℕ) (at : ℕ) where
   -- the lines of the first i rows are stored in out from at on
   pub record Rowed (out' : List ℕ) (e i : ℕ) : Type 0 where
-    pub lines : Stored out out' at e (rowLines n 0 leaves (rowsIn ds ts i))
+    pub lines : Stored out out' at e (rowLines n 0 leaves (rowsIn hs ls i))
     pub room : e ≤ at + 105 * i
     pub same : length out' ≡ length out
 
@@ -45,15 +45,15 @@ module _ (n leaves : ℕ) (ds ts out : List ℕ) (at : ℕ) where
   unfolding rowLines
   rows-start = record { lines = record { bytes = refl; after = omega arith }; room = omega arith; same = refl }
 
-  pub rows-turn : (s t : List ℕ) (e r i : ℕ) (x : Row) → i < length ds → i < length ts → e + 105 ≤ length out → Rowed s e i → x ≡ rowOf (getD ds i 0) (getD ts i 0)
+  pub rows-turn : (s t : List ℕ) (e r i : ℕ) (x : Row) → i < length hs → i < length ls → e + 105 ≤ length out → Rowed s e i → x ≡ rowOf (getD hs i 0) (getD ls i 0)
       → Written s t e r (resultLine n 0 (x .id) (x .distance) leaves) → r ≤ e + 105 → length t ≡ length s → Rowed t r (i + 1)
-  rows-turn s t e r i x hd ht fit w same put room len =
+  rows-turn s t e r i x hh hl fit w same put room len =
       let q = w .same in let y = w .room in
-      let fits : i < length (rowsOf ds ts) = let z = length-rowsOf (suc i) ds ts (omega arith) (omega arith) in omega arith in
-      let more : rowsIn ds ts (i + 1) ≡ rowsIn ds ts i ++ (x ∷ []) =
-      ap (λ (m : ℕ). rowsIn ds ts m) (add-one i) ∙ take-suc (rowsOf ds ts) i x fits ∙ ap (λ (z : Row). rowsIn ds ts i ++ (z ∷ [])) (rowsOf-at i ds ts x hd ht ∙ sym same) in
-      let text : rowLines n 0 leaves (rowsIn ds ts (i + 1)) ≡ rowLines n 0 leaves (rowsIn ds ts i) ++ resultLine n 0 (x .id) (x .distance) leaves =
-      ap (rowLines n 0 leaves) more ∙ rows-last n 0 leaves (rowsIn ds ts i) x in
+      let fits : i < length (rowsOf hs ls) = let z = length-rowsOf (suc i) hs ls (omega arith) (omega arith) in omega arith in
+      let more : rowsIn hs ls (i + 1) ≡ rowsIn hs ls i ++ (x ∷ []) =
+      ap (λ (m : ℕ). rowsIn hs ls m) (add-one i) ∙ take-suc (rowsOf hs ls) i x fits ∙ ap (λ (z : Row). rowsIn hs ls i ++ (z ∷ [])) (rowsOf-at i hs ls x hh hl ∙ sym same) in
+      let text : rowLines n 0 leaves (rowsIn hs ls (i + 1)) ≡ rowLines n 0 leaves (rowsIn hs ls i) ++ resultLine n 0 (x .id) (x .distance) leaves =
+      ap (rowLines n 0 leaves) more ∙ rows-last n 0 leaves (rowsIn hs ls i) x in
       record {
         lines = subst (Stored out t at r) (sym text) (then out s t at e r _ _ (w .lines) (stored s t e r _ (omega arith) put));
         room = omega arith;
@@ -61,12 +61,12 @@ module _ (n leaves : ℕ) (ds ts out : List ℕ) (at : ℕ) where
       }
 
   pub rows-done : (out' : List ℕ) (e i count : ℕ) → count ≤ 64 → at + mostPrinted ≤ length out → i ≡ count → Rowed out' e i
-      → Puts (λ t. t ≡ rowLines n 0 leaves (rowsIn ds ts count)) mostPrinted out out' at e
+      → Puts (λ t. t ≡ rowLines n 0 leaves (rowsIn hs ls count)) mostPrinted out out' at e
   rows-done out' e i count few fit z w =
       let y = w .room in
       record {
-        text = rowLines n 0 leaves (rowsIn ds ts count);
+        text = rowLines n 0 leaves (rowsIn hs ls count);
         says = refl;
-        written = written out out' at e _ (omega arith) (subst (λ (m : ℕ). Stored out out' at e (rowLines n 0 leaves (rowsIn ds ts m))) z (w .lines));
+        written = written out out' at e _ (omega arith) (subst (λ (m : ℕ). Stored out out' at e (rowLines n 0 leaves (rowsIn hs ls m))) z (w .lines));
         room = omega arith;
       }

@@ -58,22 +58,22 @@ rows-zero : (b : List ℕ) (w : Question) (m : ℕ) → length (foundWith m b w 
 rows-zero b w zero e = refl
 rows-zero b w (suc m) e = absurd (e refl)
 
-length-rows : (ds ts : List ℕ) → length (rowsOf ds ts) ≤ length ds
+length-rows : (hs ls : List ℕ) → length (rowsOf hs ls) ≤ length hs
 unfolding rowsOf
-length-rows [] ts = omega arith
-length-rows (d ∷ ds) [] = omega arith
-length-rows (d ∷ ds) (t ∷ ts) = omega (arith, length-rows ds ts)
+length-rows [] ls = omega arith
+length-rows (h ∷ hs) [] = omega arith
+length-rows (h ∷ hs) (l ∷ ls) = omega (arith, length-rows hs ls)
 
-module _ (b : List ℕ) (w : Question) (ds ts : List ℕ) (o : Answer) (a : QuestionOutcome b w 64 ds ts o) where
+module _ (b : List ℕ) (w : Question) (hs ls : List ℕ) (o : Answer) (a : QuestionOutcome b w 64 hs ls o) where
   abbrev answer : Found
   answer = foundWith (o .code) b w
 
   -- no more rows than there are places for them
-  pub rows-fit : o .count ≤ length ds
+  pub rows-fit : o .count ≤ length hs
   rows-fit =
-      let e : o .count ≡ length (rowsIn ds ts (o .count)) = a .count ∙ ap length (sym (a .rows)) in
-      let l = length-take (o .count) (rowsOf ds ts) in
-      let m = length-rows ds ts in omega arith
+      let e : o .count ≡ length (rowsIn hs ls (o .count)) = a .count ∙ ap length (sym (a .rows)) in
+      let l = length-take (o .count) (rowsOf hs ls) in
+      let m = length-rows hs ls in omega arith
 
   module _ (n : ℕ) (out out' : List ℕ) (at r : ℕ) where
     pub asked-none : o .count ≡ 0 → Written out out' at r (resultLine n (o .code) 0 0 (o .leaves)) → r ≤ at + 105
@@ -90,7 +90,7 @@ module _ (b : List ℕ) (w : Question) (ds ts : List ℕ) (o : Answer) (a : Ques
       room = omega arith;
     }
 
-    pub asked-some : o .count ≢ 0 → Puts (λ t. t ≡ rowLines n 0 (o .leaves) (rowsIn ds ts (o .count))) mostPrinted out out' at r
+    pub asked-some : o .count ≢ 0 → Puts (λ t. t ≡ rowLines n 0 (o .leaves) (rowsIn hs ls (o .count))) mostPrinted out out' at r
         → Puts (Replies w b n) mostPrinted out out' at r
     asked-some z t =
         let some : length (answer .rows) ≢ 0 = λ e. z (a .count ∙ e) in
@@ -102,8 +102,8 @@ module _ (b : List ℕ) (w : Question) (ds ts : List ℕ) (o : Answer) (a : Ques
             answer = answer;
             done = (a .first, refl, refl);
             prints = t .says
-                ∙ ap (λ (x : ℕ). rowLines n x (o .leaves) (rowsIn ds ts (o .count))) (sym zero)
-                ∙ ap (λ (x : ℕ). rowLines n (o .code) x (rowsIn ds ts (o .count))) (a .leaves)
+                ∙ ap (λ (x : ℕ). rowLines n x (o .leaves) (rowsIn hs ls (o .count))) (sym zero)
+                ∙ ap (λ (x : ℕ). rowLines n (o .code) x (rowsIn hs ls (o .count))) (a .leaves)
                 ∙ ap (rowLines n (o .code) (answer .leaves)) (a .rows)
                 ∙ lines-some n (o .code) (answer .leaves) (answer .rows) some;
           };

@@ -59,9 +59,9 @@ fn question_line(
         mostPrinted (now (out .entry)) (now (out .exit)) at r
         ⌝ }
 {
-    let mut distances = [0u64; MAX_ROWS];
-    let mut tags = [0u64; MAX_ROWS];
-    let answer = index::question_outcome(index, point, what, MAX_ROWS, &mut distances, &mut tags);
+    let mut highs = [0u64; MAX_ROWS];
+    let mut lows = [0u64; MAX_ROWS];
+    let answer = index::question_outcome(index, point, what, MAX_ROWS, &mut highs, &mut lows);
     if answer.count == 0 {
         return put_result(
             out,
@@ -78,8 +78,8 @@ fn question_line(
         at,
         number,
         answer.leaves as u64,
-        &distances,
-        &tags,
+        &highs,
+        &lows,
         answer.count,
     )
 }

@@ -16,10 +16,10 @@ use Rattle.index_trusted.specs.Questions.{Places, TrustedOutcome}
 use Rattle.index_trusted.specs.QuestionLaws.{handed-over}
 use Rattle.index.specs.Questions.{QuestionOutcome, Questioned}
 
-pub asked-same : (b : List ℕ) → SoundIndex b → (w : Question) (m : ℕ) (ds ts : List ℕ) (r : Answer) → TrustedOutcome b w m ds ts r → QuestionOutcome b w m ds ts r
-asked-same b s w m ds ts r a =
+pub asked-same : (b : List ℕ) → SoundIndex b → (w : Question) (m : ℕ) (hs ls : List ℕ) (r : Answer) → TrustedOutcome b w m hs ls r → QuestionOutcome b w m hs ls r
+asked-same b s w m hs ls r a =
     record { first = question-same b s w m (r .code) (a .first); few = a .few; count = a .count; leaves = a .leaves; rows = a .rows; carried = λ z. a .carried z s }
 
-pub question-hands : (b : List ℕ) (w : Question) (lent : List Row) (tally : Tally) (ds ts : List ℕ) (o : Answer) → Places ds ts → QuestionOutcome b w (length lent) ds ts o
-    → (r : Answer) (lent' : List Row) (tally' : Tally) → Delivered o ds ts lent tally r lent' tally' → Questioned b w lent tally r lent' tally'
-question-hands b w lent tally ds ts o = handed-over (questionRules b w (length lent)) (Answers b w) b w lent tally ds ts o (question-carried b w (length lent))
+pub question-hands : (b : List ℕ) (w : Question) (lent : List Row) (tally : Tally) (hs ls : List ℕ) (o : Answer) → Places hs ls → QuestionOutcome b w (length lent) hs ls o
+    → (r : Answer) (lent' : List Row) (tally' : Tally) → Delivered o hs ls lent tally r lent' tally' → Questioned b w lent tally r lent' tally'
+question-hands b w lent tally hs ls o = handed-over (questionRules b w (length lent)) (Answers b w) b w lent tally hs ls o (question-carried b w (length lent))

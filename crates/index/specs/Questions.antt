@@ -17,4 +17,4 @@ Questioned b w lent tally r lent' tally' = QuestionedBy (questionRules b w (leng
 
 -- and before it is handed over, with n rows lent
 abbrev pub QuestionOutcome : List ℕ → Question → ℕ → List ℕ → List ℕ → Answer → Type 0
-QuestionOutcome b w n distances tags r = OutcomeBy (questionRules b w n) (Answers b w) b w distances tags r
+QuestionOutcome b w n highs lows r = OutcomeBy (questionRules b w n) (Answers b w) b w highs lows r

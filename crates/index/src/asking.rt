@@ -12,24 +12,24 @@ use index_trusted::refused;
 use search_rows::MAX_ROWS;
 use search_rows::Row;
 
-// A question before it is handed over, with so many rows lent: its rows, as distances and tags, go to two arrays.
+// A question before it is handed over, with so many rows lent: its rows, as upper and lower words, go to two arrays.
 pub fn question_outcome(
     index: &[u8],
     point: &[i16],
     what: Criteria,
     lent: usize,
-    distances: &mut [u64],
-    tags: &mut [u64],
+    highs: &mut [u64],
+    lows: &mut [u64],
 ) -> Answer
-    requires { ⌜ Places (now distances) (now tags) ⌝ }
+    requires { ⌜ Places (now highs) (now lows) ⌝ }
     ensures { λ r. ⌜ QuestionOutcome (now (index .entry)) (questionOf (now (point .entry)) what) lent
-        (now (distances .exit)) (now (tags .exit)) r ⌝ }
+        (now (highs .exit)) (now (lows .exit)) r ⌝ }
 {
     let code = refuse_index(index);
     if code != 0 {
         return refused(code);
     }
-    index_trusted::question_outcome(index, point, what, lent, distances, tags)
+    index_trusted::question_outcome(index, point, what, lent, highs, lows)
 }
 
 // The question for the nearest records of a point: its rows go to those lent, and the caller's tally counts it.
@@ -43,10 +43,10 @@ pub fn question(
     ensures { λ r. ⌜ Questioned (now (index .entry)) (questionOf (now (point .entry)) what)
         (now (rows .entry)) (now (tally .entry)) r (now (rows .exit)) (now (tally .exit)) ⌝ }
 {
-    let mut distances = [0u64; MAX_ROWS];
-    let mut tags = [0u64; MAX_ROWS];
-    let answer = question_outcome(index, point, what, rows.len(), &mut distances, &mut tags);
-    deliver(rows, tally, answer, &distances, &tags)
+    let mut highs = [0u64; MAX_ROWS];
+    let mut lows = [0u64; MAX_ROWS];
+    let answer = question_outcome(index, point, what, rows.len(), &mut highs, &mut lows);
+    deliver(rows, tally, answer, &highs, &lows)
 }
 
 // The question for callers that hold 64 rows and a tally by value.

@@ -16,13 +16,13 @@ abbrev pub carriedOut : Answer → Bool
 carriedOut a = eqb (a .code) 0
 
 abbrev pub rowsAfter : Answer → List ℕ → List ℕ → List Row → List Row
-rowsAfter a distances tags old = if (carriedOut a) (filled distances tags (a .count) old) old
+rowsAfter a highs lows old = if (carriedOut a) (filled highs lows (a .count) old) old
 
 abbrev pub tallyAfter : Answer → Tally → Tally
 tallyAfter a old = if (carriedOut a) (counted old (a .leaves)) old
 
 -- the answer, the rows and the tally after the answer a is handed over, with candidates in two arrays
-pub record Delivered (a : Answer) (distances tags : List ℕ) (rows : List Row) (tally : Tally) (answer : Answer) (rows' : List Row) (tally' : Tally) : Type 0 where
+pub record Delivered (a : Answer) (highs lows : List ℕ) (rows : List Row) (tally : Tally) (answer : Answer) (rows' : List Row) (tally' : Tally) : Type 0 where
   pub same : answer ≡ a
-  pub filling : rows' ≡ rowsAfter a distances tags rows
+  pub filling : rows' ≡ rowsAfter a highs lows rows
   pub count : tally' ≡ tallyAfter a tally

@@ -8,15 +8,15 @@ use Rattle.search_rows.specs.Held.{rowsIn}
 
 -- the row of candidate i
 abbrev pub rowAt : List ℕ → List ℕ → ℕ → Row
-rowAt distances tags i = rowOf (getD distances i 0) (getD tags i 0)
+rowAt highs lows i = rowOf (getD highs i 0) (getD lows i 0)
 
 -- how many rows are written: the candidates, at most as many as the arrays hold and as there are places for them
 abbrev pub rowsLent : List ℕ → List ℕ → ℕ → ℕ → ℕ
-rowsLent distances tags count lent = min (min count (min (length distances) (length tags))) lent
+rowsLent highs lows count lent = min (min count (min (length highs) (length lows))) lent
 
 -- the rows once the first n candidates are written
 abbrev pub upTo : List ℕ → List ℕ → List Row → ℕ → List Row
-upTo distances tags old n = rowsIn distances tags n ++ drop n old
+upTo highs lows old n = rowsIn highs lows n ++ drop n old
 
 abbrev pub filled : List ℕ → List ℕ → ℕ → List Row → List Row
-filled distances tags count old = upTo distances tags old (rowsLent distances tags count (length old))
+filled highs lows count old = upTo highs lows old (rowsLent highs lows count (length old))

@@ -45,13 +45,13 @@ pub fn tally_question(t: &mut Tally, leaves: u32)
 }
 
 // The row of candidate i.
-fn row_at(distances: &[u64], tags: &[u64], i: usize) -> Row
-    requires { ⌜ (i < length (now distances)) × (i < length (now tags)) ⌝ }
-    ensures { λ r. ⌜ r ≡ rowAt (now (distances .entry)) (now (tags .entry)) i ⌝ }
+fn row_at(highs: &[u64], lows: &[u64], i: usize) -> Row
+    requires { ⌜ (i < length (now highs)) × (i < length (now lows)) ⌝ }
+    ensures { λ r. ⌜ r ≡ rowAt (now (highs .entry)) (now (lows .entry)) i ⌝ }
 {
-    let distance = distances[i];
-    let tag = tags[i];
-    row_of(distance, tag)
+    let high = highs[i];
+    let low = lows[i];
+    row_of(high, low)
 }
 
 // The lesser of two numbers.
@@ -62,22 +62,22 @@ fn lesser(a: usize, b: usize) -> usize
 }
 
 // How many rows are written: the candidates, at most as many as the arrays hold and as there are places for them.
-fn fill_count(distances: &[u64], tags: &[u64], count: usize, lent: usize) -> usize
-    ensures { λ r. ⌜ r ≡ rowsLent (now (distances .entry)) (now (tags .entry)) count lent ⌝ }
+fn fill_count(highs: &[u64], lows: &[u64], count: usize, lent: usize) -> usize
+    ensures { λ r. ⌜ r ≡ rowsLent (now (highs .entry)) (now (lows .entry)) count lent ⌝ }
 {
-    let held = lesser(distances.len(), tags.len());
+    let held = lesser(highs.len(), lows.len());
     let n = lesser(count, held);
     lesser(n, lent)
 }
 
 // Fills the rows lent with the first `count` candidates, which two arrays hold; rows past them keep their contents.
-pub fn fill_rows(rows: &mut [Row], distances: &[u64], tags: &[u64], count: usize)
-    ensures { λ _. ⌜ now (rows .exit) ≡ filled (now (distances .entry)) (now (tags .entry)) count (now (rows .entry)) ⌝ }
+pub fn fill_rows(rows: &mut [Row], highs: &[u64], lows: &[u64], count: usize)
+    ensures { λ _. ⌜ now (rows .exit) ≡ filled (now (highs .entry)) (now (lows .entry)) count (now (rows .entry)) ⌝ }
 {
-    let n = fill_count(distances, tags, count, rows.len());
+    let n = fill_count(highs, lows, count, rows.len());
     let mut i: usize = 0;
     while i < n {
-        rows[i] = row_at(distances, tags, i);
+        rows[i] = row_at(highs, lows, i);
         i += 1;
     }
 }
@@ -95,14 +95,14 @@ pub fn deliver(
     rows: &mut [Row],
     tally: &mut Tally,
     answer: Answer,
-    distances: &[u64],
-    tags: &[u64],
+    highs: &[u64],
+    lows: &[u64],
 ) -> Answer
-    ensures { λ r. ⌜ Delivered answer (now (distances .entry)) (now (tags .entry)) (now (rows .entry)) (now (tally .entry))
+    ensures { λ r. ⌜ Delivered answer (now (highs .entry)) (now (lows .entry)) (now (rows .entry)) (now (tally .entry))
         r (now (rows .exit)) (now (tally .exit)) ⌝ }
 {
     if answer.code == 0 {
-        fill_rows(rows, distances, tags, answer.count);
+        fill_rows(rows, highs, lows, answer.count);
         tally_question(tally, answer.leaves);
     }
     answer

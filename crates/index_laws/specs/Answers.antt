@@ -2,17 +2,19 @@
 use mathlib.Core.Path.{_≡_, sym, subst}
 use mathlib.Core.Bool.{true}
 use mathlib.Core.Logic.{inl, inr}
-use mathlib.Core.List.{List, _∷_}
+use mathlib.Core.List.{List, _∷_, map}
 use Prim.Native.Nat.{ℕ}
 use lib.ListN.{length}
 use Rattle.geometry.specs.Stored.{inRange}
 use Rattle.pagestore.specs.Store.{viewOf}
 use Rattle.tree_model.specs.Trees.{leavesOf}
 use Rattle.tree_model.specs.Sound.{SoundIndex}
+use Rattle.search_rows.specs.Rows.{distance}
 use Rattle.search_model.specs.Questions.{Exchanged, readingOrder, toRead}
 use Rattle.search_model.specs.Visit.{leavesRead}
+use Rattle.search_model.specs.OneStamp.{dueById, OneStamp}
 use Rattle.index_query.specs.Asking.{Question, sought}
-use Rattle.index_query.specs.AskingLaws.{read-ordered, exchange-same}
+use Rattle.index_query.specs.AskingLaws.{read-ordered, any-stamp-exact, one-stamp-exact, exchange-same}
 use Rattle.index_refusals.specs.Refusals.{First, badFeatures, badCoordinate, questionRules, askedRules}
 use Rattle.index_refusals.specs.RefusalLaws.{question-sound, question-carried}
 use Rattle.index_refusals.specs.Outcomes.{foundWith}
@@ -27,6 +29,14 @@ module _ (b : List ℕ) (w : Question) (n : ℕ) (h : First (questionRules b w n
   -- which leaves it reads, and in which order: those of demand 3's set, by (bound, position)
   pub question-reads : leavesRead b (sought w) ≡ readingOrder (viewOf b) (sought w)
   question-reads = let a = question-carried b w n h in read-ordered b (question-sound b w n h) w (a .features) (a .some)
+
+  -- stamps-idle (02, Q-9): whatever the stamps, the rows' distances and the count are those of 01's tie rule, the lower identifier
+  pub stamps-idle : (map distance (foundWith 0 b w .rows) ≡ map distance (dueById (viewOf b) (sought w) .rows)) × (foundWith 0 b w .leaves ≡ dueById (viewOf b) (sought w) .leaves)
+  stamps-idle = let a = question-carried b w n h in any-stamp-exact b (question-sound b w n h) w (a .features) (a .some)
+
+  -- stamps-zero: where all candidates have one stamp, the rows too are those of 01's tie rule
+  pub stamps-zero : (s : ℕ) → OneStamp (viewOf b) (sought w) s → foundWith 0 b w ≡ dueById (viewOf b) (sought w)
+  stamps-zero s one = let a = question-carried b w n h in one-stamp-exact b (question-sound b w n h) w (a .features) (a .some) s one
 
 -- ---- EXCHANGE
 

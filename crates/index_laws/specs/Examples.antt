@@ -18,7 +18,7 @@ use Rattle.pagestore.specs.Store.{viewOf, pagesIn}
 use Rattle.tree_model.specs.Sound.{Permitted}
 use Rattle.search_model.specs.Asked.{fullSet}
 use Rattle.search_model.specs.Examples as search
-use Rattle.search_model.specs.Examples.{recordNo}
+use Rattle.search_model.specs.Examples.{recordNo, unstamped}
 use Rattle.search_model.proofs.ExampleLaws as search-laws
 use Rattle.index_query.specs.Asking.{Question, nearestOf}
 use Rattle.index_refusals.specs.Refusals.{First, questionRules}
@@ -63,7 +63,7 @@ all-fit =
     (also (fit 1 18 (rangeFrom 1 17) 2 (lit≤ tt) (lit≤ tt) (lit≤ tt))
     none))))
 
-upward-seventeen : (e : search.Example) → Fits e × search.Holds e → Holds (asked e)
+upward-seventeen : (e : search.Example) → Fits e × search.Holds unstamped e → Holds (asked e)
 unfolding recordNo viewOf inRange
 upward-seventeen e (f, h) b lent four =
     let s = seventeen-sound b lent four in

@@ -1,5 +1,5 @@
 -- full-set (02, Q-2: "The full set returns what 01 does"), for the question as an act: with all six marks set, number, rows and count are those of
--- 01's question, which knows no stages.
+-- 01's question, which knows no stages. The tie rule is Q-9's; where all live stamps are equal it is 01's too (`plain-answer`).
 use mathlib.Core.Path.{_≡_, refl}
 use mathlib.Core.Bool.{true}
 use mathlib.Core.Logic.{inl, inr}
@@ -12,9 +12,11 @@ use Rattle.geometry.specs.Stored.{inRange}
 use Rattle.pagestore.specs.Store.{viewOf}
 use Rattle.tree_model.specs.Sound.{Permitted, SoundIndex}
 use Rattle.search_model.specs.Asked.{fullSet}
+use Rattle.search_model.specs.Visit.{ranking}
 use Rattle.search_model.specs.FullSet.{plainDue}
+use Rattle.search_model.specs.OneStamp.{idRanking, OneStampLive}
 use Rattle.index_query.specs.Asking.{Question, nearestOf, sought, maxRows}
-use Rattle.index_query.specs.AskingLaws.{full-exact}
+use Rattle.index_query.specs.AskingLaws.{full-exact, plain-exact}
 use Rattle.index_refusals.specs.Refusals.{Rule, First, questionRules, badLength, unsound, badFeatures, badCoordinate, badK, fewRows, badStageSet}
 use Rattle.index_refusals.specs.RefusalLaws.{question-sound, question-carried, put-in}
 use Rattle.index_refusals.specs.Outcomes.{foundWith}
@@ -49,8 +51,15 @@ module _ (b : List ℕ) (p : List ℤ) (k n : ℕ) where
   plain-code m f = put-in (plainRules b p k n) [] (badStageSet, (1 ≤ fullSet) × (fullSet ≤ fullSet)) m (λ h. (lit≤ tt, lit≤ tt)) f
 
   -- rows and count: the k nearest of all live records, and the number of leaves in the set that goes with them
-  pub full-answer : First (plainRules b p k n) 0 → foundWith 0 b ofAll ≡ plainDue (viewOf b) (sought ofAll)
+  pub full-answer : First (plainRules b p k n) 0 → foundWith 0 b ofAll ≡ plainDue ranking (viewOf b) (sought ofAll)
   full-answer h =
       let f = plain-code 0 h in
       let a = question-carried b ofAll n f in
       full-exact b (question-sound b ofAll n f) ofAll (a .features) (a .some) refl
+
+  -- where all live stamps are equal (02, Q-9), 01's own rows and count
+  pub plain-answer : First (plainRules b p k n) 0 → (s : ℕ) → OneStampLive (viewOf b) s → foundWith 0 b ofAll ≡ plainDue idRanking (viewOf b) (sought ofAll)
+  plain-answer h s one =
+      let f = plain-code 0 h in
+      let a = question-carried b ofAll n f in
+      plain-exact b (question-sound b ofAll n f) ofAll (a .features) (a .some) refl s one

@@ -1,11 +1,11 @@
 -- What it means that a question is answered: demands 2 and 3, of the live records and the leaves of a sound index.
-use mathlib.Core.Path.{_≡_, ap}
+use mathlib.Core.Path.{_≡_, ap, _∙_}
 use mathlib.Core.Bool.{true}
 use mathlib.Core.List.{List, map}
 use Prim.Native.Nat.{ℕ, _≤_}
-use lib.ListN.{length}
+use lib.ListN.{length, take}
 use Rattle.lists.specs.Basics.{All}
-use Rattle.lists.specs.Sorting.{count, filter}
+use Rattle.lists.specs.Sorting.{count, filter, sort}
 use lib.IntN.{ℤ}
 use Rattle.geometry.specs.Points.{distance}
 use Rattle.geometry.specs.Features.{distTo}
@@ -15,17 +15,21 @@ use Rattle.pagestore.specs.Store.{viewOf}
 use Rattle.tree_model.specs.Trees.{pointIn, live, leavesOf}
 use Rattle.tree_model.specs.Sound.{SoundIndex}
 use Rattle.search_theory.specs.Nearest.{nearest}
+use Rattle.search_rows.specs.Rows.{newestFirst}
 use Rattle.search_model.specs.Asked.{inStages, fullSet, distanceTo}
 use Rattle.search_model.specs.Visit.{Answer as Found, ranking, found}
 use Rattle.search_model.specs.Questions.{liveCandidates, Called, rowsOf, toRead}
+use Rattle.search_model.proofs.ExactLaws.{rows-by-stamp}
 use Rattle.index_query.specs.Asking.{Question, sought, bare, bareOf}
 use Rattle.index_query.specs.AskingLaws.{among-live, full-live, plain-gap, live-rows, called-for, sought-exact}
 
 -- f answers the question w on index b
 pub record Answers (b : List ℕ) (w : Question) (f : Found) : Type 0 where
-  -- the k nearest of the rows of the live candidates, by distance and then by identifier, or all of them if there are fewer
+  -- the k nearest of the rows of the live candidates, or all of them if there are fewer
   pub rows : f .rows ≡ nearest ranking (w .k) (rowsOf (viewOf b) (sought w))
-  -- these are one for each live record that is looked for, with its distance from what is asked
+  -- by distance, then by later stamp, then by lower identifier (02, Q-9)
+  pub order : f .rows ≡ take (w .k) (sort newestFirst (rowsOf (viewOf b) (sought w)))
+  -- the rows of the live candidates are one for each live record that is looked for, with its distance from what is asked, and its stamp
   pub each : map bare (rowsOf (viewOf b) (sought w)) ≡ map (bareOf w) (liveCandidates (viewOf b) (sought w))
   -- looked for are the live records whose stage is in the set (02); with the full set each of them is
   pub among : liveCandidates (viewOf b) (sought w) ≡ filter (λ r. inStages (w .stages) (r .stage)) (live (viewOf b))
@@ -50,6 +54,7 @@ search-answers b s w d one =
     let e = sought-exact b s w d one in
     record {
       rows = ap (λ (f : Found). f .rows) e;
+      order = ap (λ (f : Found). f .rows) e ∙ rows-by-stamp b s (sought w);
       each = live-rows w (viewOf b);
       among = among-live w (viewOf b);
       full = full-live b s w;

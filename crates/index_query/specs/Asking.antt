@@ -42,12 +42,12 @@ abbrev pub sought : Question → Asked
 sought w = plainly (w .point) (w .k) (choiceOf w)
 
 -- a row without its position
-abbrev pub bare : Row → ℕ × ℕ
-bare x = (x .distance, x .id)
+abbrev pub bare : Row → ℕ × ℕ × ℕ
+bare x = (x .distance, x .stamp, x .id)
 
--- a record's squared distance from what is asked, and its identifier
-abbrev pub bareOf : Question → Record → ℕ × ℕ
-bareOf w r = (distanceTo (sought w) r, r .id)
+-- a record's squared distance from what is asked, its stamp and its identifier
+abbrev pub bareOf : Question → Record → ℕ × ℕ × ℕ
+bareOf w r = (distanceTo (sought w) r, r .stamp, r .id)
 
 -- what can be searched for
 pub record Searchable (w : Question) : Type 0 where

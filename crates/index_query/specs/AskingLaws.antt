@@ -17,11 +17,13 @@ use Rattle.pagestore.specs.Store.{View, viewOf}
 use Rattle.tree_model.specs.Trees.{Item, leaves, treeOf, live, leavesOf, pointIn}
 use Rattle.tree_model.specs.Sound.{SoundIndex}
 use Rattle.search_theory.specs.Nearest.{nearest}
+use Rattle.search_rows.specs.Rows.{distance as rowDistance}
 use Rattle.search_model.specs.Asked.{inStages, fullSet, distanceTo, candidate, Askable}
 use Rattle.search_model.specs.Branches.{rowOf, rowsAmong}
 use Rattle.search_model.specs.Visit.{ranking, found, leavesRead}
 use Rattle.search_model.specs.Questions.{rowsFrom, rowsOf, liveCandidates, Exchanged, AgreeBut, Called, readingOrder, toRead, unreadPages}
 use Rattle.search_model.specs.FullSet.{plainDue}
+use Rattle.search_model.specs.OneStamp.{idRanking, dueById, OneStamp, OneStampLive}
 use Rattle.search_model.proofs.AskedLaws.{plain-suits}
 use Rattle.search_model.proofs.SoundLaws.{leafItems, records-leaves}
 use Rattle.search_model.proofs.ExactLaws.{found-exact, leaves-read}
@@ -29,6 +31,7 @@ use Rattle.search_model.proofs.ExchangeLaws.{exchange}
 use Rattle.search_model.proofs.UnreadLaws.{unread-header, unread-bytes}
 use Rattle.search_model.proofs.SetLaws.{set-points}
 use Rattle.search_model.proofs.FullSetLaws.{live-full, full-set}
+use Rattle.search_model.proofs.OneStampLaws.{found-any-stamp, found-one-stamp, found-plain}
 use Rattle.index_query.specs.Asking.{Question, choiceOf, sought, bare, bareOf}
 
 -- ---- THE ROWS OF THE LIVE RECORDS
@@ -47,7 +50,7 @@ module _ (w : Question) where
   bare-leaf : (n : ℕ) (rs : List Record) → map bare (map (rowOf (sought w) n) rs) ≡ map (bareOf w) rs
   unfolding rowOf
   bare-leaf n [] = refl
-  bare-leaf n (r ∷ rs) = ap (λ (xs : List (ℕ × ℕ)). bareOf w r ∷ xs) (bare-leaf n rs)
+  bare-leaf n (r ∷ rs) = ap (λ (xs : List (ℕ × ℕ × ℕ)). bareOf w r ∷ xs) (bare-leaf n rs)
 
   bare-rows : (n : ℕ) (ts : List (Item 1)) → map bare (rowsFrom (sought w) n ts) ≡ map (bareOf w) (filter (candidate (sought w)) (concatMap leafItems ts))
   unfolding rowsFrom rowsAmong concatMap filter
@@ -55,7 +58,7 @@ module _ (w : Question) where
   bare-rows n (t ∷ ts) =
       let c = candidate (sought w) in
       map-append bare (map (rowOf (sought w) n) (filter c (t .1))) (rowsFrom (sought w) (suc n) ts)
-      ∙ ap₂ (λ (x y : List (ℕ × ℕ)). x ++ y) (bare-leaf n (filter c (t .1))) (bare-rows (suc n) ts)
+      ∙ ap₂ (λ (x y : List (ℕ × ℕ × ℕ)). x ++ y) (bare-leaf n (filter c (t .1))) (bare-rows (suc n) ts)
       ∙ sym (ap (map (bareOf w)) (filter-append c (t .1) (concatMap leafItems ts)) ∙ map-append (bareOf w) (filter c (t .1)) (filter c (concatMap leafItems ts)))
 
   pub live-rows : (v : View) → map bare (rowsOf v (sought w)) ≡ map (bareOf w) (liveCandidates v (sought w))
@@ -81,9 +84,20 @@ module _ (b : List ℕ) (s : SoundIndex b) (w : Question) (d : length (w .point)
     pub sought-exact : found b (sought w) ≡ record { rows = nearest ranking (w .k) (rowsOf (viewOf b) (sought w)); leaves = count (toRead (viewOf b) (sought w)) (leavesOf (viewOf b)) }
     sought-exact = found-exact b s (sought w) suits one
 
-    -- with the full set what 01 calls for (02)
-    pub full-exact : w .stages ≡ fullSet → found b (sought w) ≡ plainDue (viewOf b) (sought w)
+    -- with the full set what 01 calls for (02), but for the tie rule
+    pub full-exact : w .stages ≡ fullSet → found b (sought w) ≡ plainDue ranking (viewOf b) (sought w)
     full-exact e = full-set b s (sought w) e suits one
+
+    -- whatever the stamps, the distances and the count that 01's tie rule calls for (02, Q-9), and where they are equal, its rows
+    pub any-stamp-exact : (map rowDistance (found b (sought w) .rows) ≡ map rowDistance (dueById (viewOf b) (sought w) .rows)) × (found b (sought w) .leaves ≡ dueById (viewOf b) (sought w) .leaves)
+    any-stamp-exact = found-any-stamp b s (sought w) suits one
+
+    pub one-stamp-exact : (t : ℕ) → OneStamp (viewOf b) (sought w) t → found b (sought w) ≡ dueById (viewOf b) (sought w)
+    one-stamp-exact t a = found-one-stamp b s (sought w) suits one t a
+
+    -- with both, 01's own answer
+    pub plain-exact : w .stages ≡ fullSet → (t : ℕ) → OneStampLive (viewOf b) t → found b (sought w) ≡ plainDue idRanking (viewOf b) (sought w)
+    plain-exact e t a = found-plain b s (sought w) e suits one t a
 
     pub read-ordered : leavesRead b (sought w) ≡ readingOrder (viewOf b) (sought w)
     read-ordered = leaves-read b s (sought w) suits one

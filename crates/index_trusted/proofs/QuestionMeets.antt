@@ -38,8 +38,8 @@ use Rattle.index_trusted.proofs.QuestionWalk.{walk}
 
 -- what the callee says of its answer and of the arrays, and what is to be said of the answer, the rows and the tally
 module _ (name : Name) (Asks : List ℕ → Question → ℕ → List ℕ → List ℕ → Answer → Type 0) (Ends : List ℕ → Question → List Row → Tally → Answer → List Row → Tally → Type 0)
-    (hand-over : (b : List ℕ) (w : Question) (lent : List Row) (tally : Tally) (ds ts : List ℕ) (o : Answer) → Places ds ts → Asks b w (length lent) ds ts o
-    → (r : Answer) (lent' : List Row) (tally' : Tally) → Delivered o ds ts lent tally r lent' tally' → Ends b w lent tally r lent' tally') where
+    (hand-over : (b : List ℕ) (w : Question) (lent : List Row) (tally : Tally) (hs ls : List ℕ) (o : Answer) → Places hs ls → Asks b w (length lent) hs ls o
+    → (r : Answer) (lent' : List Row) (tally' : Tally) → Delivered o hs ls lent tally r lent' tally' → Ends b w lent tally r lent' tally') where
   module _ {M : Type 1} (𝓤 : URA M) (H : Heap 𝓤) (A : Atoms 𝓤) (W : Given 𝓤 H A) (at-mem : Memory → SProp 𝓤) (run : Routine → Fun 𝓤) where
     question-walks : (C : Calls 𝓤 H) (Λ : Loops 𝓤 H) → FmC 𝓤 H (W .laws) C → Triple 𝓤 (C name) (Core Asks 𝓤 H A) → Triple 𝓤 (C #index-answer·deliver) (Hand 𝓤 H A at-mem run)
         → Walks 𝓤 H A question.ended stayed (WpFn 𝓤 H C Λ (function name)) (clauses Ends 𝓤)

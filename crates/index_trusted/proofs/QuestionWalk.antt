@@ -62,8 +62,8 @@ use Rattle.index_trusted.proofs.QuestionMir.{R, Y, B, stayed, kv, nv, a
 
 -- what the callee says of its answer and of the arrays, and what is to be said of the answer, the rows and the tally
 module _ (name : Name) (Asks : List ℕ → Question → ℕ → List ℕ → List ℕ → Answer → Type 0) (Ends : List ℕ → Question → List Row → Tally → Answer → List Row → Tally → Type 0)
-    (hand-over : (b : List ℕ) (w : Question) (lent : List Row) (tally : Tally) (ds ts : List ℕ) (o : Answer) → Places ds ts → Asks b w (length lent) ds ts o
-    → (r : Answer) (lent' : List Row) (tally' : Tally) → Delivered o ds ts lent tally r lent' tally' → Ends b w lent tally r lent' tally') where
+    (hand-over : (b : List ℕ) (w : Question) (lent : List Row) (tally : Tally) (hs ls : List ℕ) (o : Answer) → Places hs ls → Asks b w (length lent) hs ls o
+    → (r : Answer) (lent' : List Row) (tally' : Tally) → Delivered o hs ls lent tally r lent' tally' → Ends b w lent tally r lent' tally') where
   module _ {M : Type 1} (𝓤 : URA M) (H : Heap 𝓤) (A : Atoms 𝓤) (W : Given 𝓤 H A) (at-mem : Memory → SProp 𝓤) (run : Routine → Fun 𝓤) (κ₀ κ₁ κ₂ κ₃ : Lft) (q₀ q₁ q₂ q₃ : Share)
       (xi : RefT (List ℕ)) (xp : RefT (List (i16 .Denot))) (k : Criteria) (b o : ℕ) (γ : GName) (xs : List Row) (bt ot : ℕ) (γt : GName) (h : Tally) where
     abbrev xr : RefT (List Row)
@@ -130,26 +130,26 @@ module _ (name : Name) (Asks : List ℕ → Question → ℕ → List ℕ → Li
       abbrev asked : Question
       asked = questionOf (xp .now) k
 
-      -- what is lent: the distances ds at (l, 0) under α for ν, and the tags ts at (m, 0) under β for μ
-      module _ (ds ts : List ℕ) (l m ν μ : ℕ) (α β : GName) where
-        abbrev xd : RefT (List ℕ)
-        xd = record { ptr = (l, 0); name = α; now = ds }
+      -- what is lent: the highs hs at (l, 0) under α for ν, and the lows ls at (m, 0) under β for μ
+      module _ (hs ls : List ℕ) (l m ν μ : ℕ) (α β : GName) where
+        abbrev xh : RefT (List ℕ)
+        xh = record { ptr = (l, 0); name = α; now = hs }
 
-        abbrev xg : RefT (List ℕ)
-        xg = record { ptr = (m, 0); name = β; now = ts }
+        abbrev xl : RefT (List ℕ)
+        xl = record { ptr = (m, 0); name = β; now = ls }
 
-        abbrev sd : Val
-        sd = sliceVal (l, 0) (length ds)
+        abbrev sh : Val
+        sh = sliceVal (l, 0) (length hs)
 
-        abbrev sg : Val
-        sg = sliceVal (m, 0) (length ts)
+        abbrev sl : Val
+        sl = sliceVal (m, 0) (length ls)
 
         -- ---- to the callee that finds the outcome
-        abbrev LentDistances : Fml
-        LentDistances = MutSlice (named 2) (ν ∷ []) u64 .own xd (sd ∷ [])
+        abbrev LentHighs : Fml
+        LentHighs = MutSlice (named 2) (ν ∷ []) u64 .own xh (sh ∷ [])
 
-        abbrev LentTags : Fml
-        LentTags = MutSlice (named 3) (μ ∷ []) u64 .own xg (sg ∷ [])
+        abbrev LentLows : Fml
+        LentLows = MutSlice (named 3) (μ ∷ []) u64 .own xl (sl ∷ [])
 
         abbrev CoreTokens : Item 𝓤
         CoreTokens = ‵ (flft κ₀ q₀) ⊛ (‵ (flft κ₁ q₁) ⊛ (‵ (flft (ν ∷ []) fullShare) ⊛ (‵ (flft (μ ∷ []) fullShare) ⊛ ‵ ftrue)))
@@ -158,41 +158,41 @@ module _ (name : Name) (Asks : List ℕ → Question → ℕ → List ℕ → Li
         core-lfts = (κ₀, (κ₁, (ν ∷ [], (μ ∷ [], tt))))
 
         abbrev core-args : RefT (List ℕ) × (RefT (List (i16 .Denot)) × (Criteria × (ℕ × (RefT (List ℕ) × (RefT (List ℕ) × Unit {0})))))
-        core-args = (xi, (xp, (k, (length xs, (xd, (xg, tt))))))
+        core-args = (xi, (xp, (k, (length xs, (xh, (xl, tt))))))
 
         abbrev to-core : Core Asks 𝓤 H A .Ghost
-        to-core = ((core-lfts, (q₀, (q₁, (fullShare, (fullShare, tt)))), tt, core-args, (si ∷ [], (sp ∷ [], (kv k ∷ [], (vint w64 (length xs) ∷ [], (sd ∷ [], (sg ∷ [], tt))))))), tt)
+        to-core = ((core-lfts, (q₀, (q₁, (fullShare, (fullShare, tt)))), tt, core-args, (si ∷ [], (sp ∷ [], (kv k ∷ [], (vint w64 (length xs) ∷ [], (sh ∷ [], (sl ∷ [], tt))))))), tt)
 
-        calls-core : Places ds ts → ent 𝓤 (⋆ 𝓤 H A ((CoreTokens ⊛ (‵ Index ⊛ (‵ Point ⊛ (‵ LentDistances ⊛ ‵ LentTags)))) ∷ [])) (Core Asks 𝓤 H A .pre to-core)
+        calls-core : Places hs ls → ent 𝓤 (⋆ 𝓤 H A ((CoreTokens ⊛ (‵ Index ⊛ (‵ Point ⊛ (‵ LentHighs ⊛ ‵ LentLows)))) ∷ [])) (Core Asks 𝓤 H A .pre to-core)
         calls-core p =
-            qed W ((CoreTokens ⊛ (‵ Index ⊛ (‵ Point ⊛ (‵ LentDistances ⊛ ‵ LentTags)))) ∷ []) ∵ says ! p $ split ! $ move ! (1 ∷ []) $ split ! $ move ! (1 ∷ []) $ split ! $ move ! (1 ∷ []) $ split ! $
-            -- [distances; tags; point; index; the tokens]
+            qed W ((CoreTokens ⊛ (‵ Index ⊛ (‵ Point ⊛ (‵ LentHighs ⊛ ‵ LentLows)))) ∷ []) ∵ says ! p $ split ! $ move ! (1 ∷ []) $ split ! $ move ! (1 ∷ []) $ split ! $ move ! (1 ∷ []) $ split ! $
+            -- [highs; lows; point; index; the tokens]
             nothing ! $ move ! (2 ∷ 0 ∷ []) $ fjoin ! $ move ! (1 ∷ 0 ∷ []) $ fjoin ! $ owned ! usize (Is usize) (uint-makes 𝓤 H A W w64) (length xs) _ (refl, room .0) $ fjoin ! $
             owned ! U.the-row (Is U.the-row) (LL.makes U.the-type U′.the-plain 𝓤 H A) k _ pk $ fjoin ! $ move ! (1 ∷ 0 ∷ []) $ fjoin ! $ move ! (1 ∷ 0 ∷ []) $ fjoin ! $ move ! (1 ∷ 0 ∷ []) $ join ! $ done !
 
-        goes-core : Places ds ts → ent 𝓤 (⋆ 𝓤 H A (raw Entered ∷ ‵ LentDistances ∷ ‵ LentTags ∷ ‵ (flft (ν ∷ []) fullShare) ∷ ‵ (flft (μ ∷ []) fullShare) ∷ [])) (sep 𝓤 (Core Asks 𝓤 H A .pre to-core) (⋆ 𝓤 H A (Kept ∷ [])))
+        goes-core : Places hs ls → ent 𝓤 (⋆ 𝓤 H A (raw Entered ∷ ‵ LentHighs ∷ ‵ LentLows ∷ ‵ (flft (ν ∷ []) fullShare) ∷ ‵ (flft (μ ∷ []) fullShare) ∷ [])) (sep 𝓤 (Core Asks 𝓤 H A .pre to-core) (⋆ 𝓤 H A (Kept ∷ [])))
         goes-core p =
             qed W (((‵ (flft κ₀ q₀) ⊛ (‵ (flft κ₁ q₁) ⊛ Lent)) ⊛ ‵ (owns (ShrSlice (named 0) κ₀ u8 ∷ ShrSlice (named 1) κ₁ i16 ∷ U.the-row ∷ MutSlice (named 2) κ₂ R ∷ MutRef (named 3) κ₃ Y ∷ []) a vals))
-            ∷ ‵ LentDistances ∷ ‵ LentTags ∷ ‵ (flft (ν ∷ []) fullShare) ∷ ‵ (flft (μ ∷ []) fullShare) ∷ []) ∵
+            ∷ ‵ LentHighs ∷ ‵ LentLows ∷ ‵ (flft (ν ∷ []) fullShare) ∷ ‵ (flft (μ ∷ []) fullShare) ∷ []) ∵
             split ! $ split ! $ move ! (1 ∷ []) $ split ! $ move ! (1 ∷ []) $
-            -- [Lent; t₁; t₀; owns; distances; tags; tν; tμ]
+            -- [Lent; t₁; t₀; owns; highs; lows; tν; tμ]
             nothing ! $ move ! (8 ∷ 0 ∷ []) $ join ! $ move ! (7 ∷ 0 ∷ []) $ join ! $ move ! (2 ∷ 0 ∷ []) $ join ! $ move ! (2 ∷ 0 ∷ []) $ join ! $
-            -- [the tokens; Lent; owns; distances; tags]
+            -- [the tokens; Lent; owns; highs; lows]
             move ! (2 ∷ []) $ fsplit ! $ use1 W (‵ Index ⊛ ‵ Index) (shr-slice-copy 𝓤 H A W (named 0) κ₀ u8 .twice xi (si ∷ [])) $ split ! $
             move ! (2 ∷ []) $ fsplit ! $ use1 W (‵ Point ⊛ ‵ Point) (shr-slice-copy 𝓤 H A W (named 1) κ₁ i16 .twice xp (sp ∷ [])) $ split ! $
             move ! (2 ∷ []) $ fsplit ! $ drop ! $ fsplit ! $ move ! (1 ∷ []) $ fsplit ! $
-            -- [tally; true; rows; point; point; index; index; the tokens; Lent; distances; tags]
+            -- [tally; true; rows; point; point; index; index; the tokens; Lent; highs; lows]
             move ! (2 ∷ 0 ∷ []) $ join ! $ move ! (0 ∷ 7 ∷ []) $ join ! $ move ! (4 ∷ 2 ∷ []) $ join ! $ move ! (1 ∷ 0 ∷ []) $ join ! $
-            -- [Kept; true; point; index; the tokens; distances; tags]
+            -- [Kept; true; point; index; the tokens; highs; lows]
             move ! (5 ∷ 6 ∷ []) $ join ! $ move ! (3 ∷ 0 ∷ []) $ join ! $ move ! (3 ∷ 0 ∷ []) $ join ! $ move ! (3 ∷ 0 ∷ []) $ join ! $
             use1 W (raw (Core Asks 𝓤 H A .pre to-core)) (calls-core p) $ frame ! $ keep ! (0 ∷ []) $ done !
 
         -- ---- to `deliver`
-        abbrev SharedDistances : Fml
-        SharedDistances = ShrSlice (named 2) (ν ∷ []) u64 .own xd (sd ∷ [])
+        abbrev SharedHighs : Fml
+        SharedHighs = ShrSlice (named 2) (ν ∷ []) u64 .own xh (sh ∷ [])
 
-        abbrev SharedTags : Fml
-        SharedTags = ShrSlice (named 3) (μ ∷ []) u64 .own xg (sg ∷ [])
+        abbrev SharedLows : Fml
+        SharedLows = ShrSlice (named 3) (μ ∷ []) u64 .own xl (sl ∷ [])
 
         abbrev HandTokens : Item 𝓤
         HandTokens = ‵ (flft κ₂ q₂) ⊛ (‵ (flft κ₃ q₃) ⊛ (‵ (flft (ν ∷ []) fullShare) ⊛ (‵ (flft (μ ∷ []) fullShare) ⊛ ‵ ftrue)))
@@ -202,17 +202,17 @@ module _ (name : Name) (Asks : List ℕ → Question → ℕ → List ℕ → Li
 
         module _ (u : Answer) (is : Is N.the-row u (nv u ∷ [])) where
           abbrev hand-args : RefT (List Row) × (RefT Tally × (Answer × (RefT (List ℕ) × (RefT (List ℕ) × Unit {0}))))
-          hand-args = (xr, (xt, (u, (xd, (xg, tt)))))
+          hand-args = (xr, (xt, (u, (xh, (xl, tt)))))
 
           abbrev to-hand : Hand 𝓤 H A at-mem run .Ghost
-          to-hand = ((hand-lfts, (q₂, (q₃, (fullShare, (fullShare, tt)))), tt, hand-args, (sr ∷ [], (vptr bt ot ∷ [], (nv u ∷ [], (sd ∷ [], (sg ∷ [], tt)))))), tt)
+          to-hand = ((hand-lfts, (q₂, (q₃, (fullShare, (fullShare, tt)))), tt, hand-args, (sr ∷ [], (vptr bt ot ∷ [], (nv u ∷ [], (sh ∷ [], (sl ∷ [], tt)))))), tt)
 
-          goes-hand : ent 𝓤 (⋆ 𝓤 H A (ForBoth ∷ ‵ SharedDistances ∷ ‵ SharedTags ∷ ‵ (flft (ν ∷ []) fullShare) ∷ ‵ (flft (μ ∷ []) fullShare) ∷ [])) (Hand 𝓤 H A at-mem run .pre to-hand)
+          goes-hand : ent 𝓤 (⋆ 𝓤 H A (ForBoth ∷ ‵ SharedHighs ∷ ‵ SharedLows ∷ ‵ (flft (ν ∷ []) fullShare) ∷ ‵ (flft (μ ∷ []) fullShare) ∷ [])) (Hand 𝓤 H A at-mem run .pre to-hand)
           goes-hand =
-              qed W (ForBoth ∷ ‵ SharedDistances ∷ ‵ SharedTags ∷ ‵ (flft (ν ∷ []) fullShare) ∷ ‵ (flft (μ ∷ []) fullShare) ∷ []) ∵ split ! $ split ! $ move ! (2 ∷ []) $ split ! $ move ! (1 ∷ []) $ split ! $
-              -- [t₃; true; t₂; rows; tally; distances; tags; tν; tμ]
+              qed W (ForBoth ∷ ‵ SharedHighs ∷ ‵ SharedLows ∷ ‵ (flft (ν ∷ []) fullShare) ∷ ‵ (flft (μ ∷ []) fullShare) ∷ []) ∵ split ! $ split ! $ move ! (2 ∷ []) $ split ! $ move ! (1 ∷ []) $ split ! $
+              -- [t₃; true; t₂; rows; tally; highs; lows; tν; tμ]
               move ! (8 ∷ 1 ∷ []) $ join ! $ move ! (7 ∷ 0 ∷ []) $ join ! $ move ! (1 ∷ 0 ∷ []) $ join ! $ move ! (1 ∷ 0 ∷ []) $ join ! $
-              -- [the tokens; rows; tally; distances; tags]
+              -- [the tokens; rows; tally; highs; lows]
               nothing ! $ move ! (5 ∷ 0 ∷ []) $ fjoin ! $ move ! (4 ∷ 0 ∷ []) $ fjoin ! $ owned ! N.the-row (Is N.the-row) (LL.makes N.the-type N′.the-plain 𝓤 H A) u _ is $ fjoin ! $
               move ! (3 ∷ 0 ∷ []) $ fjoin ! $ move ! (2 ∷ 0 ∷ []) $ fjoin ! $ move ! (1 ∷ 0 ∷ []) $ join ! $ frame ! $ done !
 
@@ -277,9 +277,9 @@ module _ (name : Name) (Asks : List ℕ → Question → ℕ → List ℕ → Li
               free0 ! $ by ! (exits r w zs t len e)
 
           -- the arrays have come back, and the first callee has said what it says of them and of its answer u
-          module _ (u : Answer) (is : Is N.the-row u (nv u ∷ [])) (ds ts : List ℕ) (many-d : length ds ≡ 64) (many-t : length ts ≡ 64) (said : Asks (xi .now) asked (length xs) ds ts u) where
+          module _ (u : Answer) (is : Is N.the-row u (nv u ∷ [])) (hs ls : List ℕ) (many-h : length hs ≡ 64) (many-l : length ls ≡ 64) (said : Asks (xi .now) asked (length xs) hs ls u) where
             abbrev Back : List (Item 𝓤)
-            Back = ‵ (Arr (mem u64) (length ds) .lies ds l₆ 0) ∷ ‵ (Arr (mem u64) (length ts) .lies ts l₇ 0) ∷ Shared ∷ Kept
+            Back = ‵ (Arr (mem u64) (length hs) .lies hs l₆ 0) ∷ ‵ (Arr (mem u64) (length ls) .lies ls l₇ 0) ∷ Shared ∷ Kept
                 ∷ Later (First (‵ (froom (tyInt w64) l₉ 0)) (‵ (fat fullShare N′.mir l₈ 0 (nv u))) (‵ (fdies arrayT l₇) ∷ ‵ (fdies arrayT l₆) ∷ Passed Room₀ []))
 
             abbrev Parts : List ℕ → ℕ → Fml
@@ -294,45 +294,45 @@ module _ (name : Name) (Asks : List ℕ → Question → ℕ → List ℕ → Li
                 assigns ! (addr ! (from ! (hop ! (look ! 32 refl) (stop !)))) (from ! (stop !)) (init ! 12 refl (tt, tt)) $
                 assigns ! (addr ! (from ! (stop !))) (from ! (stop !)) (init ! 10 refl (tt, tt)) $
                 assigns ! (agg ! (and-then ! (load ! (from ! (stop !)) (look ! 10 refl)) (and-then ! (lit ! tt) (no-more !)))) (from ! (stop !)) (init ! 8 refl (tt, (tt, (record { fits = lit< tt }, tt)))) $
-                rewrite ! 8 (λ (n : ℕ). ‵ (fat fullShare sharedsT l₁₈ 0 (sliceVal (l₆, 0) n))) (sym many-d) refl $
+                rewrite ! 8 (λ (n : ℕ). ‵ (fat fullShare sharedsT l₁₈ 0 (sliceVal (l₆, 0) n))) (sym many-h) refl $
                 assigns ! (addr ! (from ! (stop !))) (from ! (stop !)) (init ! 6 refl (tt, tt)) $
                 assigns ! (agg ! (and-then ! (load ! (from ! (stop !)) (look ! 6 refl)) (and-then ! (lit ! tt) (no-more !)))) (from ! (stop !)) (init ! 4 refl (tt, (tt, (record { fits = lit< tt }, tt)))) $
-                rewrite ! 4 (λ (n : ℕ). ‵ (fat fullShare sharedsT l₂₀ 0 (sliceVal (l₇, 0) n))) (sym many-t) refl $
+                rewrite ! 4 (λ (n : ℕ). ‵ (fat fullShare sharedsT l₂₀ 0 (sliceVal (l₇, 0) n))) (sym many-l) refl $
                 -- the loans
-                lft-new ! tt (λ ν. lft-new ! tt (λ μ. move ! (2 ∷ []) $ use1 W (‵ (Parts ds l₆)) (array-parts u64 (uint-vals w64) tt (uint-tells w64) 𝓤 H A W (uint-makes 𝓤 H A W w64) l₆ (length ds) ds) $
-                use1 W (later (some (λ (α : GName). ‵ (SharedDistances ds ts l₆ l₇ ν μ α α) ⊛ ‵ (flent (ν ∷ []) (Parts ds l₆))))) (lends-shr-slice 𝓤 H A W u64 (named 2) (ν ∷ []) fullShare ds l₆ 0 (roomy ds many-d)) $ await ! tt $ pick ! (λ α. split ! $
-                move ! (4 ∷ []) $ use1 W (‵ (Parts ts l₇)) (array-parts u64 (uint-vals w64) tt (uint-tells w64) 𝓤 H A W (uint-makes 𝓤 H A W w64) l₇ (length ts) ts) $
-                use1 W (later (some (λ (β : GName). ‵ (SharedTags ds ts l₆ l₇ ν μ α β) ⊛ ‵ (flent (μ ∷ []) (Parts ts l₇))))) (lends-shr-slice 𝓤 H A W u64 (named 3) (μ ∷ []) fullShare ts l₇ 0 (roomy ts many-t)) $ await ! tt $ pick ! (λ β. split ! $
-                -- [tags; their lender's part; distances; their lender's part; tμ; tν; Shared; Kept; _20; …]
-                move ! (7 ∷ []) $ split ! $ move ! (0 ∷ 4 ∷ 2 ∷ 7 ∷ 6 ∷ []) $ group ! 5 $ use1 W (raw (Hand 𝓤 H A at-mem run .pre (to-hand ds ts l₆ l₇ ν μ α β u is))) (goes-hand ds ts l₆ l₇ ν μ α β u is) $
-                -- [what `deliver` takes; the shared slices; the tags' lender's part; the distances'; Shared; _20; …]
-                calls-at ! fm (Hand 𝓤 H A at-mem run) known-hand (to-hand ds ts l₆ l₇ ν μ α β u is)
+                lft-new ! tt (λ ν. lft-new ! tt (λ μ. move ! (2 ∷ []) $ use1 W (‵ (Parts hs l₆)) (array-parts u64 (uint-vals w64) tt (uint-tells w64) 𝓤 H A W (uint-makes 𝓤 H A W w64) l₆ (length hs) hs) $
+                use1 W (later (some (λ (α : GName). ‵ (SharedHighs hs ls l₆ l₇ ν μ α α) ⊛ ‵ (flent (ν ∷ []) (Parts hs l₆))))) (lends-shr-slice 𝓤 H A W u64 (named 2) (ν ∷ []) fullShare hs l₆ 0 (roomy hs many-h)) $ await ! tt $ pick ! (λ α. split ! $
+                move ! (4 ∷ []) $ use1 W (‵ (Parts ls l₇)) (array-parts u64 (uint-vals w64) tt (uint-tells w64) 𝓤 H A W (uint-makes 𝓤 H A W w64) l₇ (length ls) ls) $
+                use1 W (later (some (λ (β : GName). ‵ (SharedLows hs ls l₆ l₇ ν μ α β) ⊛ ‵ (flent (μ ∷ []) (Parts ls l₇))))) (lends-shr-slice 𝓤 H A W u64 (named 3) (μ ∷ []) fullShare ls l₇ 0 (roomy ls many-l)) $ await ! tt $ pick ! (λ β. split ! $
+                -- [lows; their lender's part; highs; their lender's part; tμ; tν; Shared; Kept; _20; …]
+                move ! (7 ∷ []) $ split ! $ move ! (0 ∷ 4 ∷ 2 ∷ 7 ∷ 6 ∷ []) $ group ! 5 $ use1 W (raw (Hand 𝓤 H A at-mem run .pre (to-hand hs ls l₆ l₇ ν μ α β u is))) (goes-hand hs ls l₆ l₇ ν μ α β u is) $
+                -- [what `deliver` takes; the shared slices; the lows' lender's part; the highs'; Shared; _20; …]
+                calls-at ! fm (Hand 𝓤 H A at-mem run) known-hand (to-hand hs ls l₆ l₇ ν μ α β u is)
                 (and-then ! (load ! (from ! (stop !)) (look ! 15 refl)) (and-then ! (load ! (from ! (stop !)) (look ! 13 refl)) (and-then ! (load ! (from ! (stop !)) (look ! 29 refl)) (and-then ! (load ! (from ! (stop !)) (look ! 9 refl)) (and-then ! (load ! (from ! (stop !)) (look ! 5 refl)) (no-more !)))))) (λ w.
-                use1 W (later (some (λ (r : Answer). (HandTokens ds ts l₆ l₇ ν μ α β ⊛ ‵ (N.the-row .own r (w ∷ [])))
-                ⊛ raw (ensured 𝓤 H A deliver.ended (deliver.clauses 𝓤 H A at-mem run) (hand-lfts ds ts l₆ l₇ ν μ α β) (hand-args ds ts l₆ l₇ ν μ α β u is) tt r)))) (id⊢ 𝓤 _) $ await ! tt $ pick ! (λ r.
-                split ! $ move ! (1 ∷ []) $ use1 W (some (λ (zs : List Row × (Tally × (Unit {0} × (Unit {0} × (Unit {0} × Unit {0}))))). ‵ (lasts deliver.ended (hand-lfts ds ts l₆ l₇ ν μ α β) (hand-args ds ts l₆ l₇ ν μ α β u is) zs)
-                ⊛ raw (fact 𝓤 (Delivered u ds ts xs h r (zs .0) (zs .1 .0))))) (id⊢ 𝓤 _) $ pick ! (λ zs.
-                split ! $ move ! (1 ∷ []) $ heard ! (Delivered u ds ts xs h r (zs .0) (zs .1 .0)) (λ e. fsplit ! $ fsplit ! $ move ! (1 ∷ []) $ feqL ! (λ len. move ! (1 ∷ []) $ fsplit ! $ move ! (1 ∷ []) $ drop ! $
-                -- [the tally's value; the rows' list; tokens and answer; the shared slices; the tags' lender's part; the distances'; Shared; _20; …]
+                use1 W (later (some (λ (r : Answer). (HandTokens hs ls l₆ l₇ ν μ α β ⊛ ‵ (N.the-row .own r (w ∷ [])))
+                ⊛ raw (ensured 𝓤 H A deliver.ended (deliver.clauses 𝓤 H A at-mem run) (hand-lfts hs ls l₆ l₇ ν μ α β) (hand-args hs ls l₆ l₇ ν μ α β u is) tt r)))) (id⊢ 𝓤 _) $ await ! tt $ pick ! (λ r.
+                split ! $ move ! (1 ∷ []) $ use1 W (some (λ (zs : List Row × (Tally × (Unit {0} × (Unit {0} × (Unit {0} × Unit {0}))))). ‵ (lasts deliver.ended (hand-lfts hs ls l₆ l₇ ν μ α β) (hand-args hs ls l₆ l₇ ν μ α β u is) zs)
+                ⊛ raw (fact 𝓤 (Delivered u hs ls xs h r (zs .0) (zs .1 .0))))) (id⊢ 𝓤 _) $ pick ! (λ zs.
+                split ! $ move ! (1 ∷ []) $ heard ! (Delivered u hs ls xs h r (zs .0) (zs .1 .0)) (λ e. fsplit ! $ fsplit ! $ move ! (1 ∷ []) $ feqL ! (λ len. move ! (1 ∷ []) $ fsplit ! $ move ! (1 ∷ []) $ drop ! $
+                -- [the tally's value; the rows' list; tokens and answer; the shared slices; the lows' lender's part; the highs'; Shared; _20; …]
                 move ! (2 ∷ []) $ split ! $ split ! $ move ! (1 ∷ []) $ split ! $ move ! (1 ∷ []) $ split ! $ move ! (1 ∷ []) $ split ! $
-                -- [tμ; true; tν; t₃; t₂; the answer; the tally's; the rows'; the shared slices; the tags' lender's part; the distances'; Shared; _20; …]
+                -- [tμ; true; tν; t₃; t₂; the answer; the tally's; the rows'; the shared slices; the lows' lender's part; the highs'; Shared; _20; …]
                 lft-end ! tt $ move ! (0 ∷ 9 ∷ []) $ lent-back ! tt $ move ! (2 ∷ []) $ lft-end ! tt $ move ! (0 ∷ 9 ∷ []) $ lent-back ! tt $
-                -- [the distances; the tags; true; t₃; t₂; the answer; the tally's; the rows'; the shared slices; Shared; _20; …]
-                rewrite ! 0 (λ (n : ℕ). ‵ (arr-parts (shares u64) n .part fullShare ds l₆ 0)) many-d refl $ rewrite ! 1 (λ (n : ℕ). ‵ (arr-parts (shares u64) n .part fullShare ts l₇ 0)) many-t refl $
-                use1 W (given (Is B ds (av ds ∷ [])) (‵ (fat fullShare arrayT l₆ 0 (av ds)))) (whole-array u64 (uint-vals w64) tt (uint-tells w64) 𝓤 H A W (uint-makes 𝓤 H A W w64) l₆ 64 ds) $ learn ! (λ _. move ! (1 ∷ []) $
-                use1 W (given (Is B ts (av ts ∷ [])) (‵ (fat fullShare arrayT l₇ 0 (av ts)))) (whole-array u64 (uint-vals w64) tt (uint-tells w64) 𝓤 H A W (uint-makes 𝓤 H A W w64) l₇ 64 ts) $ learn ! (λ _.
+                -- [the highs; the lows; true; t₃; t₂; the answer; the tally's; the rows'; the shared slices; Shared; _20; …]
+                rewrite ! 0 (λ (n : ℕ). ‵ (arr-parts (shares u64) n .part fullShare hs l₆ 0)) many-h refl $ rewrite ! 1 (λ (n : ℕ). ‵ (arr-parts (shares u64) n .part fullShare ls l₇ 0)) many-l refl $
+                use1 W (given (Is B hs (av hs ∷ [])) (‵ (fat fullShare arrayT l₆ 0 (av hs)))) (whole-array u64 (uint-vals w64) tt (uint-tells w64) 𝓤 H A W (uint-makes 𝓤 H A W w64) l₆ 64 hs) $ learn ! (λ _. move ! (1 ∷ []) $
+                use1 W (given (Is B ls (av ls ∷ [])) (‵ (fat fullShare arrayT l₇ 0 (av ls)))) (whole-array u64 (uint-vals w64) tt (uint-tells w64) 𝓤 H A W (uint-makes 𝓤 H A W w64) l₇ 64 ls) $ learn ! (λ _.
                 -- [_7; _6; true; t₃; t₂; the answer; the tally's; the rows'; the shared slices; Shared; _20; …]
                 move ! (3 ∷ 2 ∷ []) $ join ! $ move ! (3 ∷ 0 ∷ []) $ join ! $ move ! (3 ∷ []) $ peeks ! N.the-row (Is N.the-row) (shows 𝓤 H A N.the-row) r (w ∷ []) (λ ans.
                 -- [the answer; Lent; _7; _6; the tally's; the rows'; the shared slices; Shared; _20; …]
                 land ! (from ! (stop !)) (init ! 46 refl (LL.lawful N.the-type N′.the-laws 𝓤 H A W .typed r _ ans .0)) $ move ! (0 ∷ 1 ∷ 4 ∷ 5 ∷ 6 ∷ 7 ∷ []) $
                 forget ! 6 refl $ forget ! 7 refl $ forget ! 8 refl $ forget ! 10 refl $ forget ! 12 refl $ forget ! 14 refl $ forget ! 16 refl $ forget ! 18 refl $ forget ! 20 refl $ forget ! 32 refl $
                 forget ! 36 refl $ forget ! 38 refl $ forget ! 40 refl $ forget ! 42 refl $ forget ! 44 refl $
-                by ! (leaves r w (zs .0) (zs .1 .0) len (hand-over (xi .now) asked xs h ds ts u (omega (arith, many-d), omega (arith, many-t)) said r (zs .0) (zs .1 .0) e))))))))))))))
+                by ! (leaves r w (zs .0) (zs .1 .0) len (hand-over (xi .now) asked xs h hs ls u (omega (arith, many-h), omega (arith, many-l)) said r (zs .0) (zs .1 .0) e))))))))))))))
 
           -- the outcome is asked for, with the arrays lent
-          module _ (ds ts : List ℕ) (pd : Is B ds (av ds ∷ [])) (pt : Is B ts (av ts ∷ [])) where
+          module _ (hs ls : List ℕ) (ph : Is B hs (av hs ∷ [])) (pt : Is B ls (av ls ∷ [])) where
             abbrev Made : List (Item 𝓤)
-            Made = Later (Unset (Arrays (‵ (fat fullShare arrayT l₇ 0 (av ts))) (‵ (fat fullShare arrayT l₆ 0 (av ds))) (Passed Room₀ (raw Entered ∷ []))))
+            Made = Later (Unset (Arrays (‵ (fat fullShare arrayT l₇ 0 (av ls))) (‵ (fat fullShare arrayT l₆ 0 (av hs))) (Passed Room₀ (raw Entered ∷ []))))
 
             asks : ent 𝓤 (⋆ 𝓤 H A Made) (Wp 𝓤 H C Λ En (t-3 name) (atReturn 𝓤 H En Post))
             asks =
@@ -340,39 +340,39 @@ module _ (name : Name) (Asks : List ℕ → Question → ℕ → List ℕ → Li
                 assigns ! (of-opd ! (load ! (from ! (fld ! refl (stop !))) (look-in ! 32 (sub ! 1 refl (whole !))))) (from ! (stop !)) (init ! 22 refl (tt, record { fits = room .0 })) $
                 assigns ! (addr ! (from ! (stop !))) (from ! (stop !)) (init ! 20 refl (tt, tt)) $
                 assigns ! (agg ! (and-then ! (load ! (from ! (stop !)) (look ! 20 refl)) (and-then ! (lit ! tt) (no-more !)))) (from ! (stop !)) (init ! 18 refl (tt, (tt, (record { fits = lit< tt }, tt)))) $
-                rewrite ! 18 (λ (n : ℕ). ‵ (fat fullShare lentsT l₁₁ 0 (sliceVal (l₆, 0) n))) (sym (many ds pd)) refl $
+                rewrite ! 18 (λ (n : ℕ). ‵ (fat fullShare lentsT l₁₁ 0 (sliceVal (l₆, 0) n))) (sym (many hs ph)) refl $
                 assigns ! (addr ! (from ! (stop !))) (from ! (stop !)) (init ! 16 refl (tt, tt)) $
                 assigns ! (agg ! (and-then ! (load ! (from ! (stop !)) (look ! 16 refl)) (and-then ! (lit ! tt) (no-more !)))) (from ! (stop !)) (init ! 14 refl (tt, (tt, (record { fits = lit< tt }, tt)))) $
-                rewrite ! 14 (λ (n : ℕ). ‵ (fat fullShare lentsT l₁₃ 0 (sliceVal (l₇, 0) n))) (sym (many ts pt)) refl $
+                rewrite ! 14 (λ (n : ℕ). ‵ (fat fullShare lentsT l₁₃ 0 (sliceVal (l₇, 0) n))) (sym (many ls pt)) refl $
                 -- the loans
-                lft-new ! tt (λ ν. lft-new ! tt (λ μ. move ! (30 ∷ []) $ use1 W (‵ (cells (mem u64) ds l₆ 0)) (lies-array u64 (uint-vals w64) tt (uint-tells w64) 𝓤 H A W (uint-makes 𝓤 H A W w64) l₆ 64 ds pd) $
-                use1 W (later (some (λ (α : GName). ‵ (LentDistances ds ts l₆ l₇ ν μ α α) ⊛ ‵ (flent (ν ∷ []) (Loan u64 (length ds) l₆ 0 α))))) (lends-slice 𝓤 H A W u64 (named 2) (ν ∷ []) ds l₆ 0 (roomy ds (many ds pd))) $ await ! tt $ pick ! (λ α. split ! $
-                move ! (30 ∷ []) $ use1 W (‵ (cells (mem u64) ts l₇ 0)) (lies-array u64 (uint-vals w64) tt (uint-tells w64) 𝓤 H A W (uint-makes 𝓤 H A W w64) l₇ 64 ts pt) $
-                use1 W (later (some (λ (β : GName). ‵ (LentTags ds ts l₆ l₇ ν μ α β) ⊛ ‵ (flent (μ ∷ []) (Loan u64 (length ts) l₇ 0 β))))) (lends-slice 𝓤 H A W u64 (named 3) (μ ∷ []) ts l₇ 0 (roomy ts (many ts pt))) $ await ! tt $ pick ! (λ β. split ! $
-                -- [tags; their lender's part; distances; their lender's part; tμ; tν; _20; …; dies _7; dies _6; _5; …; Entered]
-                move ! (46 ∷ 2 ∷ 0 ∷ 5 ∷ 4 ∷ []) $ group ! 5 $ use1 W (raw (Core Asks 𝓤 H A .pre (to-core ds ts l₆ l₇ ν μ α β)) ⊛ Kept) (goes-core ds ts l₆ l₇ ν μ α β (omega (arith, many ds pd), omega (arith, many ts pt))) $ split ! $
-                -- [what the callee takes; Kept; the tags' lender's part; the distances'; _20; …]
-                calls-at ! fm (Core Asks 𝓤 H A) known-core (to-core ds ts l₆ l₇ ν μ α β)
+                lft-new ! tt (λ ν. lft-new ! tt (λ μ. move ! (30 ∷ []) $ use1 W (‵ (cells (mem u64) hs l₆ 0)) (lies-array u64 (uint-vals w64) tt (uint-tells w64) 𝓤 H A W (uint-makes 𝓤 H A W w64) l₆ 64 hs ph) $
+                use1 W (later (some (λ (α : GName). ‵ (LentHighs hs ls l₆ l₇ ν μ α α) ⊛ ‵ (flent (ν ∷ []) (Loan u64 (length hs) l₆ 0 α))))) (lends-slice 𝓤 H A W u64 (named 2) (ν ∷ []) hs l₆ 0 (roomy hs (many hs ph))) $ await ! tt $ pick ! (λ α. split ! $
+                move ! (30 ∷ []) $ use1 W (‵ (cells (mem u64) ls l₇ 0)) (lies-array u64 (uint-vals w64) tt (uint-tells w64) 𝓤 H A W (uint-makes 𝓤 H A W w64) l₇ 64 ls pt) $
+                use1 W (later (some (λ (β : GName). ‵ (LentLows hs ls l₆ l₇ ν μ α β) ⊛ ‵ (flent (μ ∷ []) (Loan u64 (length ls) l₇ 0 β))))) (lends-slice 𝓤 H A W u64 (named 3) (μ ∷ []) ls l₇ 0 (roomy ls (many ls pt))) $ await ! tt $ pick ! (λ β. split ! $
+                -- [lows; their lender's part; highs; their lender's part; tμ; tν; _20; …; dies _7; dies _6; _5; …; Entered]
+                move ! (46 ∷ 2 ∷ 0 ∷ 5 ∷ 4 ∷ []) $ group ! 5 $ use1 W (raw (Core Asks 𝓤 H A .pre (to-core hs ls l₆ l₇ ν μ α β)) ⊛ Kept) (goes-core hs ls l₆ l₇ ν μ α β (omega (arith, many hs ph), omega (arith, many ls pt))) $ split ! $
+                -- [what the callee takes; Kept; the lows' lender's part; the highs'; _20; …]
+                calls-at ! fm (Core Asks 𝓤 H A) known-core (to-core hs ls l₆ l₇ ν μ α β)
                 (and-then ! (load ! (from ! (stop !)) (look ! 40 refl)) (and-then ! (load ! (from ! (stop !)) (look ! 38 refl)) (and-then ! (load ! (from ! (stop !)) (look ! 36 refl))
                 (and-then ! (load ! (from ! (stop !)) (look ! 26 refl)) (and-then ! (load ! (from ! (stop !)) (look ! 22 refl)) (and-then ! (load ! (from ! (stop !)) (look ! 18 refl)) (no-more !))))))) (λ w.
-                use1 W (later (some (λ (u : Answer). (CoreTokens ds ts l₆ l₇ ν μ α β ⊛ ‵ (N.the-row .own u (w ∷ []))) ⊛ raw (ensured 𝓤 H A core.ended (core-clauses Asks 𝓤) (core-lfts ds ts l₆ l₇ ν μ α β) (core-args ds ts l₆ l₇ ν μ α β) tt u)))) (id⊢ 𝓤 _) $ await ! tt $ pick ! (λ u.
-                split ! $ move ! (1 ∷ []) $ use1 W (some (λ (ws : Unit {0} × (Unit {0} × (Unit {0} × (Unit {0} × (List ℕ × (List ℕ × Unit {0})))))). ‵ (lasts core.ended (core-lfts ds ts l₆ l₇ ν μ α β) (core-args ds ts l₆ l₇ ν μ α β) ws)
+                use1 W (later (some (λ (u : Answer). (CoreTokens hs ls l₆ l₇ ν μ α β ⊛ ‵ (N.the-row .own u (w ∷ []))) ⊛ raw (ensured 𝓤 H A core.ended (core-clauses Asks 𝓤) (core-lfts hs ls l₆ l₇ ν μ α β) (core-args hs ls l₆ l₇ ν μ α β) tt u)))) (id⊢ 𝓤 _) $ await ! tt $ pick ! (λ u.
+                split ! $ move ! (1 ∷ []) $ use1 W (some (λ (ws : Unit {0} × (Unit {0} × (Unit {0} × (Unit {0} × (List ℕ × (List ℕ × Unit {0})))))). ‵ (lasts core.ended (core-lfts hs ls l₆ l₇ ν μ α β) (core-args hs ls l₆ l₇ ν μ α β) ws)
                 ⊛ raw (fact 𝓤 (Asks (xi .now) asked (length xs) (ws .1 .1 .1 .1 .0) (ws .1 .1 .1 .1 .1 .0) u)))) (id⊢ 𝓤 _) $ pick ! (λ ws.
                 split ! $ move ! (1 ∷ []) $ heard ! (Asks (xi .now) asked (length xs) (ws .1 .1 .1 .1 .0) (ws .1 .1 .1 .1 .1 .0) u) (λ e. fsplit ! $ drop ! $ fsplit ! $ drop ! $ fsplit ! $ drop ! $ fsplit ! $ drop ! $
-                fsplit ! $ fsplit ! $ move ! (1 ∷ []) $ feqL ! (λ len-d. move ! (1 ∷ []) $ fsplit ! $ fsplit ! $ move ! (1 ∷ []) $ feqL ! (λ len-t.
-                -- [the tags' last list; true; the distances'; tokens and answer; Kept; the tags' lender's part; the distances'; _20; …]
+                fsplit ! $ fsplit ! $ move ! (1 ∷ []) $ feqL ! (λ len-h. move ! (1 ∷ []) $ fsplit ! $ fsplit ! $ move ! (1 ∷ []) $ feqL ! (λ len-l.
+                -- [the lows' last list; true; the highs'; tokens and answer; Kept; the lows' lender's part; the highs'; _20; …]
                 move ! (3 ∷ []) $ split ! $ split ! $ move ! (1 ∷ []) $ split ! $ move ! (1 ∷ []) $ split ! $ move ! (1 ∷ []) $ split ! $
-                -- [tμ; true; tν; t₁; t₀; the answer; the tags'; true; the distances'; Kept; the tags' lender's part; the distances'; _20; …]
-                lft-end ! tt $ move ! (0 ∷ 10 ∷ 6 ∷ []) $ use3 W (later (‵ (Arr (mem u64) (length ts) .lies (ws .1 .1 .1 .1 .1 .0) l₇ 0))) (slice-back 𝓤 H A W u64 (μ ∷ []) β (ws .1 .1 .1 .1 .1 .0) (length ts) l₇ 0) $ await ! tt $
-                move ! (2 ∷ []) $ lft-end ! tt $ move ! (0 ∷ 9 ∷ 7 ∷ []) $ use3 W (later (‵ (Arr (mem u64) (length ds) .lies (ws .1 .1 .1 .1 .0) l₆ 0))) (slice-back 𝓤 H A W u64 (ν ∷ []) α (ws .1 .1 .1 .1 .0) (length ds) l₆ 0) $ await ! tt $
-                rewrite ! 0 (λ (n : ℕ). ‵ (Arr (mem u64) n .lies (ws .1 .1 .1 .1 .0) l₆ 0)) (sym len-d) refl $ rewrite ! 1 (λ (n : ℕ). ‵ (Arr (mem u64) n .lies (ws .1 .1 .1 .1 .1 .0) l₇ 0)) (sym len-t) refl $
-                -- [the distances; the tags; true; t₁; t₀; the answer; true; Kept; _20; …]
+                -- [tμ; true; tν; t₁; t₀; the answer; the lows'; true; the highs'; Kept; the lows' lender's part; the highs'; _20; …]
+                lft-end ! tt $ move ! (0 ∷ 10 ∷ 6 ∷ []) $ use3 W (later (‵ (Arr (mem u64) (length ls) .lies (ws .1 .1 .1 .1 .1 .0) l₇ 0))) (slice-back 𝓤 H A W u64 (μ ∷ []) β (ws .1 .1 .1 .1 .1 .0) (length ls) l₇ 0) $ await ! tt $
+                move ! (2 ∷ []) $ lft-end ! tt $ move ! (0 ∷ 9 ∷ 7 ∷ []) $ use3 W (later (‵ (Arr (mem u64) (length hs) .lies (ws .1 .1 .1 .1 .0) l₆ 0))) (slice-back 𝓤 H A W u64 (ν ∷ []) α (ws .1 .1 .1 .1 .0) (length hs) l₆ 0) $ await ! tt $
+                rewrite ! 0 (λ (n : ℕ). ‵ (Arr (mem u64) n .lies (ws .1 .1 .1 .1 .0) l₆ 0)) (sym len-h) refl $ rewrite ! 1 (λ (n : ℕ). ‵ (Arr (mem u64) n .lies (ws .1 .1 .1 .1 .1 .0) l₇ 0)) (sym len-l) refl $
+                -- [the highs; the lows; true; t₁; t₀; the answer; true; Kept; _20; …]
                 move ! (5 ∷ []) $ peeks ! N.the-row (Is N.the-row) (shows 𝓤 H A N.the-row) u (w ∷ []) (λ is. drop ! $
                 land ! (from ! (stop !)) (init ! 31 refl (LL.lawful N.the-type N′.the-laws 𝓤 H A W .typed u _ is .0)) $ rewrite ! 31 (λ (v : Val). ‵ (fat fullShare N′.mir l₈ 0 v)) (ap only (LL.tells N.the-type N′.the-laws u _ is)) refl $
                 move ! (3 ∷ 2 ∷ []) $ join ! $ move ! (3 ∷ 0 ∷ []) $ join ! $
-                -- [Shared; the distances; the tags; true; Kept; _20; …]
+                -- [Shared; the highs; the lows; true; Kept; _20; …]
                 move ! (3 ∷ []) $ drop ! $ move ! (1 ∷ 2 ∷ 0 ∷ []) $ forget ! 18 refl $ forget ! 20 refl $ forget ! 22 refl $ forget ! 24 refl $ forget ! 26 refl $
-                by ! (hands u (subst (Is N.the-row u) (LL.tells N.the-type N′.the-laws u _ is) is) (ws .1 .1 .1 .1 .0) (ws .1 .1 .1 .1 .1 .0) (len-d ∙ many ds pd) (len-t ∙ many ts pt) e))))))))))))
+                by ! (hands u (subst (Is N.the-row u) (LL.tells N.the-type N′.the-laws u _ is) is) (ws .1 .1 .1 .1 .0) (ws .1 .1 .1 .1 .1 .0) (len-h ∙ many hs ph) (len-l ∙ many ls pt) e))))))))))))
 
           -- the arrays are made
           abbrev Start : List (Item 𝓤)

@@ -32,21 +32,21 @@ pub record QuestionedBy (rules : List Rule) (answers : Found → Type 0) (b : Li
 
 -- two arrays have places for the rows of any question that is carried out
 abbrev pub Places : List ℕ → List ℕ → Type 0
-Places distances tags = (maxRows ≤ length distances) × (maxRows ≤ length tags)
+Places highs lows = (maxRows ≤ length highs) × (maxRows ≤ length lows)
 
 -- the same before it is handed over: the answer r, and its rows in two arrays
-pub record OutcomeBy (rules : List Rule) (answers : Found → Type 0) (b : List ℕ) (w : Question) (distances tags : List ℕ) (r : Answer) : Type 0 where
+pub record OutcomeBy (rules : List Rule) (answers : Found → Type 0) (b : List ℕ) (w : Question) (highs lows : List ℕ) (r : Answer) : Type 0 where
   pub first : First rules (r .code)
   pub few : r .count ≤ w .k
   pub count : r .count ≡ length (foundWith (r .code) b w .rows)
   pub leaves : r .leaves ≡ foundWith (r .code) b w .leaves
-  pub rows : rowsIn distances tags (r .count) ≡ foundWith (r .code) b w .rows
-  pub carried : r .code ≡ 0 → answers (record { rows = rowsIn distances tags (r .count); leaves = r .leaves })
+  pub rows : rowsIn highs lows (r .count) ≡ foundWith (r .code) b w .rows
+  pub carried : r .code ≡ 0 → answers (record { rows = rowsIn highs lows (r .count); leaves = r .leaves })
 
 -- A question without the check, before it is handed over, with n rows lent, and afterwards. Where it is carried out on a sound index, its rows and its
 -- count are the act's.
 abbrev pub TrustedOutcome : List ℕ → Question → ℕ → List ℕ → List ℕ → Answer → Type 0
-TrustedOutcome b w n distances tags r = OutcomeBy (trustedQuestion b w n) (AnswersIfSound b w) b w distances tags r
+TrustedOutcome b w n highs lows r = OutcomeBy (trustedQuestion b w n) (AnswersIfSound b w) b w highs lows r
 
 abbrev pub TrustedQuestioned : List ℕ → Question → List Row → Tally → Answer → List Row → Tally → Type 0
 TrustedQuestioned b w lent tally r lent' tally' = QuestionedBy (trustedQuestion b w (length lent)) (AnswersIfSound b w) b w lent tally r lent' tally'
@@ -58,7 +58,7 @@ pub record Refused (n : ℕ) (r : Answer) : Type 0 where
   pub leaves : r .leaves ≡ 0
 
 -- carried out: the rows and the count are the search's
-pub record Answered (b : List ℕ) (w : Question) (distances tags : List ℕ) (r : Answer) : Type 0 where
+pub record Answered (b : List ℕ) (w : Question) (highs lows : List ℕ) (r : Answer) : Type 0 where
   pub code : r .code ≡ 0
   pub few : r .count ≤ w .k
-  pub same : record { rows = rowsIn distances tags (r .count); leaves = r .leaves } ≡ found b (sought w)
+  pub same : record { rows = rowsIn highs lows (r .count); leaves = r .leaves } ≡ found b (sought w)

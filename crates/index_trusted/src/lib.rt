@@ -74,13 +74,13 @@ fn answered(
     index: &[u8],
     point: &[i16],
     what: Criteria,
-    distances: &mut [u64],
-    tags: &mut [u64],
+    highs: &mut [u64],
+    lows: &mut [u64],
 ) -> Answer
-    requires { ⌜ Searchable (questionOf (now point) what) × Places (now distances) (now tags) ⌝ }
-    ensures { λ r. ⌜ Answered (now (index .entry)) (questionOf (now (point .entry)) what) (now (distances .exit)) (now (tags .exit)) r ⌝ }
+    requires { ⌜ Searchable (questionOf (now point) what) × Places (now highs) (now lows) ⌝ }
+    ensures { λ r. ⌜ Answered (now (index .entry)) (questionOf (now (point .entry)) what) (now (highs .exit)) (now (lows .exit)) r ⌝ }
 {
-    let seen = search(index, query_of(point, what), distances, tags);
+    let seen = search(index, query_of(point, what), highs, lows);
     Answer {
         code: 0,
         count: seen.rows,
@@ -88,24 +88,24 @@ fn answered(
     }
 }
 
-// A question before it is handed over, with so many rows lent: its rows, as distances and tags, go to two arrays.
+// A question before it is handed over, with so many rows lent: its rows, as upper and lower words, go to two arrays.
 pub fn question_outcome(
     index: &[u8],
     point: &[i16],
     what: Criteria,
     lent: usize,
-    distances: &mut [u64],
-    tags: &mut [u64],
+    highs: &mut [u64],
+    lows: &mut [u64],
 ) -> Answer
-    requires { ⌜ Places (now distances) (now tags) ⌝ }
+    requires { ⌜ Places (now highs) (now lows) ⌝ }
     ensures { λ r. ⌜ TrustedOutcome (now (index .entry)) (questionOf (now (point .entry)) what) lent
-        (now (distances .exit)) (now (tags .exit)) r ⌝ }
+        (now (highs .exit)) (now (lows .exit)) r ⌝ }
 {
     let code = refuse_question(index, point, what, lent);
     if code != 0 {
         return refused(code);
     }
-    answered(index, point, what, distances, tags)
+    answered(index, point, what, highs, lows)
 }
 
 // A question whose rows go to those lent, and which the caller's tally counts.
@@ -119,8 +119,8 @@ pub fn question(
     ensures { λ r. ⌜ TrustedQuestioned (now (index .entry)) (questionOf (now (point .entry)) what)
         (now (rows .entry)) (now (tally .entry)) r (now (rows .exit)) (now (tally .exit)) ⌝ }
 {
-    let mut distances = [0u64; MAX_ROWS];
-    let mut tags = [0u64; MAX_ROWS];
-    let answer = question_outcome(index, point, what, rows.len(), &mut distances, &mut tags);
-    deliver(rows, tally, answer, &distances, &tags)
+    let mut highs = [0u64; MAX_ROWS];
+    let mut lows = [0u64; MAX_ROWS];
+    let answer = question_outcome(index, point, what, rows.len(), &mut highs, &mut lows);
+    deliver(rows, tally, answer, &highs, &lows)
 }

@@ -26,6 +26,7 @@ pub use pagestore_page::read_coord;
 pub use pagestore_page::read_count;
 pub use pagestore_page::read_ident;
 pub use pagestore_page::read_stage;
+pub use pagestore_page::read_stamp;
 
 // Pages by number.
 pub use inners::set_inner;

@@ -94,7 +94,7 @@ pub fn read_stage(page: &[u8], i: usize) -> u8
 }
 
 // The stamp of a record.
-fn read_stamp(page: &[u8], i: usize) -> u32
+pub fn read_stamp(page: &[u8], i: usize) -> u32
     requires { ⌜ (length (now page) ≡ 1024) × (i < 16) ⌝ }
     ensures { λ r. ⌜ r ≡ getD (leafOf (now (page .entry)) .records) i noRecord .stamp ⌝ }
 {

@@ -32,6 +32,7 @@ pub use leaves::read_ident;
 pub use leaves::read_leaf;
 pub use leaves::read_record;
 pub use leaves::read_stage;
+pub use leaves::read_stamp;
 pub use leaves::write_leaf;
 pub use shift::insert_record;
 

@@ -40,6 +40,6 @@ pub answer-some : (b : List ℕ) (q : Asked) → readsNone b ≡ false → answe
 unfolding found
 answer-some b q e = rw e
 
-pub searched : (b : List ℕ) (q : Asked) (distances tags : List ℕ) (r : Seen) → 1 ≤ q .k → r .rows ≤ q .k → answerIn distances tags r ≡ found b q → Searched b q distances tags r
-searched b q distances tags r one few e =
+pub searched : (b : List ℕ) (q : Asked) (highs lows : List ℕ) (r : Seen) → 1 ≤ q .k → r .rows ≤ q .k → answerIn highs lows r ≡ found b q → Searched b q highs lows r
+searched b q highs lows r one few e =
     record { answer = e; few = few; sound = λ c s suits agree. e ∙ unread-bytes c s q suits one b agree ∙ found-exact c s q suits one }

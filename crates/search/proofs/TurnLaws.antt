@@ -49,17 +49,17 @@ abbrev after : ℕ → Outcome Row Branch → Answer
 after m o = record { rows = o .rows; leaves = m + length (o .read) }
 
 -- n branches are in the heap, `rows` rows are held, `leaves` leaves have been read; `steps` steps are left
-pub record Visiting (index asked near whole : List ℕ) (k : ℕ) (choice : Choice) (slots₀ distances₀ tags₀ slots distances tags : List ℕ) (n rows leaves steps : ℕ) : Type 0 where
+pub record Visiting (index asked near whole : List ℕ) (k : ℕ) (choice : Choice) (slots₀ highs₀ lows₀ slots highs lows : List ℕ) (n rows leaves steps : ℕ) : Type 0 where
   pub tables : Tabled asked near whole
   pub one : 1 ≤ k
   pub size : length slots ≡ room index
   pub lengths : length slots ≡ length slots₀
-  pub lengthsD : length distances ≡ length distances₀
-  pub lengthsT : length tags ≡ length tags₀
+  pub lengthsHighs : length highs ≡ length highs₀
+  pub lengthsLows : length lows ≡ length lows₀
   pub heap : Heap n slots
-  pub holds : Held distances tags rows k
+  pub holds : Held highs lows rows k
   pub few : leaves + steps ≤ 32768
-  pub answer : after leaves (seekOn index (asking asked k choice) steps (frontier n slots) (rowsIn distances tags rows)) ≡ answerOf (visited index (asking asked k choice))
+  pub answer : after leaves (seekOn index (asking asked k choice) steps (frontier n slots) (rowsIn highs lows rows)) ≡ answerOf (visited index (asking asked k choice))
 
 -- ---- THE START
 
@@ -74,10 +74,10 @@ unfolding sort insertBy
 one-held [] x h = absurd (omega arith)
 one-held (y ∷ ys) x h = refl
 
-pub visiting-start : (index asked near whole : List ℕ) (k : ℕ) (choice : Choice) (slots distances tags : List ℕ) (key m : ℕ) → Visits index asked near whole k slots distances tags → key ≡ keyOf (rootBranch index) → m ≡ pagesIn index
-    → Visiting index asked near whole k choice (set slots 0 key) distances tags (set slots 0 key) distances tags 1 0 0 (2 * m)
+pub visiting-start : (index asked near whole : List ℕ) (k : ℕ) (choice : Choice) (slots highs lows : List ℕ) (key m : ℕ) → Visits index asked near whole k slots highs lows → key ≡ keyOf (rootBranch index) → m ≡ pagesIn index
+    → Visiting index asked near whole k choice (set slots 0 key) highs lows (set slots 0 key) highs lows 1 0 0 (2 * m)
 unfolding visited
-visiting-start index asked near whole k choice slots distances tags key m v e g =
+visiting-start index asked near whole k choice slots highs lows key m v e g =
     let q = asking asked k choice in
     let s : 1 ≤ length slots = omega (arith, v .room, room-some index) in
     let o : held 1 (set slots 0 key) ≡ key ∷ [] = one-held slots key s in
@@ -88,39 +88,39 @@ visiting-start index asked near whole k choice slots distances tags key m v e g 
       one = v .one;
       size = l ∙ v .room;
       lengths = refl;
-      lengthsD = refl;
-      lengthsT = refl;
+      lengthsHighs = refl;
+      lengthsLows = refl;
       heap = one-heap slots key s;
-      holds = record { few = omega arith; room = v .rows; roomTags = v .tags; sorted = sorting.end };
+      holds = record { few = omega arith; room = v .roomHighs; roomLows = v .roomLows; sorted = sorting.end };
       few = omega (arith, pages-few index);
       answer = rw (o, b, g) (λ i. record { rows = visited index q .rows; leaves = zero-add (length (visited index q .read)) i });
     }
 
 -- ---- WHETHER THE VISIT GOES ON
 
-module _ (index slots : List ℕ) (n : ℕ) (distances : List ℕ) (rows k steps : ℕ) where
-  pub goes-spent : steps ≡ 0 → GoesOn index slots n distances rows k steps false
+module _ (index slots : List ℕ) (n : ℕ) (highs : List ℕ) (rows k steps : ℕ) where
+  pub goes-spent : steps ≡ 0 → GoesOn index slots n highs rows k steps false
   goes-spent z = record { goes = λ e. false-true e; ends = λ e. spent z }
 
-  pub goes-empty : n ≡ 0 → GoesOn index slots n distances rows k steps false
+  pub goes-empty : n ≡ 0 → GoesOn index slots n highs rows k steps false
   goes-empty z = record { goes = λ e. false-true e; ends = λ e. empty z }
 
-  module _ (more : steps ≢ 0) (some : n ≢ 0) (b : ℕ) (bound : b ≡ boundIn (firstSlot slots)) (t : Bool) (test : t ≡ behindAll distances rows k b) where
-    stops : (r : Bool) → t ≡ r → behindAll distances rows k (boundIn (firstSlot slots)) ≡ r
+  module _ (more : steps ≢ 0) (some : n ≢ 0) (b : ℕ) (bound : b ≡ boundIn (firstSlot slots)) (t : Bool) (test : t ≡ behindAll highs rows k b) where
+    stops : (r : Bool) → t ≡ r → behindAll highs rows k (boundIn (firstSlot slots)) ≡ r
     stops r e = rw (← bound) (sym test ∙ e)
 
-    pub goes-far : t ≡ true → GoesOn index slots n distances rows k steps false
+    pub goes-far : t ≡ true → GoesOn index slots n highs rows k steps false
     goes-far e = record { goes = λ f. false-true f; ends = λ f. far (omega (arith, more)) (omega (arith, some)) (stops true e) }
 
     module _ (e : t ≡ false) (l : ℕ) (level : l ≡ levelIn (firstSlot slots)) where
-      pub goes-leaf : l ≡ 0 → GoesOn index slots n distances rows k steps true
+      pub goes-leaf : l ≡ 0 → GoesOn index slots n highs rows k steps true
       goes-leaf z =
           record {
             goes = λ f. record { left = omega (arith, more); some = omega (arith, some); near = stops false e; room = λ i. absurd (i (sym level ∙ z)) };
             ends = λ f. false-true (sym f);
           }
 
-      pub goes-inner : l ≢ 0 → (g m : ℕ) → g ≡ numberIn (firstSlot slots) → m ≡ length (entriesIn (innerAt index g)) → GoesOn index slots n distances rows k steps (leb (m + (n - 1)) (length slots))
+      pub goes-inner : l ≢ 0 → (g m : ℕ) → g ≡ numberIn (firstSlot slots) → m ≡ length (entriesIn (innerAt index g)) → GoesOn index slots n highs rows k steps (leb (m + (n - 1)) (length slots))
       goes-inner i g m page entries =
           let w : m + (n - 1) ≡ widened index slots n = rw (← page, ← entries) refl in
           record {
@@ -139,19 +139,19 @@ length-branches b q l p [] = refl
 length-branches b q l p (e ∷ es) = ap suc (length-branches b q l (p + leafCount l b (e .child)) es)
 
 -- no further leaf is read
-ended : (index : List ℕ) (q : Asked) (distances tags : List ℕ) (rows leaves : ℕ) (o : Outcome Row Branch) → o ≡ record { rows = rowsIn distances tags rows; read = [] } → Held distances tags rows (q .k)
-    → after leaves o ≡ answerOf (visited index q) → Visited index q distances tags (record { rows = rows; leaves = leaves })
-ended index q distances tags rows leaves o e h a =
+ended : (index : List ℕ) (q : Asked) (highs lows : List ℕ) (rows leaves : ℕ) (o : Outcome Row Branch) → o ≡ record { rows = rowsIn highs lows rows; read = [] } → Held highs lows rows (q .k)
+    → after leaves o ≡ answerOf (visited index q) → Visited index q highs lows (record { rows = rows; leaves = leaves })
+ended index q highs lows rows leaves o e h a =
     let z : leaves + 0 ≡ leaves = omega arith in
-    record { held = h; answer = (λ i. record { rows = rowsIn distances tags rows; leaves = sym z i }) ∙ sym (ap (after leaves) e) ∙ a }
+    record { held = h; answer = (λ i. record { rows = rowsIn highs lows rows; leaves = sym z i }) ∙ sym (ap (after leaves) e) ∙ a }
 
-module _ (index asked table whole : List ℕ) (k : ℕ) (choice : Choice) (slots₀ distances₀ tags₀ slots distances tags : List ℕ) (n rows leaves steps : ℕ)
-    (v : Visiting index asked table whole k choice slots₀ distances₀ tags₀ slots distances tags n rows leaves steps) where
+module _ (index asked table whole : List ℕ) (k : ℕ) (choice : Choice) (slots₀ highs₀ lows₀ slots highs lows : List ℕ) (n rows leaves steps : ℕ)
+    (v : Visiting index asked table whole k choice slots₀ highs₀ lows₀ slots highs lows n rows leaves steps) where
   abbrev q : Asked
   q = asking asked k choice
 
   abbrev here : List Row
-  here = rowsIn distances tags rows
+  here = rowsIn highs lows rows
 
   -- the frontier has a first branch
   module _ (key : ℕ) (rest : List ℕ) (is : held n slots ≡ key ∷ rest) (more : 0 < steps) where
@@ -163,10 +163,10 @@ module _ (index asked table whole : List ℕ) (k : ℕ) (choice : Choice) (slots
         let s : steps ≡ suc (steps - 1) = omega arith in
         rw (← s) (rw is at (v .answer))
 
-    visiting-stop : exceeds ranking k (boundIn key) here ≡ true → Visited index q distances tags (record { rows = rows; leaves = leaves })
+    visiting-stop : exceeds ranking k (boundIn key) here ≡ true → Visited index q highs lows (record { rows = rows; leaves = leaves })
     unfolding branchIn
     visiting-stop x =
-        ended index q distances tags rows leaves (seekOn index q (suc (steps - 1)) (branchIn key ∷ others) here)
+        ended index q highs lows rows leaves (seekOn index q (suc (steps - 1)) (branchIn key ∷ others) here)
         (seek-stop ranking branchBound (rowsAt index q) before isLeaf (kids index q) (q .k) (room index) (steps - 1) (branchIn key) others here x) (v .holds) taken
 
     others-length : length others ≡ n - 1
@@ -191,57 +191,57 @@ module _ (index asked table whole : List ℕ) (k : ℕ) (choice : Choice) (slots
         kids-room = let a = ap length kids-are in let b = length-branches index q (levelIn key - 1) (placeIn key) entries in let c = others-length in omega arith
 
         -- there is no room for the branches of an inner page
-        visiting-full : length slots < length entries + (n - 1) → Visited index q distances tags (record { rows = rows; leaves = leaves })
+        visiting-full : length slots < length entries + (n - 1) → Visited index q highs lows (record { rows = rows; leaves = leaves })
         unfolding branchIn
         visiting-full h =
-            ended index q distances tags rows leaves (seekOn index q (suc (steps - 1)) (branchIn key ∷ others) here)
+            ended index q highs lows rows leaves (seekOn index q (suc (steps - 1)) (branchIn key ∷ others) here)
             (seek-full ranking branchBound (rowsAt index q) before isLeaf (kids index q) (q .k) (room index) (steps - 1) (branchIn key) others here goes not-leaf
             (let r = kids-room in let w = v .size in omega arith)) (v .holds) taken
 
-  stop-test : (r : Bool) → behindAll distances rows k (boundIn (firstSlot slots)) ≡ r → exceeds ranking k (boundIn (firstSlot slots)) here ≡ r
-  stop-test r e = sym (behind-exceeds (λ x. true) distances tags rows k (boundIn (firstSlot slots)) (v .one) (v .holds .few) (v .holds .room) (v .holds .roomTags)) ∙ e
+  stop-test : (r : Bool) → behindAll highs rows k (boundIn (firstSlot slots)) ≡ r → exceeds ranking k (boundIn (firstSlot slots)) here ≡ r
+  stop-test r e = sym (behind-exceeds (λ x. true) highs lows rows k (boundIn (firstSlot slots)) (v .one) (v .holds .few) (v .holds .room) (v .holds .roomLows)) ∙ e
 
-  pub visiting-ends : Ends index slots n distances rows k steps → Visited index q distances tags (record { rows = rows; leaves = leaves })
+  pub visiting-ends : Ends index slots n highs rows k steps → Visited index q highs lows (record { rows = rows; leaves = leaves })
   unfolding seek sort
-  visiting-ends (spent z) = ended index q distances tags rows leaves (seekOn index q steps (frontier n slots) here) (rw z) (v .holds) (v .answer)
+  visiting-ends (spent z) = ended index q highs lows rows leaves (seekOn index q steps (frontier n slots) here) (rw z) (v .holds) (v .answer)
   visiting-ends (empty z) =
-      ended index q distances tags rows leaves (seekOn index q steps (frontier n slots) here)
+      ended index q highs lows rows leaves (seekOn index q steps (frontier n slots) here)
       (rw z (seek-end ranking branchBound (rowsAt index q) before isLeaf (kids index q) (q .k) (room index) steps here)) (v .holds) (v .answer)
   visiting-ends (far more some s) = let t = held-top n slots (v .heap) some in visiting-stop (firstSlot slots) (t .rest) (t .is) more (stop-test true s)
   visiting-ends (full more some s inner h) = let t = held-top n slots (v .heap) some in visiting-full (firstSlot slots) (t .rest) (t .is) more (stop-test false s) inner h
 
-  pub visiting-turns : Turns slots n distances rows k
+  pub visiting-turns : Turns slots n highs rows k
   visiting-turns =
       record { fits = v .heap .fits; size = omega (arith, v .size, room-most index); one = v .one; few = v .holds .few; room = v .holds .room }
 
   -- the first branch is taken
-  module _ (g : Goes index slots n distances rows k steps) (key : ℕ) (slots' : List ℕ) (p : Popped n slots key slots') (kept : length slots' ≡ length slots) where
+  module _ (g : Goes index slots n highs rows k steps) (key : ℕ) (slots' : List ℕ) (p : Popped n slots key slots') (kept : length slots' ≡ length slots) where
     near : exceeds ranking k (boundIn key) here ≡ false
     near = rw (p .top) (stop-test false (g .near))
 
     -- a leaf is read
-    pub visiting-leaf : (distances' tags' : List ℕ) (level place page r : ℕ) → level ≡ levelIn key → place ≡ placeIn key → page ≡ numberIn key → level ≡ 0
-        → OfferedAll distances tags rows k (rowsAmong q place (recordsIn (leafAt index page))) r distances' tags'
-        → length distances' ≡ length distances → length tags' ≡ length tags
-        → Visiting index asked table whole k choice slots₀ distances₀ tags₀ slots' distances' tags' (n - 1) r (leaves + 1) (steps - 1)
+    pub visiting-leaf : (highs' lows' : List ℕ) (level place page r : ℕ) → level ≡ levelIn key → place ≡ placeIn key → page ≡ numberIn key → level ≡ 0
+        → OfferedAll highs lows rows k (rowsAmong q place (recordsIn (leafAt index page))) r highs' lows'
+        → length highs' ≡ length highs → length lows' ≡ length lows
+        → Visiting index asked table whole k choice slots₀ highs₀ lows₀ slots' highs' lows' (n - 1) r (leaves + 1) (steps - 1)
     unfolding branchIn
-    visiting-leaf distances' tags' l place page r sl sp sg z offers ld lt =
+    visiting-leaf highs' lows' l place page r sl sp sg z offers lh ll =
         let x : Branch = branchIn key in
         let rest : List Branch = frontier (n - 1) slots' in
         let o = rw (sp, sg) at offers in
         let t : isLeaf x ≡ true = eq-eqb (levelIn key) 0 (sym sl ∙ z) in
         let e = seek-read ranking branchBound (rowsAt index q) before isLeaf (kids index q) (q .k) (room index) (steps - 1) x rest here near t in
         let a : filter (λ y. true) (rowsAt index q x) ≡ rowsAt index q x = filter-all (λ y. true) (rowsAt index q x) (all-every (λ y. refl) (rowsAt index q x)) in
-        let w : offered ranking branchBound (rowsAt index q) (q .k) x here ≡ rowsIn distances' tags' r = ap (λ (ys : List Row). offerAll rowOrder k ys here) a ∙ sym (o .rows) in
-        let out = seekOn index q (steps - 1) rest (rowsIn distances' tags' r) in
+        let w : offered ranking branchBound (rowsAt index q) (q .k) x here ≡ rowsIn highs' lows' r = ap (λ (ys : List Row). offerAll rowOrder k ys here) a ∙ sym (o .rows) in
+        let out = seekOn index q (steps - 1) rest (rowsIn highs' lows' r) in
         let c : leaves + length (x ∷ out .read) ≡ leaves + 1 + length (out .read) = omega arith in
         record {
           tables = v .tables;
           one = v .one;
           size = kept ∙ v .size;
           lengths = kept ∙ v .lengths;
-          lengthsD = ld ∙ v .lengthsD;
-          lengthsT = lt ∙ v .lengthsT;
+          lengthsHighs = lh ∙ v .lengthsHighs;
+          lengthsLows = ll ∙ v .lengthsLows;
           heap = p .heap;
           holds = o .held;
           few = let f = v .few in let m = g .left in omega arith;
@@ -263,7 +263,7 @@ module _ (index asked table whole : List ℕ) (k : ℕ) (choice : Choice) (slots
 
       -- an inner page has been opened
       pub visiting-open : (slots'' : List ℕ) (r : ℕ) → Opened slots' (n - 1) index q (level - 1) place page r slots'' → length slots'' ≡ length slots'
-          → Visiting index asked table whole k choice slots₀ distances₀ tags₀ slots'' distances tags r rows leaves (steps - 1)
+          → Visiting index asked table whole k choice slots₀ highs₀ lows₀ slots'' highs lows r rows leaves (steps - 1)
       unfolding branchIn
       visiting-open slots'' r o l =
           let rest : List Branch = frontier (n - 1) slots' in
@@ -278,8 +278,8 @@ module _ (index asked table whole : List ℕ) (k : ℕ) (choice : Choice) (slots
             one = v .one;
             size = l ∙ kept ∙ v .size;
             lengths = l ∙ kept ∙ v .lengths;
-            lengthsD = v .lengthsD;
-            lengthsT = v .lengthsT;
+            lengthsHighs = v .lengthsHighs;
+            lengthsLows = v .lengthsLows;
             heap = o .heap;
             holds = v .holds;
             few = let f = v .few in omega arith;

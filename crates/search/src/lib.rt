@@ -46,27 +46,17 @@ fn search_with(
     k: usize,
     choice: Choice,
     slots: &mut [u64],
-    distances: &mut [u64],
-    tags: &mut [u64],
+    highs: &mut [u64],
+    lows: &mut [u64],
 ) -> Seen
-    requires { ⌜ Seeks (now index) (now asked) k (now slots) (now distances) (now tags) ⌝ }
+    requires { ⌜ Seeks (now index) (now asked) k (now slots) (now highs) (now lows) ⌝ }
     ensures { λ r. ⌜ Searched (now (index .entry)) (asking (now (asked .entry)) k choice)
-        (now (distances .exit)) (now (tags .exit)) r ⌝ }
+        (now (highs .exit)) (now (lows .exit)) r ⌝ }
 {
     let mut near = [0u16; NEAR_PLACES];
     let mut whole = [0u64; WHOLE_PLACES];
     prepare(asked, &mut near, &mut whole);
-    best_first(
-        index,
-        asked,
-        &near,
-        &whole,
-        k,
-        choice,
-        slots,
-        distances,
-        tags,
-    )
+    best_first(index, asked, &near, &whole, k, choice, slots, highs, lows)
 }
 
 // The search of any index. One of few records gets little room: clearing more would take most of its search's time.
@@ -75,12 +65,12 @@ fn search_for(
     asked: &[u16],
     k: usize,
     choice: Choice,
-    distances: &mut [u64],
-    tags: &mut [u64],
+    highs: &mut [u64],
+    lows: &mut [u64],
 ) -> Seen
-    requires { ⌜ Looks (now asked) k (now distances) (now tags) ⌝ }
+    requires { ⌜ Looks (now asked) k (now highs) (now lows) ⌝ }
     ensures { λ r. ⌜ Searched (now (index .entry)) (asking (now (asked .entry)) k choice)
-        (now (distances .exit)) (now (tags .exit)) r ⌝ }
+        (now (highs .exit)) (now (lows .exit)) r ⌝ }
 {
     if reads_none(index) {
         return Seen { rows: 0, leaves: 0 };
@@ -88,28 +78,28 @@ fn search_for(
     let total = total_records(index);
     if total <= FEW_RECORDS {
         let mut slots = [0u64; SMALL_ROOM];
-        return search_with(index, asked, k, choice, &mut slots, distances, tags);
+        return search_with(index, asked, k, choice, &mut slots, highs, lows);
     }
     if total <= SOME_RECORDS {
         let mut slots = [0u64; MIDDLE_ROOM];
-        return search_with(index, asked, k, choice, &mut slots, distances, tags);
+        return search_with(index, asked, k, choice, &mut slots, highs, lows);
     }
     if total <= MANY_RECORDS {
         let mut slots = [0u64; LARGE_ROOM];
-        return search_with(index, asked, k, choice, &mut slots, distances, tags);
+        return search_with(index, asked, k, choice, &mut slots, highs, lows);
     }
     let mut slots = [0u64; FULL_ROOM];
-    search_with(index, asked, k, choice, &mut slots, distances, tags)
+    search_with(index, asked, k, choice, &mut slots, highs, lows)
 }
 
-// The nearest of the index's records to what is asked, as distances and tags in the arrays lent: how many there are, and the number
+// The nearest of the index's records to what is asked, as upper and lower words in the arrays lent: how many there are, and the number
 // of leaves read.
-pub fn search(index: &[u8], what: Query, distances: &mut [u64], tags: &mut [u64]) -> Seen
-    requires { ⌜ Searches what (now distances) (now tags) ⌝ }
-    ensures { λ r. ⌜ Searched (now (index .entry)) (asks what) (now (distances .exit)) (now (tags .exit)) r ⌝ }
+pub fn search(index: &[u8], what: Query, highs: &mut [u64], lows: &mut [u64]) -> Seen
+    requires { ⌜ Searches what (now highs) (now lows) ⌝ }
+    ensures { λ r. ⌜ Searched (now (index .entry)) (asks what) (now (highs .exit)) (now (lows .exit)) r ⌝ }
 {
     let features = what.features;
     let choice = what.choice;
     let end = REACHES_FROM + what.d;
-    search_for(index, &features[..end], what.k, choice, distances, tags)
+    search_for(index, &features[..end], what.k, choice, highs, lows)
 }

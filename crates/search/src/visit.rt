@@ -63,13 +63,13 @@ fn goes_on(
     index: &[u8],
     slots: &[u64],
     n: usize,
-    distances: &[u64],
+    highs: &[u64],
     rows: usize,
     k: usize,
     steps: u32,
 ) -> bool
-    requires { ⌜ Turns (now slots) n (now distances) rows k ⌝ }
-    ensures { λ r. ⌜ GoesOn (now (index .entry)) (now (slots .entry)) n (now (distances .entry)) rows k steps r ⌝ }
+    requires { ⌜ Turns (now slots) n (now highs) rows k ⌝ }
+    ensures { λ r. ⌜ GoesOn (now (index .entry)) (now (slots .entry)) n (now (highs .entry)) rows k steps r ⌝ }
 {
     if steps == 0 {
         return false;
@@ -78,7 +78,7 @@ fn goes_on(
         return false;
     }
     let first = slots[0];
-    if behind(distances, rows, k, bound_in(first)) {
+    if behind(highs, rows, k, bound_in(first)) {
         return false;
     }
     if level_in(first) == 0 {
@@ -96,19 +96,19 @@ pub fn best_first(
     k: usize,
     choice: Choice,
     slots: &mut [u64],
-    distances: &mut [u64],
-    tags: &mut [u64],
+    highs: &mut [u64],
+    lows: &mut [u64],
 ) -> Seen
-    requires { ⌜ Visits (now index) (now asked) (now near) (now whole) k (now slots) (now distances) (now tags) ⌝ }
+    requires { ⌜ Visits (now index) (now asked) (now near) (now whole) k (now slots) (now highs) (now lows) ⌝ }
     ensures { λ r. ⌜ Visited (now (index .entry)) (asking (now (asked .entry)) k choice)
-        (now (distances .exit)) (now (tags .exit)) r ⌝ }
+        (now (highs .exit)) (now (lows .exit)) r ⌝ }
 {
     slots[0] = root_key(index);
     let mut n = 1;
     let mut rows = 0;
     let mut leaves = 0;
     let mut steps = 2 * page_count(index);
-    while goes_on(index, slots, n, distances, rows, k, steps) {
+    while goes_on(index, slots, n, highs, rows, k, steps) {
         steps -= 1;
         let key = pop(slots, n);
         n -= 1;
@@ -116,7 +116,7 @@ pub fn best_first(
         let page = page_in(key);
         let place = place_in(key);
         if level == 0 {
-            rows = visit_leaf(index, page, asked, place, distances, tags, rows, k, choice);
+            rows = visit_leaf(index, page, asked, place, highs, lows, rows, k, choice);
             leaves += 1;
         } else {
             n = open_page(slots, n, index, asked, near, whole, level - 1, place, page);

@@ -22,6 +22,7 @@ use Rattle.geometry.proofs.LoopLaws.{dist-more, dist-end}
 use Rattle.pagestore_page.specs.LayoutLaws.{leaf-fits, leaf-slots}
 use Rattle.pagestore_page.specs.Layout.{noRecord}
 use Rattle.search_model.specs.Asked.{AskedPoint}
+use Rattle.search_rows.specs.Rows.{distanceIn}
 use Rattle.search_leaves.specs.Columns.{coordsAt, costFrom, gapSquare, mostCost, Sized, Sums, costSpan, quartersLeft, Quarters, notPast, BehindPast}
 
 -- the square of a gap below 2,048
@@ -212,8 +213,8 @@ none-within limit (suc n) (x ∷ xs) e zero h g = by-cases (ltb limit x) (λ f. 
 none-within limit (suc n) (x ∷ xs) e (suc r) h g = none-within limit n xs (omega arith) r (omega arith) (omega arith)
 
 -- a limit, from the k-th distance
-pub limit-all : (distances : List ℕ) (n k : ℕ) → BehindPast distances n k 4294967295
-limit-all distances n k x h l = absurd (omega arith)
+pub limit-all : (highs : List ℕ) (n k : ℕ) → BehindPast highs n k 4294967295
+limit-all highs n k x h l = absurd (omega arith)
 
-pub limit-last : (distances : List ℕ) (n k : ℕ) → k ≤ n → k ≢ 0 → BehindPast distances n k (getD distances (k - 1) 0)
-limit-last distances n k h z x g l = rw (le-ltb n k h, ne-eqb k 0 z, lt-ltb (getD distances (k - 1) 0) x l)
+pub limit-last : (highs : List ℕ) (n k : ℕ) → k ≤ n → k ≢ 0 → BehindPast highs n k (distanceIn (getD highs (k - 1) 0))
+limit-last highs n k h z x g l = rw (le-ltb n k h, ne-eqb k 0 z, lt-ltb (distanceIn (getD highs (k - 1) 0)) x l)

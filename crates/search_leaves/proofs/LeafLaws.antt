@@ -5,11 +5,11 @@ use mathlib.Core.List.{List, [], _∷_, map}
 use lib.IntN.{ℤ}
 use Prim.Native.Nat.{ℕ, zero, suc, _+_, _*_, _-_, _≤_, _<_, min}
 use native.Mathlib.Omega.{arith}
-use native.Mathlib.Numerals.{add-one}
 use native.Mathlib.Nat.{le-refl, mul-le-mul}
-use lib.ListN.{length, take, drop, getD}
+use lib.ListN.{length, take, drop, getD, length-take}
+use lib.Seq.{take-all}
 use Rattle.lists.specs.Sorting.{filter, count}
-use Rattle.lists.specs.SortingLaws.{filter-first, filter-past}
+use Rattle.lists.specs.SortingLaws.{filter-first, filter-past, offer-take, offerAll-take, insAll-ins}
 use Rattle.lists.specs.Sorting as sorting
 use Rattle.lists.specs.Tests.{by-cases}
 use Rattle.geometry.specs.Points.{distance}
@@ -27,7 +27,8 @@ use Rattle.tree_model.specs.Trees.{pointIn}
 use Rattle.tree.proofs.CountLaws.{items-next, items-end}
 use Rattle.search_rows.specs.declared.Row.{Row}
 use Rattle.search_rows.specs.Rows.{rowOrder}
-use Rattle.search_rows.specs.Held.{rowsIn, behindAll, Held, Offered}
+use Rattle.search_rows.specs.Held.{rowsOf, rowsIn, behindAll, Held, Offered}
+use Rattle.search_rows.specs.RowLaws.{row-order}
 use Rattle.search_rows.proofs.HeldLaws.{offered-behind}
 use Rattle.search_model.specs.declared.Choice.{Choice}
 use Rattle.search_model.specs.Asked.{Asked, distanceTo, candidate, asking, askingPoint}
@@ -56,6 +57,17 @@ point-distance q k c x D e =
     ∙ ap (λ (p : List ℤ). distance (pointOf q) p) (point-take (length q) (x .coords)) ∙ ap (λ (m : ℕ). distance (pointOf q) (take m (pointOf (x .coords)))) (sym (length-point q))
     ∙ first-coords (pointOf q) (pointOf (x .coords)))
 
+-- a row offered last
+offer-last : (k : ℕ) (x : Row) (xs s : List Row) → length s ≤ k
+    → sorting.offerAll rowOrder k xs (sorting.offer rowOrder k x s) ≡ sorting.offer rowOrder k x (sorting.offerAll rowOrder k xs s)
+unfolding sorting.insertAll
+offer-last k x xs s h =
+    let f = sorting.offerAll rowOrder k in
+    let short : take k s ≡ s = take-all k s h in
+    ap (λ (t : List Row). f xs (sorting.offer rowOrder k x t)) (sym short) ∙ ap (f xs) (offer-take rowOrder k x s) ∙ offerAll-take rowOrder k xs (sorting.insertBy rowOrder x s)
+    ∙ ap (take k) (insAll-ins rowOrder row-order xs x s) ∙ sym (offer-take rowOrder k x (sorting.insertAll rowOrder xs s))
+    ∙ ap (sorting.offer rowOrder k x) (sym (offerAll-take rowOrder k xs s) ∙ ap (f xs) short)
+
 -- one record: its row where it is a candidate, and no row where it is not
 module _ (q : Asked) (position : ℕ) (x : Record) where
   pub among-one : candidate q x ≡ true → rowsAmong q position (x ∷ []) ≡ rowOf q position x ∷ []
@@ -66,41 +78,42 @@ module _ (q : Asked) (position : ℕ) (x : Record) where
   unfolding rowsAmong filter
   among-none e = ap (map (rowOf q position)) (filter-past (candidate q) x [] e)
 
-  among-more : (rs : List Record) (k : ℕ) (s : List Row)
-      → sorting.offerAll rowOrder k (rowsAmong q position (x ∷ rs)) s ≡ sorting.offerAll rowOrder k (rowsAmong q position rs) (sorting.offerAll rowOrder k (rowsAmong q position (x ∷ [])) s)
+  -- of k rows or fewer it makes no difference whether the first record is offered first or last
+  among-last : (rs : List Record) (k : ℕ) (s : List Row) → length s ≤ k
+      → sorting.offerAll rowOrder k (rowsAmong q position (x ∷ rs)) s ≡ sorting.offerAll rowOrder k (rowsAmong q position (x ∷ [])) (sorting.offerAll rowOrder k (rowsAmong q position rs) s)
   unfolding rowsAmong sorting.offerAll filter
-  among-more rs k s = by-cases (candidate q x) (λ e. rw e) (λ e. rw e)
+  among-last rs k s h = by-cases (candidate q x) (λ e. rw e (offer-last k (rowOf q position x) (map (rowOf q position) (filter (candidate q) rs)) s h)) (λ e. rw e)
 
 -- ---- ONE RECORD
 
-module _ (page : List ℕ) (i D position : ℕ) (distances tags : List ℕ) (n k : ℕ) (choice : Choice) where
+module _ (page : List ℕ) (i D position : ℕ) (highs lows : List ℕ) (n k : ℕ) (choice : Choice) where
   abbrev here : Record
   here = recordIn page i
 
   row-is : (q : Asked) → D ≡ distanceTo q here → rowAt page i D position ≡ rowOf q position here
   unfolding rowOf
-  row-is q e = λ j. record { distance = e j; id = here .id; position = position }
+  row-is q e = λ j. record { distance = e j; id = here .id; stamp = here .stamp; position = position }
 
   -- whether it is a candidate or not, a row behind all rows held changes nothing
-  pub record-behind : Held distances tags n k → behindAll distances n k D ≡ true → OfferedRecord page i D position distances tags n k choice n distances tags
+  pub record-behind : Held highs lows n k → behindAll highs n k D ≡ true → OfferedRecord page i D position highs lows n k choice n highs lows
   unfolding sorting.offerAll
   record-behind h b =
       record {
         held = h;
         rows = λ q _ e.
             by-cases (candidate q here)
-            (λ c. rw (among-one q position here c, ← row-is q e) (offered-behind distances tags n k (rowAt page i D position) h b .rows))
+            (λ c. rw (among-one q position here c, ← row-is q e) (offered-behind highs lows n k (rowAt page i D position) h b .rows))
             (λ c. rw (among-none q position here c));
       }
 
-  pub record-passed : Held distances tags n k → ((q : Asked) → q .choice ≡ choice → candidate q here ≡ false) → OfferedRecord page i D position distances tags n k choice n distances tags
+  pub record-passed : Held highs lows n k → ((q : Asked) → q .choice ≡ choice → candidate q here ≡ false) → OfferedRecord page i D position highs lows n k choice n highs lows
   unfolding sorting.offerAll
   record-passed h c = record { held = h; rows = λ q w e. rw (among-none q position here (c q w)) }
 
-  pub record-taken : (r : ℕ) (distances' tags' : List ℕ) → ((q : Asked) → q .choice ≡ choice → candidate q here ≡ true) → Offered distances tags n k (rowAt page i D position) r distances' tags'
-      → OfferedRecord page i D position distances tags n k choice r distances' tags'
+  pub record-taken : (r : ℕ) (highs' lows' : List ℕ) → ((q : Asked) → q .choice ≡ choice → candidate q here ≡ true) → Offered highs lows n k (rowAt page i D position) r highs' lows'
+      → OfferedRecord page i D position highs lows n k choice r highs' lows'
   unfolding sorting.offerAll
-  record-taken r distances' tags' c o = record { held = o .held; rows = λ q w e. rw (among-one q position here (c q w), ← row-is q e) (o .rows) }
+  record-taken r highs' lows' c o = record { held = o .held; rows = λ q w e. rw (among-one q position here (c q w), ← row-is q e) (o .rows) }
 
 -- ---- A LEAF
 
@@ -113,12 +126,12 @@ module _ (page : List ℕ) (q : Asked) (position k : ℕ) (leaf : Leaf) (is : le
   pub record-slots : length (leaf .records) ≡ 16
   record-slots = ap (λ (x : Leaf). length (x .records)) is ∙ leaf-slots page
 
-  pub offers-next : (i : ℕ) (d : Record) (s t : List Row) → i < n → t ≡ sorting.offerAll rowOrder k (rowsAmong q position (getD (leaf .records) i d ∷ [])) s
-      → offersFrom q position k (recordsIn leaf) (i + 1) t ≡ offersFrom q position k (recordsIn leaf) i s
+  pub offers-next : (i : ℕ) (d : Record) (s t : List Row) → i < n → length s ≤ k → t ≡ offersFrom q position k (recordsIn leaf) (i + 1) s
+      → offersFrom q position k (recordsIn leaf) i s ≡ sorting.offerAll rowOrder k (rowsAmong q position (getD (leaf .records) i d ∷ [])) t
   unfolding offersFrom
-  offers-next i d s t h f =
+  offers-next i d s t h short f =
       rw (items-next (leaf .count) (leaf .records) record-slots i d (omega arith), f)
-      (sym (among-more q position (getD (leaf .records) i d) (drop (i + 1) (recordsIn leaf)) k s))
+      (among-last q position (getD (leaf .records) i d) (drop (i + 1) (recordsIn leaf)) k s short)
 
   pub offers-end : (i : ℕ) (s : List Row) → n ≤ i → offersFrom q position k (recordsIn leaf) i s ≡ s
   unfolding offersFrom sorting.offerAll filter
@@ -128,50 +141,52 @@ module _ (page : List ℕ) (q : Asked) (position k : ℕ) (leaf : Leaf) (is : le
   unfolding offersFrom
   offers-all s = rw is
 
-  -- where no record changes the rows held, they stay as they are
-  pub offers-none : (s : List Row) → ((i : ℕ) → i < n → s ≡ sorting.offerAll rowOrder k (rowsAmong q position (getD (leaf .records) i noRecord ∷ [])) s) → (i : ℕ) → i ≤ n
-      → offersFrom q position k (recordsIn leaf) i s ≡ offersFrom q position k (recordsIn leaf) 0 s
-  offers-none s h zero l = refl
-  offers-none s h (suc i) l =
-      ap (λ (j : ℕ). offersFrom q position k (recordsIn leaf) j s) (sym (add-one i))
-      ∙ offers-next i noRecord s s (omega arith) (h i (omega arith)) ∙ offers-none s h i (omega arith)
+  -- where no record changes the rows held, they stay as they are; m: how many records there are from i on
+  pub offers-none : (s : List Row) → length s ≤ k → ((i : ℕ) → i < n → s ≡ sorting.offerAll rowOrder k (rowsAmong q position (getD (leaf .records) i noRecord ∷ [])) s) → (m i : ℕ) → i + m ≡ n
+      → offersFrom q position k (recordsIn leaf) i s ≡ s
+  offers-none s short h zero i l = offers-end i s (omega arith)
+  offers-none s short h (suc m) i l =
+      offers-next i noRecord s s (omega arith) short (sym (offers-none s short h m (i + 1) (omega arith))) ∙ sym (h i (omega arith))
+
+-- no more than k rows are held
+pub held-few : (highs lows : List ℕ) (n k : ℕ) → Held highs lows n k → length (rowsIn highs lows n) ≤ k
+held-few highs lows n k h = let f = h .few in rw (length-take n (rowsOf highs lows)) (omega arith)
 
 -- a leaf of which no distance is near enough leaves the rows as they are
-module _ (page q : List ℕ) (position k : ℕ) (choice : Choice) (n full limit : ℕ) (distances tags sums : List ℕ) (held : Held distances tags n k) (s : Sums page q (length q) full sums)
-    (enough : min (leafOf page .count) 16 ≤ full) (past : BehindPast distances n k limit) (none : count (notPast limit) (take full sums) ≡ 0) where
-  far : (i : ℕ) → i < full → behindAll distances n k (getD sums i 0) ≡ true
+module _ (page q : List ℕ) (position k : ℕ) (choice : Choice) (n full limit : ℕ) (highs lows sums : List ℕ) (held : Held highs lows n k) (s : Sums page q (length q) full sums)
+    (enough : min (leafOf page .count) 16 ≤ full) (past : BehindPast highs n k limit) (none : count (notPast limit) (take full sums) ≡ 0) where
+  far : (i : ℕ) → i < full → behindAll highs n k (getD sums i 0) ≡ true
   far i h =
       let few = s .sized .few in let m = s .sized .most in let w = s .slots in
       let low = s .low i h in
       let top : mostCost * length q ≤ mostCost * 16 = mul-le-mul (le-refl mostCost) m in
       past (getD sums i 0) (omega arith) (none-within limit full sums none i h (omega arith))
 
-  unmoved : (i : ℕ) → i < full → rowsIn distances tags n ≡ sorting.offerAll rowOrder k (rowsAmong (askingPoint q k choice) position (recordIn page i ∷ [])) (rowsIn distances tags n)
+  unmoved : (i : ℕ) → i < full → rowsIn highs lows n ≡ sorting.offerAll rowOrder k (rowsAmong (askingPoint q k choice) position (recordIn page i ∷ [])) (rowsIn highs lows n)
   unmoved i h =
-      record-behind page i (getD sums i 0) position distances tags n k choice held (far i h) .rows (askingPoint q k choice) refl
+      record-behind page i (getD sums i 0) position highs lows n k choice held (far i h) .rows (askingPoint q k choice) refl
       (point-distance q k choice (recordIn page i) (getD sums i 0) (sums-end page q full sums s i h))
 
-  pub none-offered : OfferedAll distances tags n k (rowsAmong (askingPoint q k choice) position (recordsIn (leafOf page))) n distances tags
+  pub none-offered : OfferedAll highs lows n k (rowsAmong (askingPoint q k choice) position (recordsIn (leafOf page))) n highs lows
   none-offered =
       let c = min (leafOf page .count) 16 in
       record {
         held = held;
-        rows = sym (offers-end page (askingPoint q k choice) position k (leafOf page) refl c refl c (rowsIn distances tags n) (le-refl c))
-            ∙ offers-none page (askingPoint q k choice) position k (leafOf page) refl c refl (rowsIn distances tags n) (λ i h. unmoved i (omega arith)) c (le-refl c)
-            ∙ offers-all page (askingPoint q k choice) position k (leafOf page) refl c refl (rowsIn distances tags n);
+        rows = sym (offers-none page (askingPoint q k choice) position k (leafOf page) refl c refl (rowsIn highs lows n) (held-few highs lows n k held) (λ i h. unmoved i (omega arith)) c 0 (omega arith))
+            ∙ offers-all page (askingPoint q k choice) position k (leafOf page) refl c refl (rowsIn highs lows n);
       }
 
 -- ---- A PAGE OF THE INDEX
 
 -- the part of the index at a page holds its leaf, and the low ends of a question for a point are the point
-pub offered-part : (b : List ℕ) (p : ℕ) (asked : List ℕ) (position : ℕ) (distances tags : List ℕ) (n k : ℕ) (c : Choice) (r : ℕ) (distances' tags' : List ℕ) → inRange b p ≡ true → Seekable asked
-    → OfferedAll distances tags n k (rowsAmong (askingPoint (lowEnds asked) k c) position (recordsIn (leafOf (take (p * 1024 + 1024 - p * 1024) (drop (p * 1024) b))))) r distances' tags'
-    → OfferedAll distances tags n k (rowsAmong (asking asked k c) position (recordsIn (leafAt b p))) r distances' tags'
-offered-part b p asked position distances tags n k c r distances' tags' e s h =
+pub offered-part : (b : List ℕ) (p : ℕ) (asked : List ℕ) (position : ℕ) (highs lows : List ℕ) (n k : ℕ) (c : Choice) (r : ℕ) (highs' lows' : List ℕ) → inRange b p ≡ true → Seekable asked
+    → OfferedAll highs lows n k (rowsAmong (askingPoint (lowEnds asked) k c) position (recordsIn (leafOf (take (p * 1024 + 1024 - p * 1024) (drop (p * 1024) b))))) r highs' lows'
+    → OfferedAll highs lows n k (rowsAmong (asking asked k c) position (recordsIn (leafAt b p))) r highs' lows'
+offered-part b p asked position highs lows n k c r highs' lows' e s h =
     rw (s .is) (rw (leaf-part b p (p * 1024 + 1024 - p * 1024) (omega arith) e) at h)
 
 -- and out of range there are no records
-pub offered-outside : (b : List ℕ) (p : ℕ) (q : Asked) (position : ℕ) (distances tags : List ℕ) (n k : ℕ) → inRange b p ≡ false → Held distances tags n k
-    → OfferedAll distances tags n k (rowsAmong q position (recordsIn (leafAt b p))) n distances tags
+pub offered-outside : (b : List ℕ) (p : ℕ) (q : Asked) (position : ℕ) (highs lows : List ℕ) (n k : ℕ) → inRange b p ≡ false → Held highs lows n k
+    → OfferedAll highs lows n k (rowsAmong q position (recordsIn (leafAt b p))) n highs lows
 unfolding sorting.offerAll rowsAmong filter
-offered-outside b p q position distances tags n k e h = rw (leaf-view b p 0 [] (page-none b p e) .records) (record { held = h; rows = refl })
+offered-outside b p q position highs lows n k e h = rw (leaf-view b p 0 [] (page-none b p e) .records) (record { held = h; rows = refl })

@@ -69,9 +69,9 @@ pub record Quarters (page q : List ℕ) (s m n : ℕ) (sums : List ℕ) : Type 0
   pub each : (r : ℕ) → r < n → getD sums r 0 + quartersLeft page q s m r ≡ costFrom page q 0 r
   pub low : (r : ℕ) → r < n → getD sums r 0 ≤ mostCost * (4 * m)
 
--- a row of record i of a leaf page at a position
+-- a row of record i of a leaf page at a position, with its stamp
 abbrev pub rowAt : List ℕ → ℕ → ℕ → ℕ → Row
-rowAt page i distance position = record { distance = distance; id = recordIn page i .id; position = position }
+rowAt page i distance position = record { distance = distance; id = recordIn page i .id; stamp = recordIn page i .stamp; position = position }
 
 -- a sum that is not beyond a limit
 abbrev pub notPast : ℕ → ℕ → Bool
@@ -79,4 +79,4 @@ notPast limit x = not (ltb limit x)
 
 -- a row farther than the limit, in 32 bits, is behind all k rows
 abbrev pub BehindPast : List ℕ → ℕ → ℕ → ℕ → Type 0
-BehindPast distances n k limit = (x : ℕ) → x < 4294967296 → limit < x → behindAll distances n k x ≡ true
+BehindPast highs n k limit = (x : ℕ) → x < 4294967296 → limit < x → behindAll highs n k x ≡ true

@@ -2,40 +2,48 @@
 use mathlib.Core.Path.{_≡_}
 use mathlib.Core.Bool.{Bool}
 use mathlib.Core.List.{List, [], _∷_}
-use Prim.Native.Nat.{ℕ}
+use Prim.Native.Nat.{ℕ, _<_}
+use lib.ListN.{length}
 use Rattle.lists.specs.Sorting as sorting
-use Rattle.pagestore_page.specs.Layout.{leafOf}
+use Rattle.pagestore_page.specs.Layout.{leafOf, maxItems, pageSize}
 use Rattle.pagestore.specs.Store.{leafAt, recordsIn}
 use Rattle.search_rows.specs.declared.Row.{Row}
-use Rattle.search_rows.specs.Rows.{rowOrder}
+use Rattle.search_rows.specs.Rows.{rowOrder, FitsWords}
 use Rattle.search_rows.specs.Held.{rowsIn, Held}
 use Rattle.search_model.specs.declared.Choice.{Choice}
 use Rattle.search_model.specs.Asked.{Asked, distanceTo, candidate, asking, askingPoint}
 use Rattle.search_model.specs.Branches.{rowsAmong}
-use Rattle.search_leaves.specs.Columns.{recordIn}
+use Rattle.search_leaves.specs.Columns.{recordIn, rowAt}
 
 -- the rows xs are offered to the n rows held, of which k are kept; r are held then
-pub record OfferedAll (distances tags : List ℕ) (n k : ℕ) (xs : List Row) (r : ℕ) (distances' tags' : List ℕ) : Type 0 where
-  pub held : Held distances' tags' r k
-  pub rows : rowsIn distances' tags' r ≡ sorting.offerAll rowOrder k xs (rowsIn distances tags n)
+pub record OfferedAll (highs lows : List ℕ) (n k : ℕ) (xs : List Row) (r : ℕ) (highs' lows' : List ℕ) : Type 0 where
+  pub held : Held highs' lows' r k
+  pub rows : rowsIn highs' lows' r ≡ sorting.offerAll rowOrder k xs (rowsIn highs lows n)
 
 -- those of the candidates in a leaf page, for a point
 abbrev pub OfferedPart : List ℕ → List ℕ → ℕ → List ℕ → List ℕ → ℕ → ℕ → Choice → ℕ → List ℕ → List ℕ → Type 0
-OfferedPart page q position distances tags n k c r distances' tags' =
-    OfferedAll distances tags n k (rowsAmong (askingPoint q k c) position (recordsIn (leafOf page))) r distances' tags'
+OfferedPart page q position highs lows n k c r highs' lows' =
+    OfferedAll highs lows n k (rowsAmong (askingPoint q k c) position (recordsIn (leafOf page))) r highs' lows'
 
 -- and in the leaf at a page of the index
 abbrev pub OfferedLeaf : List ℕ → ℕ → List ℕ → ℕ → List ℕ → List ℕ → ℕ → ℕ → Choice → ℕ → List ℕ → List ℕ → Type 0
-OfferedLeaf index page asked position distances tags n k c r distances' tags' =
-    OfferedAll distances tags n k (rowsAmong (asking asked k c) position (recordsIn (leafAt index page))) r distances' tags'
+OfferedLeaf index page asked position highs lows n k c r highs' lows' =
+    OfferedAll highs lows n k (rowsAmong (asking asked k c) position (recordsIn (leafAt index page))) r highs' lows'
 
 -- r says whether the record in slot i of a leaf page is a candidate, whatever else is asked
 abbrev pub Tells : List ℕ → ℕ → Choice → Bool → Type 0
 Tells page i c r = (q : Asked) → q .choice ≡ c → r ≡ candidate q (recordIn page i)
 
+-- what offering the record in slot i of a leaf page asks for
+pub record Offers (page : List ℕ) (i distance position : ℕ) (highs lows : List ℕ) (n k : ℕ) : Type 0 where
+  pub bytes : length page ≡ pageSize
+  pub slot : i < maxItems
+  pub fits : FitsWords (rowAt page i distance position)
+  pub held : Held highs lows n k
+
 -- the record in slot i of a leaf page is offered if it is a candidate, at that distance from whatever is asked
-pub record OfferedRecord (page : List ℕ) (i distance position : ℕ) (distances tags : List ℕ) (n k : ℕ)
-    (c : Choice) (r : ℕ) (distances' tags' : List ℕ) : Type 0 where
-  pub held : Held distances' tags' r k
+pub record OfferedRecord (page : List ℕ) (i distance position : ℕ) (highs lows : List ℕ) (n k : ℕ)
+    (c : Choice) (r : ℕ) (highs' lows' : List ℕ) : Type 0 where
+  pub held : Held highs' lows' r k
   pub rows : (q : Asked) → q .choice ≡ c → distance ≡ distanceTo q (recordIn page i)
-      → rowsIn distances' tags' r ≡ sorting.offerAll rowOrder k (rowsAmong q position (recordIn page i ∷ [])) (rowsIn distances tags n)
+      → rowsIn highs' lows' r ≡ sorting.offerAll rowOrder k (rowsAmong q position (recordIn page i ∷ [])) (rowsIn highs lows n)

@@ -4,10 +4,11 @@ ghost use Prim.Native.Nat.{_≤_, _<_, min};
 ghost use lib.ListN.{length, take};
 ghost use Rattle.lists.specs.Basics.{indicator};
 ghost use Rattle.lists.specs.Sorting.{count};
+ghost use Rattle.search_rows.specs.Rows.{distances, positions};
 ghost use Rattle.search_rows.specs.Held.{Held};
 ghost use Rattle.search_leaves.specs.Columns.{notPast, BehindPast};
 ghost use Rattle.search_model.specs.Asked.{inStages, AskedPoint, Seekable};
-ghost use Rattle.search_leaves.specs.Offering.{Tells, OfferedRecord, OfferedPart, OfferedLeaf};
+ghost use Rattle.search_leaves.specs.Offering.{Tells, Offers, OfferedRecord, OfferedPart, OfferedLeaf};
 ghost use Rattle.pagestore_page.specs.Layout.{maxItems, pageSize};
 use crate::columns::add_columns;
 use geometry_slices::REACHES_FROM;
@@ -18,9 +19,11 @@ use pagestore::lanes;
 use pagestore::read_count;
 use pagestore::read_ident;
 use pagestore::read_stage;
+use pagestore::read_stamp;
 use search_model::Choice;
 use search_rows::Row;
 use search_rows::behind;
+use search_rows::distance_in;
 use search_rows::offer;
 
 mod columns;
@@ -41,15 +44,15 @@ pub fn filled(count: usize) -> usize
 }
 
 fn wide(x: u32) -> u64
-    ensures { λ r. ⌜ r ≡ x ⌝ }
+    ensures { λ r. ⌜ (r ≡ x) × (r < distances) ⌝ }
 {
     x as u64
 }
 
 // A distance beyond which, up to 32 bits, a row is behind all k rows; with fewer than k rows there is none.
-fn limit_of(distances: &[u64], n: usize, k: usize) -> u32
-    requires { ⌜ k ≤ length (now distances) ⌝ }
-    ensures { λ r. ⌜ BehindPast (now (distances .entry)) n k r ⌝ }
+fn limit_of(highs: &[u64], n: usize, k: usize) -> u32
+    requires { ⌜ k ≤ length (now highs) ⌝ }
+    ensures { λ r. ⌜ BehindPast (now (highs .entry)) n k r ⌝ }
 {
     if n < k {
         return FAR;
@@ -57,7 +60,7 @@ fn limit_of(distances: &[u64], n: usize, k: usize) -> u32
     if k == 0 {
         return FAR;
     }
-    let last = distances[k - 1];
+    let last = distance_in(highs[k - 1]);
     if last < WIDE_FAR { last as u32 } else { FAR }
 }
 
@@ -99,24 +102,24 @@ fn is_candidate(page: &[u8], i: usize, choice: Choice) -> bool
     in_stages(choice.stages, read_stage(page, i))
 }
 
-// Offers the record in slot i of a leaf page, whose squared distance is told, if it is a candidate. Its identifier is read only
-// where a row is taken.
+// Offers the record in slot i of a leaf page, whose squared distance is told, if it is a candidate. Its identifier and
+// its stamp are read only where the distance is near enough for a row.
 fn offer_record(
     page: &[u8],
     i: usize,
     distance: u64,
     position: u32,
-    distances: &mut [u64],
-    tags: &mut [u64],
+    highs: &mut [u64],
+    lows: &mut [u64],
     n: usize,
     k: usize,
     choice: Choice,
 ) -> usize
-    requires { ⌜ (length (now page) ≡ pageSize) × (i < maxItems) × Held (now distances) (now tags) n k ⌝ }
-    ensures { λ r. ⌜ OfferedRecord (now (page .entry)) i distance position (now (distances .entry)) (now (tags .entry)) n k choice
-        r (now (distances .exit)) (now (tags .exit)) ⌝ }
+    requires { ⌜ Offers (now page) i distance position (now highs) (now lows) n k ⌝ }
+    ensures { λ r. ⌜ OfferedRecord (now (page .entry)) i distance position (now (highs .entry)) (now (lows .entry)) n k choice
+        r (now (highs .exit)) (now (lows .exit)) ⌝ }
 {
-    if behind(distances, n, k, distance) {
+    if behind(highs, n, k, distance) {
         return n;
     }
     if !is_candidate(page, i, choice) {
@@ -125,41 +128,43 @@ fn offer_record(
     let row = Row {
         distance: distance,
         id: read_ident(page, i),
-        position: position,
+        stamp: read_stamp(page, i),
+        position: position as u64,
     };
-    offer(distances, tags, n, k, row)
+    offer(highs, lows, n, k, row)
 }
 
 // Offers the records of a leaf page, handed over as a part of the index, to the n rows held. No function of the search reads a
 // leaf page but this one and those to which it hands the part on. The distances come first, all together; where none is near
-// enough, no record is looked at.
+// enough, no record is looked at. Records are offered from the last on: of those at one point identifiers rise, and where stamps
+// rise with them, as in one recording, the best are offered first.
 fn offer_leaf(
     page: &[u8],
     q: &[u16],
     position: u32,
-    distances: &mut [u64],
-    tags: &mut [u64],
+    highs: &mut [u64],
+    lows: &mut [u64],
     n: usize,
     k: usize,
     choice: Choice,
 ) -> usize
-    requires { ⌜ (length (now page) ≡ pageSize) × AskedPoint (now q) × Held (now distances) (now tags) n k ⌝ }
-    ensures { λ r. ⌜ OfferedPart (now (page .entry)) (now (q .entry)) position (now (distances .entry)) (now (tags .entry)) n k choice
-        r (now (distances .exit)) (now (tags .exit)) ⌝ }
+    requires { ⌜ (length (now page) ≡ pageSize) × AskedPoint (now q) × (position < positions) × Held (now highs) (now lows) n k ⌝ }
+    ensures { λ r. ⌜ OfferedPart (now (page .entry)) (now (q .entry)) position (now (highs .entry)) (now (lows .entry)) n k choice
+        r (now (highs .exit)) (now (lows .exit)) ⌝ }
 {
     let count = filled(read_count(page));
     let full = lanes(count);
     let mut sums = [0u32; MAX_ITEMS];
     add_columns(page, q, full, &mut sums);
-    if within(&sums, full, limit_of(distances, n, k)) == 0 {
+    if within(&sums, full, limit_of(highs, n, k)) == 0 {
         return n;
     }
     let mut rows = n;
-    let mut i = 0;
-    while i < count {
+    let mut i = count;
+    while 0 < i {
+        i -= 1;
         let sum = wide(sums[i]);
-        rows = offer_record(page, i, sum, position, distances, tags, rows, k, choice);
-        i += 1;
+        rows = offer_record(page, i, sum, position, highs, lows, rows, k, choice);
     }
     rows
 }
@@ -170,15 +175,15 @@ pub fn visit_leaf(
     page: u32,
     asked: &[u16],
     position: u32,
-    distances: &mut [u64],
-    tags: &mut [u64],
+    highs: &mut [u64],
+    lows: &mut [u64],
     n: usize,
     k: usize,
     choice: Choice,
 ) -> usize
-    requires { ⌜ Seekable (now asked) × Held (now distances) (now tags) n k ⌝ }
-    ensures { λ r. ⌜ OfferedLeaf (now (index .entry)) page (now (asked .entry)) position (now (distances .entry)) (now (tags .entry))
-        n k choice r (now (distances .exit)) (now (tags .exit)) ⌝ }
+    requires { ⌜ Seekable (now asked) × (position < positions) × Held (now highs) (now lows) n k ⌝ }
+    ensures { λ r. ⌜ OfferedLeaf (now (index .entry)) page (now (asked .entry)) position (now (highs .entry)) (now (lows .entry))
+        n k choice r (now (highs .exit)) (now (lows .exit)) ⌝ }
 {
     if in_range(index, page) {
         let at = page as usize * PAGE_SIZE;
@@ -188,8 +193,8 @@ pub fn visit_leaf(
             &index[at..end],
             &asked[..d],
             position,
-            distances,
-            tags,
+            highs,
+            lows,
             n,
             k,
             choice,

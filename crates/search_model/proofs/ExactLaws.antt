@@ -4,20 +4,21 @@ use mathlib.Core.Bool.{Bool, true, false}
 use mathlib.Core.List.{List, [], _∷_, map}
 use Prim.Native.Nat.{ℕ, zero, suc, _≤_, _<_}
 use native.Mathlib.Omega.{arith}
-use lib.ListN.{length, length-map}
+use lib.ListN.{length, length-map, take}
 use lib.Dec.{ltb, eqb}
 use borrow.Author.Tests.{eqb-true, eqb-false, eq-eqb, ltb-true, ltb-false, lt-ltb, ne-eqb}
 use Rattle.lists.specs.Basics.{All, none, also, concatMap}
 use Rattle.lists.specs.Tests.{by-cases}
 use Rattle.lists.specs.Sorting.{filter, count, sort}
-use Rattle.lists.specs.SortingLaws.{filter-sort, count-append}
-use Rattle.lists.specs.ConcatMapLaws.{map-append}
+use Rattle.lists.specs.SortingLaws.{filter-sort, filter-all, count-append}
+use Rattle.lists.specs.ConcatMapLaws.{map-append, all-every}
 use Rattle.lists.specs.Counts.{mult, mult-append}
 use Rattle.search_theory.specs.Nearest.{Outcome, nearest, candidates, inSet, bestFirst}
 use Rattle.search_theory.specs.Promises as flatly
 use Rattle.search_rows.specs.declared.Row.{Row}
 use Rattle.search_theory.specs.Marks.{Strict}
-use Rattle.search_rows.specs.RowLaws.{row-order, ofId, past, Distinct, candidates-strict}
+use Rattle.search_rows.specs.Rows.{newestFirst}
+use Rattle.search_rows.specs.RowLaws.{row-order, ofId, Distinct, nearest-by-stamp, candidates-strict}
 use Rattle.pagestore_page.specs.declared.Record.{Record}
 use Rattle.pagestore.specs.Store.{level, total, View, viewOf, fieldAt}
 use Rattle.tree_model.specs.Trees.{Item, leaves, treeOf, leavesOf, identOf, live}
@@ -25,7 +26,7 @@ use Rattle.tree_model.specs.Sound.{SoundIndex}
 use Rattle.search_model.specs.Asked.{Asked, candidate, Askable}
 use Rattle.search_model.specs.Branches.{Branch, branchBound, tied, before, rowOf, rowsAmong, rowsAt}
 use Rattle.search_model.specs.Visit.{ranking, Answer, visited, readsNone, found, placed, leavesRead}
-use Rattle.search_model.specs.Questions.{answerDue, rowsFrom, rowsOf, leafBranch, toRead, setFrom, readingOrder}
+use Rattle.search_model.specs.Questions.{answerDue, rowsFrom, rowsOf, leafBranch, toReadBy, toRead, setFrom, readingOrder}
 use Rattle.search_model.proofs.FrameLaws.{leafBranches}
 use Rattle.search_model.proofs.DescentLaws.{branch-order}
 use Rattle.search_model.proofs.SoundLaws.{leafItems, records-leaves, none-held}
@@ -33,12 +34,12 @@ use Rattle.search_model.proofs.VisitedLaws.{indexLeaves, like-self, rea
 
 count-set : (v : View) (q : Asked) (p : ℕ) (us : List (Item 1)) → All (λ u. 0 < length (u .1)) us
     → count (λ x. inSet ranking (q .k) (rowsOf v q) (x .bound)) (leafBranches q (v .d) p us) ≡ count (toRead v q) us
-unfolding count leafBranches leafBranch toRead
+unfolding count leafBranches leafBranch toReadBy
 count-set v q p [] none = refl
 count-set v q p (u ∷ us) (also h a) = rw (lt-ltb 0 (length (u .1)) h, count-set v q (suc p) us a)
 
 none-set : (v : View) (q : Asked) (us : List (Item 1)) → All (λ u. u .1 ≡ []) us → count (toRead v q) us ≡ 0
-unfolding count toRead
+unfolding count toReadBy
 none-set v q [] none = refl
 none-set v q (u ∷ us) (also e a) = rw (e, none-set v q us a)
 
@@ -74,7 +75,7 @@ module _ (b : List ℕ) (s : SoundIndex b) (q : Asked) (suits : Askable (viewOf 
   pub found-exact : found b q ≡ answerDue v q
   found-exact = by-cases (ltb 0 (v .total)) (λ e. exact-some (ltb-true 0 (v .total) e)) (λ e. exact-none (omega (arith, ltb-false 0 (v .total) e)))
 
-  -- rows-nearest: the rows are the k nearest of the live candidates, by distance and then by identifier, or all if fewer live
+  -- rows-nearest: the rows are the k nearest of the live candidates, by distance, then by later stamp, then by lower identifier, or all if fewer live
   pub rows-nearest : (found b q) .rows ≡ nearest ranking (q .k) (rowsOf v q)
   rows-nearest = ap (λ (f : Answer). f .rows) found-exact
 
@@ -86,7 +87,7 @@ module _ (b : List ℕ) (s : SoundIndex b) (q : Asked) (suits : Askable (viewOf 
 
   -- the branches of the leaves of the set
   set-branches : (p : ℕ) (ts : List (Item 1)) → All (λ u. 0 < length (u .1)) ts → filter (λ x. inSet ranking (q .k) (rowsOf v q) (x .bound)) (leafBranches q (v .d) p ts) ≡ setFrom v q p ts
-  unfolding filter leafBranches leafBranch setFrom toRead
+  unfolding filter leafBranches leafBranch setFrom toReadBy
   set-branches p [] none = refl
   set-branches p (u ∷ ts) (also h a) = rw (lt-ltb 0 (length (u .1)) h, set-branches (suc p) ts a)
 
@@ -106,7 +107,7 @@ module _ (b : List ℕ) (s : SoundIndex b) (q : Asked) (suits : Askable (viewOf 
   read-nothing c e = rw (e)
 
   set-none : (p : ℕ) (ts : List (Item 1)) → All (λ u. u .1 ≡ []) ts → setFrom v q p ts ≡ []
-  unfolding setFrom toRead
+  unfolding setFrom toReadBy
   set-none p [] none = refl
   set-none p (u ∷ ts) (also h a) = rw (h, set-none (suc p) ts a)
 
@@ -146,7 +147,7 @@ count-rows n q p (u ∷ us) =
     let h = count-rows n q (suc p) us in let g = count-idents n q p (filter (candidate q) (u .1)) in let k = kept-idents n (candidate q) (u .1) in
     rw (count-append (ofId n) (map (rowOf q p) (filter (candidate q) (u .1))) (rowsFrom q (suc p) us), map-append identOf (u .1) (concatMap leafItems us), mult-append n (map identOf (u .1)) (map identOf (concatMap leafItems us))) (omega arith)
 
--- identifiers are distinct, so the rows go by distance and then by identifier: position never decides
+-- identifiers are distinct
 pub rows-distinct : (b : List ℕ) → SoundIndex b → (q : Asked) → Distinct (rowsOf (viewOf b) q)
 unfolding rowsOf leavesOf live
 rows-distinct b s q n =
@@ -154,5 +155,12 @@ rows-distinct b s q n =
     let f = ap (λ (rs : List Record). mult n (map identOf rs)) (records-leaves (viewOf b .level) (treeOf (viewOf b))) in
     let d = s .distinct n in omega arith
 
-pub rows-by-identifier : (b : List ℕ) → SoundIndex b → (q : Asked) → Strict past (candidates ranking (rowsOf (viewOf b) q))
-rows-by-identifier b s q = candidates-strict (λ x. true) (rowsOf (viewOf b) q) (rows-distinct b s q)
+-- so the rows go by distance, then by later stamp, then by lower identifier: position never decides
+pub rows-by-stamp : (b : List ℕ) → SoundIndex b → (q : Asked) → nearest ranking (q .k) (rowsOf (viewOf b) q) ≡ take (q .k) (sort newestFirst (rowsOf (viewOf b) q))
+rows-by-stamp b s q =
+    let xs = rowsOf (viewOf b) q in
+    nearest-by-stamp (λ x. true) (q .k) xs (rows-distinct b s q) ∙ ap (λ (ys : List Row). take (q .k) (sort newestFirst ys)) (filter-all (λ x. true) xs (all-every (λ x. refl) xs))
+
+-- and each is behind every one before it, by these
+pub rows-strict : (b : List ℕ) → SoundIndex b → (q : Asked) → Strict newestFirst (candidates ranking (rowsOf (viewOf b) q))
+rows-strict b s q = candidates-strict (λ x. true) (rowsOf (viewOf b) q) (rows-distinct b s q)

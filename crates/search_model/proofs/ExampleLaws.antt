@@ -1,4 +1,4 @@
--- The examples of 01 marked P that speak of leaves hold: by the promises, they compute.
+-- The examples of 01 marked P that speak of leaves hold, and Q-9's: by the promises, they compute.
 use mathlib.Core.Path.{_≡_, refl, sym, ap, _∙_}
 use mathlib.Core.Bool.{_&&_}
 use mathlib.Core.List.{List, [], _∷_, map}
@@ -20,32 +20,32 @@ use Rattle.tree_model.specs.Trees.{Item, keyOf, firstKey, lastKey, leavesOf}
 use Rattle.search_model.specs.Asked.{Asked, inStages, fullSet, plainly, distanceTo, candidate, spanBound}
 use Rattle.search_model.specs.Branches.{rowOf, rowsAmong}
 use Rattle.search_model.specs.Visit.{ranking, Answer}
-use Rattle.search_model.specs.Questions.{rowsFrom, rowsOf, leafBound, toRead}
-use Rattle.search_model.specs.Examples.{recordNo, Holds, examples}
+use Rattle.search_model.specs.Questions.{rowsFrom, rowsOf, leafBound, toReadBy}
+use Rattle.search_model.specs.Examples.{recordNo, Holds, unstamped, examples, mixed, stampedExamples}
 use Rattle.search_model.proofs.AskedLaws.{plain-suits}
 use Rattle.search_model.proofs.ExactLaws.{found-exact}
 
 -- the two leaves
-abbrev pair : ℕ → ℕ → List (Item 1)
-pair a b = (a, map recordNo (rangeFrom 1 9)) ∷ (b, map recordNo (rangeFrom 10 8)) ∷ []
+abbrev pair : (ℕ → ℕ) → ℕ → ℕ → List (Item 1)
+pair stamp a b = (a, map (recordNo stamp) (rangeFrom 1 9)) ∷ (b, map (recordNo stamp) (rangeFrom 10 8)) ∷ []
 
 abbrev asked : ℕ → ℕ → Asked
 asked n k = plainly (pos n ∷ []) k (record { stages = fullSet })
 
 -- the identifiers that demand 2 calls for, and the number of leaves that demand 3 does
-abbrev rowsFor : ℕ → ℕ → ℕ → ℕ → List ℕ
-rowsFor n k a b = map (λ x. x .id) (nearest ranking k (rowsFrom (asked n k) 0 (pair a b)))
+abbrev rowsFor : (ℕ → ℕ) → ℕ → ℕ → ℕ → ℕ → List ℕ
+rowsFor stamp n k a b = map (λ x. x .id) (nearest ranking k (rowsFrom (asked n k) 0 (pair stamp a b)))
 
-abbrev readFor : ℕ → ℕ → ℕ → ℕ → ℕ
-readFor n k a b = count (λ t. ltb 0 (length (t .1)) && inSet ranking k (rowsFrom (asked n k) 0 (pair a b)) (leafBound 1 (asked n k) t)) (pair a b)
+abbrev readFor : (ℕ → ℕ) → ℕ → ℕ → ℕ → ℕ → ℕ
+readFor stamp n k a b = count (λ t. ltb 0 (length (t .1)) && inSet ranking k (rowsFrom (asked n k) 0 (pair stamp a b)) (leafBound 1 (asked n k) t)) (pair stamp a b)
 
-holds : (n k : ℕ) (rows : List ℕ) (read : ℕ) → 1 ≤ k → ((a b : ℕ) → rowsFor n k a b ≡ rows) → ((a b : ℕ) → readFor n k a b ≡ read)
-    → Holds (record { point = n; k = k; rows = rows; read = read })
-unfolding rowsOf toRead
-holds n k rows read one e f b s h =
+holds : (stamp : ℕ → ℕ) (n k : ℕ) (rows : List ℕ) (read : ℕ) → 1 ≤ k → ((a b : ℕ) → rowsFor stamp n k a b ≡ rows) → ((a b : ℕ) → readFor stamp n k a b ≡ read)
+    → Holds stamp (record { point = n; k = k; rows = rows; read = read })
+unfolding rowsOf toReadBy
+holds stamp n k rows read one e f b s h =
     let v = viewOf b in
     let x = found-exact b s (asked n k) (plain-suits (v .d) (pos n ∷ []) k _ (sym (h .d))) one in
-    let l : leavesOf v ≡ pair (h .first) (h .second) = h .leaves in (
+    let l : leavesOf v ≡ pair stamp (h .first) (h .second) = h .leaves in (
       ap (λ (y : Answer). map (λ z. z .id) (y .rows)) x ∙ ap (λ (ts : List (Item 1)). map (λ z. z .id) (nearest ranking k (rowsFrom (asked n k) 0 ts))) l ∙ e (h .first) (h .second),
       ap (λ (y : Answer). y .leaves) x
           ∙ (λ i. count (λ t. ltb 0 (length (t .1)) && inSet ranking k (rowsFrom (asked n k) 0 (l i)) (leafBound (h .d i) (asked n k) t)) (l i))
@@ -53,12 +53,19 @@ holds n k rows read one e f b s h =
     )
 
 -- every example of the list holds
-pub answers-hold : All Holds examples
+pub answers-hold : All (Holds unstamped) examples
 unfolding rangeFrom filter count insertBy sort lex headOr lastOr heightOf axisAt axisOf pyramidOf gapOf distTo plain sideBy sliceBy axisNo signNo sliceAt leastFrom leastIn boundTo boundOf pointOf slotsOf candidates nearest kth inSet keyOf firstKey lastKey distanceTo inStages candidate spanBound rowOf rowsAmong rowsFrom leafBound recordNo
 answers-hold =
-    also (holds 9 1 (9 ∷ []) 1 (lit≤ tt) (λ a b. refl) (λ a b. refl))
-    (also (holds 9 2 (9 ∷ 8 ∷ []) 2 (lit≤ tt) (λ a b. refl) (λ a b. refl))
-    (also (holds 1 9 (rangeFrom 1 9) 1 (lit≤ tt) (λ a b. refl) (λ a b. refl))
-    (also (holds 9 18 (9 ∷ 8 ∷ 10 ∷ 7 ∷ 11 ∷ 6 ∷ 12 ∷ 5 ∷ 13 ∷ 4 ∷ 14 ∷ 3 ∷ 15 ∷ 2 ∷ 16 ∷ 1 ∷ 17 ∷ []) 2 (lit≤ tt) (λ a b. refl) (λ a b. refl))
-    (also (holds 1 18 (rangeFrom 1 17) 2 (lit≤ tt) (λ a b. refl) (λ a b. refl))
+    also (holds unstamped 9 1 (9 ∷ []) 1 (lit≤ tt) (λ a b. refl) (λ a b. refl))
+    (also (holds unstamped 9 2 (9 ∷ 8 ∷ []) 2 (lit≤ tt) (λ a b. refl) (λ a b. refl))
+    (also (holds unstamped 1 9 (rangeFrom 1 9) 1 (lit≤ tt) (λ a b. refl) (λ a b. refl))
+    (also (holds unstamped 9 18 (9 ∷ 8 ∷ 10 ∷ 7 ∷ 11 ∷ 6 ∷ 12 ∷ 5 ∷ 13 ∷ 4 ∷ 14 ∷ 3 ∷ 15 ∷ 2 ∷ 16 ∷ 1 ∷ 17 ∷ []) 2 (lit≤ tt) (λ a b. refl) (λ a b. refl))
+    (also (holds unstamped 1 18 (rangeFrom 1 17) 2 (lit≤ tt) (λ a b. refl) (λ a b. refl))
     none))))
+
+pub stamps-hold : All (Holds mixed) stampedExamples
+unfolding rangeFrom filter count insertBy sort lex headOr lastOr heightOf axisAt axisOf pyramidOf gapOf distTo plain sideBy sliceBy axisNo signNo sliceAt leastFrom leastIn boundTo boundOf pointOf slotsOf candidates nearest kth inSet keyOf firstKey lastKey distanceTo inStages candidate spanBound rowOf rowsAmong rowsFrom leafBound recordNo
+stamps-hold =
+    also (holds mixed 9 6 (9 ∷ 8 ∷ 10 ∷ 7 ∷ 11 ∷ 12 ∷ []) 2 (lit≤ tt) (λ a b. refl) (λ a b. refl))
+    (also (holds mixed 9 18 (9 ∷ 8 ∷ 10 ∷ 7 ∷ 11 ∷ 12 ∷ 6 ∷ 13 ∷ 5 ∷ 4 ∷ 14 ∷ 3 ∷ 15 ∷ 2 ∷ 16 ∷ 17 ∷ 1 ∷ []) 2 (lit≤ tt) (λ a b. refl) (λ a b. refl))
+    none)

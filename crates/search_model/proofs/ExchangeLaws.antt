@@ -25,7 +25,7 @@ use Rattle.tree_model.specs.Sound.{SoundIndex}
 use Rattle.search_model.specs.Asked.{Asked, Askable}
 use Rattle.search_model.specs.Branches.{rowsAmong}
 use Rattle.search_model.specs.Visit.{ranking, Answer, found}
-use Rattle.search_model.specs.Questions.{rowsFrom, rowsOf, leafBound, toRead, Kept, Exchanged, end, next}
+use Rattle.search_model.specs.Questions.{rowsFrom, rowsOf, leafBound, toReadBy, toRead, Kept, Exchanged, end, next}
 use Rattle.search_model.proofs.VisitedLaws.{LeafFloor, among-floor, leaf-floors}
 use Rattle.search_model.proofs.ExactLaws.{found-exact, rows-nearest}
 
@@ -144,7 +144,7 @@ module _ (b c : List ℕ) (sb : SoundIndex b) (sc : SoundIndex c) (q : Asked) (s
   rows-second = ap (λ (n : ℕ). concatMap (rowsNo q zs) (rangeFrom 0 n)) (sym (exchanged-length x)) ∙ rows-no q zs
 
   kept-rows : (p : ℕ) (t u : Item 1) → Kept d (toRead (viewOf b) q t) t u → inSet ranking (q .k) (rowsOf (viewOf b) q) (leafBound d q t) ≡ true → rowsAmong q p (u .1) ≡ rowsAmong q p (t .1)
-  unfolding toRead
+  unfolding toReadBy
   kept-rows p t u h w =
       ap (rowsAmong q p)
       (by-cases (ltb 0 (length (t .1)))
@@ -158,7 +158,7 @@ module _ (b c : List ℕ) (sb : SoundIndex b) (sc : SoundIndex c) (q : Asked) (s
       (all-every (λ p w. kept-rows p (leafNo ts p) (leafNo zs p) (kept-no x p) (rw rows-first at w)) positions))
 
   set-kept : (t u : Item 1) (r : Bool) → Kept d r t u → toRead (viewOf c) q u ≡ toRead (viewOf b) q t
-  unfolding toRead inSet
+  unfolding toReadBy inSet
   set-kept t u r h = rw (nearest-kept, alike, h .number, bound-kept t u r h)
 
   count-kept : (r : Item 1 → Bool) {us ws : List (Item 1)} → Exchanged d r us ws → count (toRead (viewOf c) q) ws ≡ count (toRead (viewOf b) q) us

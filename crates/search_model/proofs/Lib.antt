@@ -9,5 +9,6 @@ pub mod VisitedLaws
 pub mod ExactLaws
 pub mod UnreadLaws
 pub mod FullSetLaws
+pub mod OneStampLaws
 pub mod ExchangeLaws
 pub mod ExampleLaws

@@ -29,7 +29,7 @@ use Rattle.tree_model.specs.Sound.{SoundIndex}
 use Rattle.search_model.specs.Asked.{Asked, candidate, spanBound, Askable}
 use Rattle.search_model.specs.Branches.{rowOf, rowsAmong}
 use Rattle.search_model.specs.Visit.{ranking}
-use Rattle.search_model.specs.Questions.{rowsFrom, rowsOf, leafBound, liveCandidates, toRead, Near, lastDistance, Called}
+use Rattle.search_model.specs.Questions.{rowsFrom, rowsOf, leafBound, liveCandidates, toReadBy, toRead, Near, lastDistance, Called}
 use Rattle.search_model.proofs.RecordLaws.{Right, from-first, pyramidIn, heightIn, real, ordered}
 use Rattle.search_model.proofs.FrameLaws.{Ordered, Branching, leaf-records}
 use Rattle.search_model.proofs.SoundLaws.{leafItems, records-leaves, tree-ordered, leaves-ordered, none-held}
@@ -57,7 +57,7 @@ nearest-length v q =
 
 -- few-all: with fewer than k candidates every leaf that holds records is in the set, also one without a candidate
 pub few-all : (v : View) (q : Asked) (t : Item 1) → length (liveCandidates v q) < q .k → 0 < length (t .1) → toRead v q t ≡ true
-unfolding toRead inSet
+unfolding toReadBy inSet
 few-all v q t few some =
     rw (lt-ltb 0 (length (t .1)) some, lt-ltb (length (nearest ranking (q .k) (rowsOf v q))) (q .k) (nearest-length v q .1 few))
 
@@ -83,7 +83,7 @@ module _ (b : List ℕ) (s : SoundIndex b) (q : Asked) (suits : Askable (viewOf 
       (rw len (real d (s .d .0) (s .d .1) a ga)) (rw len (real d (s .d .0) (s .d .1) z gz)) (ordered d (s .d .0) (s .d .1) a z ga gz l)
 
   set-leaf : (t : Item 1) → Ordered (v .d) 0 t → 0 < length (t .1) → (toRead v q t ≡ true → Called v q t) × (Called v q t → toRead v q t ≡ true)
-  unfolding toRead inSet
+  unfolding toReadBy inSet
   set-leaf t o some =
       let w = leaf-bound t o some in
       let n = length (nearest ranking (q .k) (rowsOf v q)) in
@@ -111,7 +111,7 @@ module _ (b : List ℕ) (s : SoundIndex b) (q : Asked) (suits : Askable (viewOf 
   -- set-points: a leaf is in the set just if it holds records, and fewer than k candidates live or its span has a grid point no
   -- farther than the last row
   pub set-points : All (λ t. (toRead v q t ≡ true → Called v q t) × (Called v q t → toRead v q t ≡ true)) (leavesOf v)
-  unfolding leavesOf Branching toRead
+  unfolding leavesOf Branching toReadBy
   set-points =
       by-cases (ltb 0 (v .total))
       (λ e. all-map (λ t (o : Ordered (v .d) 0 t). set-leaf t o (o .some)) (leaves-ordered (v .d) (v .level) (treeOf v) (tree-ordered b s (ltb-true 0 (v .total) e))))

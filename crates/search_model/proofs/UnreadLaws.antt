@@ -26,7 +26,7 @@ use Rattle.tree_model.specs.Sound.{SoundIndex}
 use Rattle.search_model.specs.Asked.{Asked, Askable}
 use Rattle.search_model.specs.Branches.{branchBound, tied, rowsAmong, rowsAt}
 use Rattle.search_model.specs.Visit.{ranking, answerOf, found}
-use Rattle.search_model.specs.Questions.{rowsOf, leafBranch, toRead, unreadPages, AgreeBut}
+use Rattle.search_model.specs.Questions.{rowsOf, leafBranch, toReadBy, toRead, unreadPages, AgreeBut}
 use Rattle.search_model.proofs.FrameLaws.{Frame, parts-right, leafBranches}
 use Rattle.search_model.proofs.DescentLaws.{branch-order}
 use Rattle.search_model.proofs.SoundLaws.{tree-frame, tree-header, tree-once}
@@ -124,7 +124,7 @@ module _ (b : List ℕ) (s : SoundIndex b) (q : Asked) (suits : Askable (viewOf 
 
     rows-same : (p : ℕ) (us : List (Item 1)) → All (λ u. toRead (viewOf b) q u ≡ true → mult (u .0) unread ≡ 0) us → All (λ u. 0 < length (u .1)) us
         → All (λ x. inSet ranking (q .k) (rowsOf (viewOf b) q) (x .bound) ≡ true → rowsAt c q x ≡ rowsAt b q x) (leafBranches q (viewOf b .d) p us)
-    unfolding leafBranches leafBranch toRead
+    unfolding leafBranches leafBranch toReadBy
     rows-same p [] none none = none
     rows-same p (u ∷ us) (also g a) (also l m) =
         also {x = leafBranch q (viewOf b .d) p u}

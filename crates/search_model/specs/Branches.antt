@@ -77,10 +77,10 @@ kids b q x = opened b q (x .level) (x .place) (x .page)
 abbrev pub rootBranch : List ℕ → Branch
 rootBranch b = record { bound = 0; place = 0; level = fieldAt level b; page = pageIn b (fieldAt root b) }
 
--- the row (01) of a record in the leaf at position p
+-- the row (01, 02) of a record in the leaf at position p
 unfoldable pub rowOf : Asked → ℕ → Record → Row
 unfolding distanceTo
-rowOf q p r = record { distance = distanceTo q r; id = r .id; position = p }
+rowOf q p r = record { distance = distanceTo q r; id = r .id; stamp = r .stamp; position = p }
 
 -- the rows of records of that leaf: those of the candidates among them
 unfoldable pub rowsAmong : Asked → ℕ → List Record → List Row

@@ -4,4 +4,5 @@ pub mod Branches
 pub mod Visit
 pub mod Questions
 pub mod FullSet
+pub mod OneStamp
 pub mod Examples

@@ -11,7 +11,7 @@ use Rattle.lists.specs.Basics.{if}
 use Rattle.lists.specs.Counts.{mult}
 use Rattle.lists.specs.Sorting.{filter, count, sort}
 use Rattle.geometry.specs.Features.{Feature, distTo, InSpan}
-use Rattle.search_theory.specs.Nearest.{nearest, lastCost, inSet}
+use Rattle.search_theory.specs.Nearest.{Ranking, nearest, lastCost, inSet}
 use Rattle.search_rows.specs.declared.Row.{Row}
 use Rattle.pagestore_page.specs.declared.Record.{Record}
 use Rattle.pagestore.specs.Store.{View}
@@ -41,15 +41,22 @@ leafBound d q t = spanBound q (firstKey d (t .1)) (lastKey d (t .1))
 abbrev pub liveCandidates : View → Asked → List Record
 liveCandidates v q = filter (candidate q) (live v)
 
--- Demand 3's set: the leaves holding records whose bound is at most the distance of the last row that demand 2 calls for, or
--- all of these when fewer than k candidates live.
-unfoldable pub toRead : View → Asked → Item 1 → Bool
+-- Demand 3's set, rows ranked by r: the leaves holding records whose bound is at most the distance of the last row that demand 2 calls
+-- for, or all of these when fewer than k candidates live.
+unfoldable pub toReadBy : Ranking Row → View → Asked → Item 1 → Bool
 unfolding rowsOf leafBound
-toRead v q t = ltb 0 (length (t .1)) && inSet ranking (q .k) (rowsOf v q) (leafBound (v .d) q t)
+toReadBy r v q t = ltb 0 (length (t .1)) && inSet r (q .k) (rowsOf v q) (leafBound (v .d) q t)
 
 -- the answer that demands 2 and 3 call for: the k nearest rows, and as many leaves as the set has
+abbrev pub dueBy : Ranking Row → View → Asked → Answer
+dueBy r v q = record { rows = nearest r (q .k) (rowsOf v q); leaves = count (toReadBy r v q) (leavesOf v) }
+
+-- both by row order
+abbrev pub toRead : View → Asked → Item 1 → Bool
+toRead = toReadBy ranking
+
 abbrev pub answerDue : View → Asked → Answer
-answerDue v q = record { rows = nearest ranking (q .k) (rowsOf v q); leaves = count (toRead v q) (leavesOf v) }
+answerDue = dueBy ranking
 
 -- The same set in the letter's own words (`set-points`). The span of the records rs has a whole-number point, within the coordinate
 -- range, no farther from what is asked than m:
@@ -75,7 +82,7 @@ leafBranch q d p t = record { bound = leafBound d q t; place = p; level = 0; pag
 
 -- those of the set, the first leaf at position p
 unfoldable pub setFrom : View → Asked → ℕ → List (Item 1) → List Branch
-unfolding toRead leafBranch
+unfolding toReadBy leafBranch
 setFrom v q p [] = []
 setFrom v q p (t ∷ ts) = if (toRead v q t) (leafBranch q (v .d) p t ∷ setFrom v q (suc p) ts) (setFrom v q (suc p) ts)
 
@@ -86,7 +93,7 @@ readingOrder v q = map placed (sort before (setFrom v q 0 (leavesOf v)))
 
 -- the pages of the leaves left unread
 unfoldable pub unreadPages : View → Asked → List ℕ
-unfolding toRead filter
+unfolding toReadBy filter
 unreadPages v q = map (λ t. t .0) (filter (λ t. not (toRead v q t)) (leavesOf v))
 
 -- Demand 3's exchange, leaf by leaf: a leaf of the set keeps its records, any other one their number, its first key and its last key
@@ -95,7 +102,7 @@ pub record Kept (d : ℕ) (read : Bool) (t u : Item 1) : Type 0 where
   pub number : length (u .1) ≡ length (t .1)
   pub first : firstKey d (u .1) ≡ firstKey d (t .1)
   pub last : lastKey d (u .1) ≡ lastKey d (t .1)
-  -- and nothing more: an exchanged record may have any stage (02; `exchange-any-stage`)
+  -- and nothing more: an exchanged record may have any stage (02; `exchange-any-stage`) and any stamp
 
 pub data Exchanged (d : ℕ) (read : Item 1 → Bool) : List (Item 1) → List (Item 1) → Type 0 where
   end : Exchanged d read [] []

@@ -15,7 +15,7 @@ use Rattle.search_model.specs.Numbers.{maxLevel}
 use Rattle.search_model.specs.Asked.{Asked, spanBound}
 use Rattle.search_model.specs.Branches.{Branch, branchBound, before, isLeaf, pageIn, branches, opened, kids, rootBranch, rowsAmong, rowsAt}
 
--- rows go by distance, then by identifier; all rows are candidates'
+-- rows go by distance, then by later stamp, then by identifier; all rows are candidates'
 abbrev pub ranking : Ranking Row
 ranking = byDistance (λ x. true)
 

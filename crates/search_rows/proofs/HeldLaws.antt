@@ -1,4 +1,4 @@
--- Laws of rows in two arrays: comparing tags, putting a row in from the last on, what an offer leaves, and the stop test.
+-- Laws of rows in two arrays: comparing words, putting a row in from the last on, what an offer leaves, and the stop test.
 use mathlib.Core.Path.{_≡_, refl, sym, ap, _∙_}
 use mathlib.Core.Logic.{_≢_}
 use mathlib.Core.Bool.{Bool, true, false, not}
@@ -20,205 +20,226 @@ use Rattle.lists.specs.Orders.{lower, by-lower, by-equal, by-higher}
 use Rattle.search_theory.specs.Nearest.{kth}
 use Rattle.search_theory.specs.Nearest as nearest
 use Rattle.search_rows.specs.declared.Row.{Row}
-use Rattle.search_rows.specs.Rows.{distance, id, position, rowOrder, tieOrder, tagOf, rowOf, byDistance}
+use Rattle.search_rows.specs.Rows.{distance, stamp, id, position, rowOrder, idOrder, tieOrder, age, highOf, lowOf, distanceIn, rowOf, byDistance, FitsWords}
 use Rattle.search_rows.specs.Held.{rowsOf, rowsIn, behindAll, GivesWay, Held, Offered}
-use Rattle.search_rows.specs.RowLaws.{row-order}
+use Rattle.search_rows.specs.RowLaws.{row-order, later, as-late, earlier}
 
 -- ---- comparing
 
-module _ (d t distance₁ tag : ℕ) where
-  pub nearer : d < distance₁ → true ≡ rowOrder (rowOf d t) (rowOf distance₁ tag)
-  nearer h = sym (by-lower distance tieOrder (rowOf d t) (rowOf distance₁ tag) h)
+-- words of 64 bits
+module _ (h l high low : ℕ) where
+  abbrev a : Row
+  a = rowOf h l
 
-  pub farther : distance₁ < d → false ≡ rowOrder (rowOf d t) (rowOf distance₁ tag)
-  farther h = sym (by-higher distance tieOrder (rowOf d t) (rowOf distance₁ tag) h)
+  abbrev b : Row
+  b = rowOf high low
 
-  -- tags are in the order of the tie rule
-  pub as-near : d ≡ distance₁ → ltb t tag ≡ rowOrder (rowOf d t) (rowOf distance₁ tag)
-  as-near h = sym (by-equal distance tieOrder (rowOf d t) (rowOf distance₁ tag) h ∙ tied)
+  tie-of : distance a ≡ distance b → rowOrder a b ≡ tieOrder a b
+  tie-of e = by-equal distance tieOrder a b e
+
+  -- the upper words decide by distance, or else by stamp
+  pub nearer : l < 18446744073709551616 → low < 18446744073709551616 → h < high → true ≡ rowOrder a b
+  nearer f g e = three (h / 268435456) (high / 268435456)
+      (λ n. sym (by-lower distance tieOrder a b n))
+      (λ n. sym (tie-of n ∙ later a b (omega arith)))
+      (λ n. absurd (omega arith))
+
+  pub farther : l < 18446744073709551616 → low < 18446744073709551616 → high < h → false ≡ rowOrder a b
+  farther f g e = three (h / 268435456) (high / 268435456)
+      (λ n. absurd (omega arith))
+      (λ n. sym (tie-of n ∙ earlier a b (omega arith)))
+      (λ n. sym (by-higher distance tieOrder a b n))
+
+  -- where they are the same, the lower words are in the order of the tie rule
+  pub as-near : l < 18446744073709551616 → low < 18446744073709551616 → h ≡ high → ltb l low ≡ rowOrder a b
+  as-near f g e =
+      let d : distance a ≡ distance b = ap (λ (x : ℕ). x / 268435456) e in
+      sym (tie-of d
+      ∙ three (l / 268435456 / 4294967296) (low / 268435456 / 4294967296)
+      (λ n. later a b (omega arith) ∙ sym (lt-ltb l low (omega arith)))
+      (λ n. as-late a b (omega arith) ∙ ids n)
+      (λ n. earlier a b (omega arith) ∙ sym (le-ltb l low (omega arith))))
     where
-      tied : tieOrder (rowOf d t) (rowOf distance₁ tag) ≡ ltb t tag
-      tied =
-          three (t / 4294967296) (tag / 4294967296)
-          (λ g. by-lower id (lower position) (rowOf d t) (rowOf distance₁ tag) g ∙ sym (lt-ltb t tag (omega arith)))
-          (λ g. by-equal id (lower position) (rowOf d t) (rowOf distance₁ tag) g
-          ∙ three t tag
-          (λ f. lt-ltb (t % 4294967296) (tag % 4294967296) (omega arith) ∙ sym (lt-ltb t tag f))
-          (λ f. le-ltb (t % 4294967296) (tag % 4294967296) (omega arith) ∙ sym (le-ltb t tag (omega arith)))
-          (λ f. le-ltb (t % 4294967296) (tag % 4294967296) (omega arith) ∙ sym (le-ltb t tag (omega arith))))
-          (λ g. by-higher id (lower position) (rowOf d t) (rowOf distance₁ tag) g ∙ sym (le-ltb t tag (omega arith)))
+      ids : l / 268435456 / 4294967296 ≡ low / 268435456 / 4294967296 → idOrder a b ≡ ltb l low
+      ids n = three (id a) (id b)
+          (λ m. by-lower id (lower position) a b m ∙ sym (lt-ltb l low (omega arith)))
+          (λ m. by-equal id (lower position) a b m ∙ three l low
+          (λ k. lt-ltb (l % 268435456) (low % 268435456) (omega arith) ∙ sym (lt-ltb l low k))
+          (λ k. le-ltb (l % 268435456) (low % 268435456) (omega arith) ∙ sym (le-ltb l low (omega arith)))
+          (λ k. le-ltb (l % 268435456) (low % 268435456) (omega arith) ∙ sym (le-ltb l low (omega arith))))
+          (λ m. by-higher id (lower position) a b m ∙ sym (le-ltb l low (omega arith)))
 
 -- ---- rows of two arrays
 
-pub length-rowsOf : (n : ℕ) (ds ts : List ℕ) → n ≤ length ds → n ≤ length ts → n ≤ length (rowsOf ds ts)
+pub length-rowsOf : (n : ℕ) (hs ls : List ℕ) → n ≤ length hs → n ≤ length ls → n ≤ length (rowsOf hs ls)
 unfolding rowsOf
-length-rowsOf zero ds ts h g = omega arith
-length-rowsOf (suc n) [] ts h g = absurd (omega arith)
-length-rowsOf (suc n) (d ∷ ds) [] h g = absurd (omega arith)
-length-rowsOf (suc n) (d ∷ ds) (t ∷ ts) h g = let q = length-rowsOf n ds ts (omega arith) (omega arith) in omega arith
+length-rowsOf zero hs ls h g = omega arith
+length-rowsOf (suc n) [] ls h g = absurd (omega arith)
+length-rowsOf (suc n) (u ∷ hs) [] h g = absurd (omega arith)
+length-rowsOf (suc n) (u ∷ hs) (v ∷ ls) h g = let q = length-rowsOf n hs ls (omega arith) (omega arith) in omega arith
 
-pub rowsOf-at : (i : ℕ) (ds ts : List ℕ) (x : Row) → i < length ds → i < length ts → getD (rowsOf ds ts) i x ≡ rowOf (getD ds i 0) (getD ts i 0)
+pub rowsOf-at : (i : ℕ) (hs ls : List ℕ) (x : Row) → i < length hs → i < length ls → getD (rowsOf hs ls) i x ≡ rowOf (getD hs i 0) (getD ls i 0)
 unfolding rowsOf
-rowsOf-at i [] ts x h g = absurd (omega arith)
-rowsOf-at i (d ∷ ds) [] x h g = absurd (omega arith)
-rowsOf-at zero (d ∷ ds) (t ∷ ts) x h g = refl
-rowsOf-at (suc i) (d ∷ ds) (t ∷ ts) x h g = rowsOf-at i ds ts x (omega arith) (omega arith)
+rowsOf-at i [] ls x h g = absurd (omega arith)
+rowsOf-at i (u ∷ hs) [] x h g = absurd (omega arith)
+rowsOf-at zero (u ∷ hs) (v ∷ ls) x h g = refl
+rowsOf-at (suc i) (u ∷ hs) (v ∷ ls) x h g = rowsOf-at i hs ls x (omega arith) (omega arith)
 
-rowsOf-set : (i d t : ℕ) (ds ts : List ℕ) → rowsOf (set ds i d) (set ts i t) ≡ set (rowsOf ds ts) i (rowOf d t)
+rowsOf-set : (i h l : ℕ) (hs ls : List ℕ) → rowsOf (set hs i h) (set ls i l) ≡ set (rowsOf hs ls) i (rowOf h l)
 unfolding rowsOf
-rowsOf-set i d t [] ts = refl
-rowsOf-set zero d t (e ∷ ds) [] = refl
-rowsOf-set (suc i) d t (e ∷ ds) [] = refl
-rowsOf-set zero d t (e ∷ ds) (u ∷ ts) = refl
-rowsOf-set (suc i) d t (e ∷ ds) (u ∷ ts) = ap (λ (l : List Row). rowOf e u ∷ l) (rowsOf-set i d t ds ts)
+rowsOf-set i h l [] ls = refl
+rowsOf-set zero h l (u ∷ hs) [] = refl
+rowsOf-set (suc i) h l (u ∷ hs) [] = refl
+rowsOf-set zero h l (u ∷ hs) (v ∷ ls) = refl
+rowsOf-set (suc i) h l (u ∷ hs) (v ∷ ls) = ap (λ (xs : List Row). rowOf u v ∷ xs) (rowsOf-set i h l hs ls)
 
 -- there is none before index 0
-pub way-none : (ds ts : List ℕ) (i : ℕ) (x : Row) → i ≡ 0 → GivesWay ds ts i x false
-way-none ds ts i x e = record { gives = λ t. false-true t; stays = λ _ z. absurd (omega arith) }
+pub way-none : (hs ls : List ℕ) (i : ℕ) (x : Row) → i ≡ 0 → GivesWay hs ls i x false
+way-none hs ls i x e = record { gives = λ t. false-true t; stays = λ _ z. absurd (omega arith) }
 
-pub way-some : (ds ts : List ℕ) (i : ℕ) (x : Row) (b : Bool) → i ≢ 0 → b ≡ rowOrder (rowOf (getD ds (i - 1) 0) (getD ts (i - 1) 0)) x → GivesWay ds ts i x (not b)
-way-some ds ts i x b z e = record { gives = λ t. (omega (arith, z), sym e ∙ not-true b t); stays = λ t _. sym e ∙ not-false b t }
+pub way-some : (hs ls : List ℕ) (i : ℕ) (x : Row) (b : Bool) → i ≢ 0 → b ≡ rowOrder (rowOf (getD hs (i - 1) 0) (getD ls (i - 1) 0)) x → GivesWay hs ls i x (not b)
+way-some hs ls i x b z e = record { gives = λ t. (omega (arith, z), sym e ∙ not-true b t); stays = λ t _. sym e ∙ not-false b t }
 
 -- the first m of n rows, with room for j
-pub held-part : (ds ts : List ℕ) (n k m j : ℕ) → Held ds ts n k → m ≤ n → m ≤ j → j ≤ k → Held ds ts m j
-held-part ds ts n k m j h a b c = let f = h .room in let g = h .roomTags in record {
+pub held-part : (hs ls : List ℕ) (n k m j : ℕ) → Held hs ls n k → m ≤ n → m ≤ j → j ≤ k → Held hs ls m j
+held-part hs ls n k m j h a b c = let f = h .room in let g = h .roomLows in record {
   few = b;
   room = omega arith;
-  roomTags = omega arith;
-  sorted = rw (← take-take m n (rowsOf ds ts) a) (sorted-take rowOrder m (rowsIn ds ts n) (h .sorted));
+  roomLows = omega arith;
+  sorted = rw (← take-take m n (rowsOf hs ls) a) (sorted-take rowOrder m (rowsIn hs ls n) (h .sorted));
 }
 
 -- ---- a row put in, from the last on
 
 -- row x goes behind the first i: the last of them is before it, or there is none
 abbrev pub GoesLast : List ℕ → List ℕ → ℕ → Row → Type 0
-GoesLast ds ts i x = 0 < i → rowOrder (rowOf (getD ds (i - 1) 0) (getD ts (i - 1) 0)) x ≡ true
+GoesLast hs ls i x = 0 < i → rowOrder (rowOf (getD hs (i - 1) 0) (getD ls (i - 1) 0)) x ≡ true
 
-goes-last : (ds ts : List ℕ) (i : ℕ) (x : Row) → Held ds ts i i → GoesLast ds ts i x → insertBy rowOrder x (rowsIn ds ts i) ≡ rowsIn ds ts i ++ (x ∷ [])
+goes-last : (hs ls : List ℕ) (i : ℕ) (x : Row) → Held hs ls i i → GoesLast hs ls i x → insertBy rowOrder x (rowsIn hs ls i) ≡ rowsIn hs ls i ++ (x ∷ [])
 unfolding insertBy
-goes-last ds ts zero x h = λ e. refl
-goes-last ds ts (suc j) x h =
+goes-last hs ls zero x h = λ e. refl
+goes-last hs ls (suc j) x h =
     let q : suc j - 1 ≡ j = omega arith in
-    let a = h .room in let b = h .roomTags in
-    let f : getD (rowsIn ds ts (suc j)) j x ≡ rowOf (getD ds j 0) (getD ts j 0) =
-    getD-take (suc j) (rowsOf ds ts) j x (omega arith) ∙ rowsOf-at j ds ts x (omega arith) (omega arith) in
-    rw q (λ e. ins-last rowOrder row-order x x j (rowsIn ds ts (suc j)) (h .sorted) (length-take-le (suc j) (rowsOf ds ts) (length-rowsOf (suc j) ds ts a b))
+    let a = h .room in let b = h .roomLows in
+    let f : getD (rowsIn hs ls (suc j)) j x ≡ rowOf (getD hs j 0) (getD ls j 0) =
+    getD-take (suc j) (rowsOf hs ls) j x (omega arith) ∙ rowsOf-at j hs ls x (omega arith) (omega arith) in
+    rw q (λ e. ins-last rowOrder row-order x x j (rowsIn hs ls (suc j)) (h .sorted) (length-take-le (suc j) (rowsOf hs ls) (length-rowsOf (suc j) hs ls a b))
     (ap (λ (y : Row). rowOrder y x) f ∙ e (omega arith)))
 
 -- where there is room for one more, an offer is an insertion
-offer-room : (ds ts : List ℕ) (n k : ℕ) (x : Row) → n < k → insertBy rowOrder x (rowsIn ds ts n) ≡ offer rowOrder k x (rowsIn ds ts n)
+offer-room : (hs ls : List ℕ) (n k : ℕ) (x : Row) → n < k → insertBy rowOrder x (rowsIn hs ls n) ≡ offer rowOrder k x (rowsIn hs ls n)
 unfolding offer
-offer-room ds ts n k x h =
-    let a = length-ins rowOrder x (rowsIn ds ts n) in let b = length-take n (rowsOf ds ts) in
-    sym (take-all k (insertBy rowOrder x (rowsIn ds ts n)) (omega arith))
+offer-room hs ls n k x h =
+    let a = length-ins rowOrder x (rowsIn hs ls n) in let b = length-take n (rowsOf hs ls) in
+    sym (take-all k (insertBy rowOrder x (rowsIn hs ls n)) (omega arith))
 
--- row x, to be put in among the n rows of ds₀ and ts₀, has come down to index i
-pub record Sliding (ds₀ ts₀ : List ℕ) (n : ℕ) (x : Row) (ds ts : List ℕ) (i : ℕ) : Type 0 where
+-- row x, to be put in among the n rows of hs₀ and ls₀, has come down to index i
+pub record Sliding (hs₀ ls₀ : List ℕ) (n : ℕ) (x : Row) (hs ls : List ℕ) (i : ℕ) : Type 0 where
   pub few : i ≤ n
-  pub room : n < length ds
-  pub roomTags : n < length ts
-  pub sorted : sorting.Sorted rowOrder (rowsIn ds ts i)
-  pub rows : sliding rowOrder x n i (rowsOf ds ts) ≡ insertBy rowOrder x (rowsIn ds₀ ts₀ n)
-  pub past : (drop (n + 1) ds ≡ drop (n + 1) ds₀) × (drop (n + 1) ts ≡ drop (n + 1) ts₀)
+  pub room : n < length hs
+  pub roomLows : n < length ls
+  pub sorted : sorting.Sorted rowOrder (rowsIn hs ls i)
+  pub rows : sliding rowOrder x n i (rowsOf hs ls) ≡ insertBy rowOrder x (rowsIn hs₀ ls₀ n)
+  pub past : (drop (n + 1) hs ≡ drop (n + 1) hs₀) × (drop (n + 1) ls ≡ drop (n + 1) ls₀)
 
-pub slide-start : (ds ts : List ℕ) (n : ℕ) (x : Row) → Held ds ts n (n + 1) → Sliding ds ts n x ds ts n
+pub slide-start : (hs ls : List ℕ) (n : ℕ) (x : Row) → Held hs ls n (n + 1) → Sliding hs ls n x hs ls n
 unfolding sliding
-slide-start ds ts n x h = let a = h .room in let b = h .roomTags in record {
+slide-start hs ls n x h = let a = h .room in let b = h .roomLows in record {
   few = omega arith;
   room = omega arith;
-  roomTags = omega arith;
+  roomLows = omega arith;
   sorted = h .sorted;
-  rows = let l : length (take (suc n) (rowsOf ds ts)) ≤ suc n = rw (length-take (suc n) (rowsOf ds ts)) (omega arith) in
-      rw (drop-of-length-le (take (suc n) (rowsOf ds ts)) {i = suc n} l) (append-nil (insertBy rowOrder x (rowsIn ds ts n)));
+  rows = let l : length (take (suc n) (rowsOf hs ls)) ≤ suc n = rw (length-take (suc n) (rowsOf hs ls)) (omega arith) in
+      rw (drop-of-length-le (take (suc n) (rowsOf hs ls)) {i = suc n} l) (append-nil (insertBy rowOrder x (rowsIn hs ls n)));
   past = (refl, refl);
 }
 
-module _ (ds₀ ts₀ : List ℕ) (n : ℕ) (x : Row) (ds ts : List ℕ) where
-  long : (i : ℕ) → Sliding ds₀ ts₀ n x ds ts i → n < length (rowsOf ds ts)
-  long i s = let a = s .room in let b = s .roomTags in let c = length-rowsOf (suc n) ds ts (omega arith) (omega arith) in omega arith
+module _ (hs₀ ls₀ : List ℕ) (n : ℕ) (x : Row) (hs ls : List ℕ) where
+  long : (i : ℕ) → Sliding hs₀ ls₀ n x hs ls i → n < length (rowsOf hs ls)
+  long i s = let a = s .room in let b = s .roomLows in let c = length-rowsOf (suc n) hs ls (omega arith) (omega arith) in omega arith
 
   -- the row before index i moves up
-  pub slide-on : (i : ℕ) → Sliding ds₀ ts₀ n x ds ts i → 0 < i → rowOrder (rowOf (getD ds (i - 1) 0) (getD ts (i - 1) 0)) x ≡ false
-      → Sliding ds₀ ts₀ n x (set ds i (getD ds (i - 1) 0)) (set ts i (getD ts (i - 1) 0)) (i - 1)
+  pub slide-on : (i : ℕ) → Sliding hs₀ ls₀ n x hs ls i → 0 < i → rowOrder (rowOf (getD hs (i - 1) 0) (getD ls (i - 1) 0)) x ≡ false
+      → Sliding hs₀ ls₀ n x (set hs i (getD hs (i - 1) 0)) (set ls i (getD ls (i - 1) 0)) (i - 1)
   slide-on zero s z = absurd (omega arith)
   slide-on (suc j) s z =
       let q : suc j - 1 ≡ j = omega arith in
-      let a = s .few in let b = s .room in let c = s .roomTags in let l = long (suc j) s in
-      let r : getD (rowsOf ds ts) j x ≡ rowOf (getD ds j 0) (getD ts j 0) = rowsOf-at j ds ts x (omega arith) (omega arith) in
-      let moved : rowsOf (set ds (suc j) (getD ds j 0)) (set ts (suc j) (getD ts j 0)) ≡ set (rowsOf ds ts) (suc j) (getD (rowsOf ds ts) j x) =
-      rowsOf-set (suc j) (getD ds j 0) (getD ts j 0) ds ts ∙ ap (set (rowsOf ds ts) (suc j)) (sym r) in
+      let a = s .few in let b = s .room in let c = s .roomLows in let l = long (suc j) s in
+      let r : getD (rowsOf hs ls) j x ≡ rowOf (getD hs j 0) (getD ls j 0) = rowsOf-at j hs ls x (omega arith) (omega arith) in
+      let moved : rowsOf (set hs (suc j) (getD hs j 0)) (set ls (suc j) (getD ls j 0)) ≡ set (rowsOf hs ls) (suc j) (getD (rowsOf hs ls) j x) =
+      rowsOf-set (suc j) (getD hs j 0) (getD ls j 0) hs ls ∙ ap (set (rowsOf hs ls) (suc j)) (sym r) in
       rw q (λ e. record {
         few = omega arith;
-        room = rw (length-set ds (suc j) (getD ds j 0)) b;
-        roomTags = rw (length-set ts (suc j) (getD ts j 0)) c;
-        sorted = rw (moved, take-set-le j (rowsOf ds ts) (suc j) (getD (rowsOf ds ts) j x) (omega arith), ← take-take j (suc j) (rowsOf ds ts) (omega arith))
-            (sorted-take rowOrder j (rowsIn ds ts (suc j)) (s .sorted));
+        room = rw (length-set hs (suc j) (getD hs j 0)) b;
+        roomLows = rw (length-set ls (suc j) (getD ls j 0)) c;
+        sorted = rw (moved, take-set-le j (rowsOf hs ls) (suc j) (getD (rowsOf hs ls) j x) (omega arith), ← take-take j (suc j) (rowsOf hs ls) (omega arith))
+            (sorted-take rowOrder j (rowsIn hs ls (suc j)) (s .sorted));
         rows = ap (sliding rowOrder x n j) moved
-            ∙ sym (slide-turn rowOrder x x n j (rowsOf ds ts) (omega arith) l (ap (λ (y : Row). rowOrder y x) r ∙ e)) ∙ s .rows;
-        past = (drop-set-lt (n + 1) ds (suc j) (getD ds j 0) (omega arith) ∙ s .past .0, drop-set-lt (n + 1) ts (suc j) (getD ts j 0) (omega arith) ∙ s .past .1);
+            ∙ sym (slide-turn rowOrder x x n j (rowsOf hs ls) (omega arith) l (ap (λ (y : Row). rowOrder y x) r ∙ e)) ∙ s .rows;
+        past = (drop-set-lt (n + 1) hs (suc j) (getD hs j 0) (omega arith) ∙ s .past .0, drop-set-lt (n + 1) ls (suc j) (getD ls j 0) (omega arith) ∙ s .past .1);
       })
 
   -- and is put down
-  pub slide-done : (i d t : ℕ) → Sliding ds₀ ts₀ n x ds ts i → GoesLast ds ts i x → rowOf d t ≡ x
-      → Held ds₀ ts₀ n (n + 1) → Offered ds₀ ts₀ n (n + 1) x (n + 1) (set ds i d) (set ts i t)
-  slide-done i d t s e q h =
-      let a = s .few in let b = s .room in let c = s .roomTags in
-      let all : rowsIn (set ds i d) (set ts i t) (n + 1) ≡ insertBy rowOrder x (rowsIn ds₀ ts₀ n) =
-      ap (take (n + 1)) (rowsOf-set i d t ds ts ∙ ap (set (rowsOf ds ts) i) q)
-      ∙ ap (λ (m : ℕ). take m (set (rowsOf ds ts) i x)) (add-one n)
-      ∙ slide-end rowOrder x n i (rowsOf ds ts) a (long i s) (goes-last ds ts i x record { few = omega arith; room = omega arith; roomTags = omega arith; sorted = s .sorted } e) ∙ s .rows in
+  pub slide-done : (i high low : ℕ) → Sliding hs₀ ls₀ n x hs ls i → GoesLast hs ls i x → rowOf high low ≡ x
+      → Held hs₀ ls₀ n (n + 1) → Offered hs₀ ls₀ n (n + 1) x (n + 1) (set hs i high) (set ls i low)
+  slide-done i high low s e q h =
+      let a = s .few in let b = s .room in let c = s .roomLows in
+      let all : rowsIn (set hs i high) (set ls i low) (n + 1) ≡ insertBy rowOrder x (rowsIn hs₀ ls₀ n) =
+      ap (take (n + 1)) (rowsOf-set i high low hs ls ∙ ap (set (rowsOf hs ls) i) q)
+      ∙ ap (λ (m : ℕ). take m (set (rowsOf hs ls) i x)) (add-one n)
+      ∙ slide-end rowOrder x n i (rowsOf hs ls) a (long i s) (goes-last hs ls i x record { few = omega arith; room = omega arith; roomLows = omega arith; sorted = s .sorted } e) ∙ s .rows in
       record {
         held = record {
           few = omega arith;
-          room = rw (length-set ds i d) (omega arith);
-          roomTags = rw (length-set ts i t) (omega arith);
-          sorted = rw all (sorted-ins rowOrder row-order x (rowsIn ds₀ ts₀ n) (h .sorted));
+          room = rw (length-set hs i high) (omega arith);
+          roomLows = rw (length-set ls i low) (omega arith);
+          sorted = rw all (sorted-ins rowOrder row-order x (rowsIn hs₀ ls₀ n) (h .sorted));
         };
-        rows = all ∙ offer-room ds₀ ts₀ n (n + 1) x (omega arith);
-        past = (drop-set-lt (n + 1) ds i d (omega arith) ∙ s .past .0, drop-set-lt (n + 1) ts i t (omega arith) ∙ s .past .1);
+        rows = all ∙ offer-room hs₀ ls₀ n (n + 1) x (omega arith);
+        past = (drop-set-lt (n + 1) hs i high (omega arith) ∙ s .past .0, drop-set-lt (n + 1) ls i low (omega arith) ∙ s .past .1);
       }
 
 -- ---- an offer
 
 -- behind k rows: nothing changes
-pub offered-out : (ds ts : List ℕ) (n k : ℕ) (x : Row) → Held ds ts n k → k ≤ n → GoesLast ds ts n x → Offered ds ts n k x n ds ts
+pub offered-out : (hs ls : List ℕ) (n k : ℕ) (x : Row) → Held hs ls n k → k ≤ n → GoesLast hs ls n x → Offered hs ls n k x n hs ls
 unfolding offer
-offered-out ds ts n k x h all e =
-    let a = h .few in let b = h .room in let c = h .roomTags in
-    let l : length (rowsIn ds ts n) ≡ k = length-take-le n (rowsOf ds ts) (length-rowsOf n ds ts (omega arith) (omega arith)) ∙ (let w : n ≡ k = omega arith in w) in
+offered-out hs ls n k x h all e =
+    let a = h .few in let b = h .room in let c = h .roomLows in
+    let l : length (rowsIn hs ls n) ≡ k = length-take-le n (rowsOf hs ls) (length-rowsOf n hs ls (omega arith) (omega arith)) ∙ (let w : n ≡ k = omega arith in w) in
     record {
       held = h;
-      rows = sym (ap (take k) (goes-last ds ts n x (held-part ds ts n k n n h (omega arith) (omega arith) a) e) ∙ take-at (rowsIn ds ts n) (x ∷ []) k l);
+      rows = sym (ap (take k) (goes-last hs ls n x (held-part hs ls n k n n h (omega arith) (omega arith) a) e) ∙ take-at (rowsIn hs ls n) (x ∷ []) k l);
       past = (refl, refl);
     }
 
 -- fewer than k rows: the row is put in
-pub offered-in : (ds ts : List ℕ) (n k : ℕ) (x : Row) (ds' ts' : List ℕ) → Held ds ts n k → n < k → length ds' ≡ length ds → length ts' ≡ length ts
-    → Offered ds ts n (n + 1) x (n + 1) ds' ts' → Offered ds ts n k x (n + 1) ds' ts'
-offered-in ds ts n k x ds' ts' h f ld lt o = let b = h .room in let c = h .roomTags in record {
-  held = record { few = omega arith; room = omega arith; roomTags = omega arith; sorted = o .held .sorted };
-  rows = o .rows ∙ sym (offer-room ds ts n (n + 1) x (omega arith)) ∙ offer-room ds ts n k x f;
+pub offered-in : (hs ls : List ℕ) (n k : ℕ) (x : Row) (hs' ls' : List ℕ) → Held hs ls n k → n < k → length hs' ≡ length hs → length ls' ≡ length ls
+    → Offered hs ls n (n + 1) x (n + 1) hs' ls' → Offered hs ls n k x (n + 1) hs' ls'
+offered-in hs ls n k x hs' ls' h f lh ll o = let b = h .room in let c = h .roomLows in record {
+  held = record { few = omega arith; room = omega arith; roomLows = omega arith; sorted = o .held .sorted };
+  rows = o .rows ∙ sym (offer-room hs ls n (n + 1) x (omega arith)) ∙ offer-room hs ls n k x f;
   past = o .past;
 }
 
 -- k rows, the last of them not before the row: it is put in among the others, and the last is lost
-pub offered-over : (ds ts : List ℕ) (m n k : ℕ) (x : Row) (ds' ts' : List ℕ) → Held ds ts n k → k ≤ n → n ≡ m + 1
-    → rowOrder (rowOf (getD ds m 0) (getD ts m 0)) x ≡ false → Offered ds ts m (m + 1) x (m + 1) ds' ts' → Offered ds ts n k x n ds' ts'
+pub offered-over : (hs ls : List ℕ) (m n k : ℕ) (x : Row) (hs' ls' : List ℕ) → Held hs ls n k → k ≤ n → n ≡ m + 1
+    → rowOrder (rowOf (getD hs m 0) (getD ls m 0)) x ≡ false → Offered hs ls m (m + 1) x (m + 1) hs' ls' → Offered hs ls n k x n hs' ls'
 unfolding offer
-offered-over ds ts m n k x ds' ts' h all more e o =
-    let a = h .few in let b = h .room in let c = h .roomTags in
-    let l : m < length (rowsOf ds ts) = let w = length-rowsOf (suc m) ds ts (omega arith) (omega arith) in omega arith in
-    let size : length (insertBy rowOrder x (rowsIn ds ts m)) ≡ suc m = length-ins rowOrder x (rowsIn ds ts m) ∙ ap suc (length-take-le m (rowsOf ds ts) (omega arith)) in
-    let r : rowOrder (getD (rowsOf ds ts) m x) x ≡ false = ap (λ (y : Row). rowOrder y x) (rowsOf-at m ds ts x (omega arith) (omega arith)) ∙ e in
-    let wider : take (suc m) (insertBy rowOrder x (rowsIn ds ts (suc m))) ≡ take (suc m) (insertBy rowOrder x (rowsIn ds ts m)) =
-    ap (λ (s : List Row). take (suc m) (insertBy rowOrder x s)) (take-suc (rowsOf ds ts) m x l)
-    ∙ ap (take (suc m)) (ins-snoc rowOrder x (getD (rowsOf ds ts) m x) (rowsIn ds ts m) r)
-    ∙ take-append-le (suc m) (insertBy rowOrder x (rowsIn ds ts m)) (getD (rowsOf ds ts) m x ∷ []) (omega arith) in
+offered-over hs ls m n k x hs' ls' h all more e o =
+    let a = h .few in let b = h .room in let c = h .roomLows in
+    let l : m < length (rowsOf hs ls) = let w = length-rowsOf (suc m) hs ls (omega arith) (omega arith) in omega arith in
+    let size : length (insertBy rowOrder x (rowsIn hs ls m)) ≡ suc m = length-ins rowOrder x (rowsIn hs ls m) ∙ ap suc (length-take-le m (rowsOf hs ls) (omega arith)) in
+    let r : rowOrder (getD (rowsOf hs ls) m x) x ≡ false = ap (λ (y : Row). rowOrder y x) (rowsOf-at m hs ls x (omega arith) (omega arith)) ∙ e in
+    let wider : take (suc m) (insertBy rowOrder x (rowsIn hs ls (suc m))) ≡ take (suc m) (insertBy rowOrder x (rowsIn hs ls m)) =
+    ap (λ (s : List Row). take (suc m) (insertBy rowOrder x s)) (take-suc (rowsOf hs ls) m x l)
+    ∙ ap (take (suc m)) (ins-snoc rowOrder x (getD (rowsOf hs ls) m x) (rowsIn hs ls m) r)
+    ∙ take-append-le (suc m) (insertBy rowOrder x (rowsIn hs ls m)) (getD (rowsOf hs ls) m x ∷ []) (omega arith) in
     let one : k ≡ m + 1 = omega arith in
     rw (one, more) record { held = o .held; rows = o .rows ∙ rw (add-one m) (sym wider); past = o .past }
 
-pub offered-same : (ds ts : List ℕ) (n k : ℕ) (w x : Row) (r : ℕ) (ds' ts' : List ℕ) → w ≡ x → Offered ds ts n k w r ds' ts' → Offered ds ts n k x r ds' ts'
-offered-same ds ts n k w x r ds' ts' e o = rw (← e) o
+pub offered-same : (hs ls : List ℕ) (n k : ℕ) (w x : Row) (r : ℕ) (hs' ls' : List ℕ) → w ≡ x → Offered hs ls n k w r hs' ls' → Offered hs ls n k x r hs' ls'
+offered-same hs ls n k w x r hs' ls' e o = rw (← e) o
 
 -- a row behind the last of k rows
 chosen : (a b c : Bool) → if a false (if b false c) ≡ true → (a ≡ false) × (b ≡ false) × (c ≡ true)
@@ -226,41 +247,59 @@ chosen true b c h = absurd (let z : _≡_ {A = ℕ} 0 1 = ap indicator h in omeg
 chosen false true c h = absurd (let z : _≡_ {A = ℕ} 0 1 = ap indicator h in omega arith)
 chosen false false c h = (refl, refl, h)
 
-pub offered-behind : (ds ts : List ℕ) (n k : ℕ) (x : Row) → Held ds ts n k → behindAll ds n k (x .distance) ≡ true → Offered ds ts n k x n ds ts
-offered-behind ds ts n k x h b =
-    let c = chosen (ltb n k) (eqb k 0) (ltb (getD ds (k - 1) 0) (x .distance)) b in
+pub offered-behind : (hs ls : List ℕ) (n k : ℕ) (x : Row) → Held hs ls n k → behindAll hs n k (x .distance) ≡ true → Offered hs ls n k x n hs ls
+offered-behind hs ls n k x h b =
+    let c = chosen (ltb n k) (eqb k 0) (ltb (distanceIn (getD hs (k - 1) 0)) (x .distance)) b in
     let all : k ≤ n = ltb-false n k (c .0) in
-    let near : getD ds (k - 1) 0 < x .distance = ltb-true (getD ds (k - 1) 0) (x .distance) (c .2) in
+    let near : distanceIn (getD hs (k - 1) 0) < x .distance = ltb-true (distanceIn (getD hs (k - 1) 0)) (x .distance) (c .2) in
     let f = h .few in
     let w : n ≡ k = omega arith in
-    offered-out ds ts n k x h all (λ _. by-lower distance tieOrder (rowOf (getD ds (n - 1) 0) (getD ts (n - 1) 0)) x (rw w near))
+    offered-out hs ls n k x h all (λ _. by-lower distance tieOrder (rowOf (getD hs (n - 1) 0) (getD ls (n - 1) 0)) x (rw w near))
 
--- a row is that of its distance and its tag
-pub row-again : (x : Row) → x .position < 4294967296 → rowOf (x .distance) (tagOf x) ≡ x
-row-again x h =
-    let a : (x .id * 4294967296 + x .position) / 4294967296 ≡ x .id = omega arith in
-    let b : (x .id * 4294967296 + x .position) % 4294967296 ≡ x .position = omega arith in
-    λ i. record { distance = x .distance; id = a i; position = b i }
+-- two words of 64 bits hold the age of a stamp
+last-bits : (tie : ℕ) → tie < 68719476736 → tie / 4294967296 < 16
+last-bits tie h = omega arith
+
+pub age-fits : (high low : ℕ) → low < 18446744073709551616 → high % 268435456 * 16 + low / 268435456 / 4294967296 ≤ 4294967295
+age-fits high low h = let b = last-bits (low / 268435456) (omega arith) in omega arith
+
+-- a row is that of its two words
+pub row-again : (x : Row) → FitsWords x → x .id < 4294967296 → x .stamp < 4294967296 → rowOf (highOf x) (lowOf x) ≡ x
+row-again x f i s =
+    let p = f .placed in
+    let o = age x in
+    let t = age x % 16 * 4294967296 + x .id in
+    let upper : lowOf x / 268435456 ≡ t = omega arith in
+    let d : distanceIn (highOf x) ≡ x .distance = omega arith in
+    let n : t % 4294967296 ≡ x .id = omega arith in
+    let b : lowOf x % 268435456 ≡ x .position = omega arith in
+    let w : highOf x % 268435456 ≡ o / 16 = omega arith in
+    let v : t / 4294967296 ≡ o % 16 = omega arith in
+    let e : 4294967295 - (highOf x % 268435456 * 16 + lowOf x / 268435456 / 4294967296) ≡ x .stamp = rw (w, upper, v) (omega arith) in
+    λ j. record { distance = d j; id = (ap (λ (y : ℕ). y % 4294967296) upper ∙ n) j; stamp = e j; position = b j }
+
+pub row-words : (x : Row) (high low : ℕ) → high ≡ highOf x → rowOf (highOf x) low ≡ x → rowOf high low ≡ x
+row-words x high low h e = ap (λ (w : ℕ). rowOf w low) h ∙ e
 
 -- ---- the stop test
 
-distance-at : (i n : ℕ) (ds ts : List ℕ) → i < n → i < length ds → i < length ts → getD (map distance (rowsIn ds ts n)) i 0 ≡ getD ds i 0
+distance-at : (i n : ℕ) (hs ls : List ℕ) → i < n → i < length hs → i < length ls → getD (map distance (rowsIn hs ls n)) i 0 ≡ distanceIn (getD hs i 0)
 unfolding rowsOf
-distance-at i zero ds ts f h g = absurd (omega arith)
-distance-at i (suc n) [] ts f h g = absurd (omega arith)
-distance-at i (suc n) (d ∷ ds) [] f h g = absurd (omega arith)
-distance-at zero (suc n) (d ∷ ds) (t ∷ ts) f h g = refl
-distance-at (suc i) (suc n) (d ∷ ds) (t ∷ ts) f h g = distance-at i n ds ts (omega arith) (omega arith) (omega arith)
+distance-at i zero hs ls f h g = absurd (omega arith)
+distance-at i (suc n) [] ls f h g = absurd (omega arith)
+distance-at i (suc n) (u ∷ hs) [] f h g = absurd (omega arith)
+distance-at zero (suc n) (u ∷ hs) (v ∷ ls) f h g = refl
+distance-at (suc i) (suc n) (u ∷ hs) (v ∷ ls) f h g = distance-at i n hs ls (omega arith) (omega arith) (omega arith)
 
 -- a row is behind all k rows just if its distance exceeds the k-th
-pub behind-exceeds : (passes : Row → Bool) (ds ts : List ℕ) (n k b : ℕ) → 1 ≤ k → n ≤ k → k ≤ length ds → k ≤ length ts
-    → behindAll ds n k b ≡ nearest.exceeds (byDistance passes) k b (rowsIn ds ts n)
+pub behind-exceeds : (passes : Row → Bool) (hs ls : List ℕ) (n k b : ℕ) → 1 ≤ k → n ≤ k → k ≤ length hs → k ≤ length ls
+    → behindAll hs n k b ≡ nearest.exceeds (byDistance passes) k b (rowsIn hs ls n)
 unfolding nearest.exceeds kth
-behind-exceeds passes ds ts n k b one few room roomTags =
+behind-exceeds passes hs ls n k b one few room roomLows =
     by-cases (ltb n k)
-    (λ e. let q : length (rowsIn ds ts n) < k = rw (length-take n (rowsOf ds ts)) (omega (arith, ltb-true n k e)) in
-    rw (e, lt-leb k (length (rowsIn ds ts n)) q))
+    (λ e. let q : length (rowsIn hs ls n) < k = rw (length-take n (rowsOf hs ls)) (omega (arith, ltb-true n k e)) in
+    rw (e, lt-leb k (length (rowsIn hs ls n)) q))
     (λ e. let all : k ≤ n = ltb-false n k e in
-    let q : k ≤ length (rowsOf ds ts) = length-rowsOf k ds ts room roomTags in
-    let f : k ≤ length (rowsIn ds ts n) = rw (length-take n (rowsOf ds ts)) (omega arith) in
-    rw (e, ne-eqb k 0 (omega arith), le-leb k (length (rowsIn ds ts n)) f, distance-at (k - 1) n ds ts (omega arith) (omega arith) (omega arith)))
+    let q : k ≤ length (rowsOf hs ls) = length-rowsOf k hs ls room roomLows in
+    let f : k ≤ length (rowsIn hs ls n) = rw (length-take n (rowsOf hs ls)) (omega arith) in
+    rw (e, ne-eqb k 0 (omega arith), le-leb k (length (rowsIn hs ls n)) f, distance-at (k - 1) n hs ls (omega arith) (omega arith) (omega arith)))

@@ -9,7 +9,7 @@ use Rattle.lists.specs.Basics.{if, All}
 use Rattle.lists.specs.Sorting.{filter, sort, offerAll}
 use Rattle.lists.specs.Orders.{by}
 
--- How a question ranks rows: by cost (01: squared distance), equal costs by a tie rule (demand 2: lower identifier).
+-- How a question ranks rows: by cost (01: squared distance), equal costs by a tie rule (demand 2, Q-9: later stamp, then lower identifier).
 -- Only rows that pass are candidates. (The search hands over the rows of candidates alone, so there all rows pass.)
 pub record Ranking (A : Type 0) : Type 0 where
   pub cost : A → ℕ

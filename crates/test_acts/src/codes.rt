@@ -34,8 +34,8 @@ fn show_permitted() {
 
 // The answer to a question with so many rows lent.
 fn answer_to(index: &[u8], point: &[i16], k: usize, lent: usize) -> Answer {
-    let mut distances = [0u64; MAX_ROWS];
-    let mut tags = [0u64; MAX_ROWS];
+    let mut highs = [0u64; MAX_ROWS];
+    let mut lows = [0u64; MAX_ROWS];
     index::question_outcome(
         index,
         point,
@@ -44,8 +44,8 @@ fn answer_to(index: &[u8], point: &[i16], k: usize, lent: usize) -> Answer {
             stages: FULL_SET,
         },
         lent,
-        &mut distances,
-        &mut tags,
+        &mut highs,
+        &mut lows,
     )
 }
 

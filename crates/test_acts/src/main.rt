@@ -1,7 +1,8 @@
-// The examples of 01 that are not proved, and stages by Q-2, run through the acts. A line gives what was done, what came of it and what 01
-// or Q-2 says; the file `stdout` has the lines as they should be.
+// The examples of 01 that are not proved, stages by Q-2 and the order of rows by Q-9, run through the acts. A line gives what was done, what came of
+// it and what 01, Q-2 or Q-9 says; the file `stdout` has the lines as they should be.
 mod codes;
 mod lent;
+mod newest;
 mod stages;
 mod upward;
 
@@ -9,4 +10,5 @@ fn main() {
     upward::run();
     let index = codes::run();
     stages::run(index);
+    newest::run();
 }

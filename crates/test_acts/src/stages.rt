@@ -33,9 +33,9 @@ fn refused_stages(index: [u8; SHORTEST]) -> [u8; SHORTEST] {
 
 fn try_set(what: &[u8], index: &[u8], asked: Criteria, lent: usize, said: u64) {
     let point = [0i16, 0];
-    let mut distances = [0u64; MAX_ROWS];
-    let mut tags = [0u64; MAX_ROWS];
-    let answer = index::question_outcome(index, &point, asked, lent, &mut distances, &mut tags);
+    let mut highs = [0u64; MAX_ROWS];
+    let mut lows = [0u64; MAX_ROWS];
+    let answer = index::question_outcome(index, &point, asked, lent, &mut highs, &mut lows);
     staged(what, answer.code as u64, said);
 }
 
@@ -68,16 +68,16 @@ struct Said {
 }
 
 fn try_question(index: &[u8], point: &[i16], asked: Criteria, said: Said) {
-    let mut distances = [0u64; MAX_ROWS];
-    let mut tags = [0u64; MAX_ROWS];
-    let answer = index::question_outcome(index, point, asked, 64, &mut distances, &mut tags);
+    let mut highs = [0u64; MAX_ROWS];
+    let mut lows = [0u64; MAX_ROWS];
+    let answer = index::question_outcome(index, point, asked, 64, &mut highs, &mut lows);
     staged(b"  code", answer.code as u64, 0);
     staged(b"  rows", answer.count as u64, said.rows);
     staged(b"  leaves read", answer.leaves as u64, said.leaves);
     if answer.count == 0 {
         return;
     }
-    let row = row_of(distances[0], tags[0]);
+    let row = row_of(highs[0], lows[0]);
     staged(b"  identifier of the first", row.id as u64, said.id);
     staged(b"  its distance", row.distance, said.distance);
 }

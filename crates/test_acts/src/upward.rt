@@ -92,38 +92,38 @@ fn show_check(index: &[u8]) {
 }
 
 // The question for the k nearest of the point n.
-fn ask(index: &[u8], n: u16, k: usize, distances: &mut [u64], tags: &mut [u64]) -> Answer
-    requires { ⌜ (n ≤ 17) × (length (now distances) ≡ 64) × (length (now tags) ≡ 64) ⌝ }
+fn ask(index: &[u8], n: u16, k: usize, highs: &mut [u64], lows: &mut [u64]) -> Answer
+    requires { ⌜ (n ≤ 17) × (length (now highs) ≡ 64) × (length (now lows) ≡ 64) ⌝ }
 {
     let point = [coordinate(MAX_COORDINATE + n)];
     let what = Criteria {
         k: k,
         stages: FULL_SET,
     };
-    index::question_outcome(index, &point, what, MAX_ROWS, distances, tags)
+    index::question_outcome(index, &point, what, MAX_ROWS, highs, lows)
 }
 
 fn ask_nine(index: &[u8]) {
-    let mut distances = [0u64; MAX_ROWS];
-    let mut tags = [0u64; MAX_ROWS];
+    let mut highs = [0u64; MAX_ROWS];
+    let mut lows = [0u64; MAX_ROWS];
     text(b"from 9, k 1\n");
-    let one = ask(index, 9, 1, &mut distances, &mut tags);
+    let one = ask(index, 9, 1, &mut highs, &mut lows);
     show_answer(one, 0, 1, 1);
     text(b"from 9, k 2\n");
-    let two = ask(index, 9, 2, &mut distances, &mut tags);
+    let two = ask(index, 9, 2, &mut highs, &mut lows);
     show_answer(two, 0, 2, 2);
-    show_row(row_of(distances[0], tags[0]), 9, 0);
-    show_row(row_of(distances[1], tags[1]), 8, 1);
+    show_row(row_of(highs[0], lows[0]), 9, 0);
+    show_row(row_of(highs[1], lows[1]), 8, 1);
 }
 
 fn ask_one(index: &[u8]) {
-    let mut distances = [0u64; MAX_ROWS];
-    let mut tags = [0u64; MAX_ROWS];
+    let mut highs = [0u64; MAX_ROWS];
+    let mut lows = [0u64; MAX_ROWS];
     text(b"from 1, k 9\n");
-    let nine = ask(index, 1, 9, &mut distances, &mut tags);
+    let nine = ask(index, 1, 9, &mut highs, &mut lows);
     show_answer(nine, 0, 9, 1);
     text(b"from 1, k 18\n");
-    let all = ask(index, 1, 18, &mut distances, &mut tags);
+    let all = ask(index, 1, 18, &mut highs, &mut lows);
     show_answer(all, 0, 17, 2);
 }
 

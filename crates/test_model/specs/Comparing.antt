@@ -16,7 +16,7 @@ Counts asked pages = (1 ≤ asked .d) × (asked .d ≤ 16) × (asked .leaves ≤
 
 -- there is room for 64 rows
 abbrev pub Lent : List ℕ → List ℕ → Type 0
-Lent distances tags = (64 ≤ length distances) × (64 ≤ length tags)
+Lent highs lows = (64 ≤ length highs) × (64 ≤ length lows)
 
 -- each point has 16 places and a mark
 abbrev pub Points : List ℕ → List ℕ → Type 0

@@ -8,6 +8,7 @@ use crate::Seen;
 use crate::leaves::fill_table;
 use crate::leaves::holds;
 use crate::leaves::set_count;
+use crate::marks::stamp_in;
 use crate::scan::measure;
 use crate::scan::take;
 use index_answer::Answer;
@@ -27,29 +28,32 @@ fn compare_row(index: &[u8], pages: &[u32], distances: &mut [u64], marks: &[u64]
     if near.id != row.id {
         return 1;
     }
+    if stamp_in(near.mark) != row.stamp {
+        return 1;
+    }
     if holds(index, pages, row.position as usize, row.id, near.mark) {
         return 0;
     }
     1
 }
 
-// How many of the n rows of near and tags differ.
+// How many of the n rows of highs and lows differ.
 fn compare_rows(
     index: &[u8],
     pages: &[u32],
     distances: &mut [u64],
     marks: &[u64],
-    near: &[u64],
-    tags: &[u64],
+    highs: &[u64],
+    lows: &[u64],
     n: usize,
 ) -> u64
-    requires { ⌜ (n ≤ 64) × Lent (now near) (now tags) × (0 < length (now distances)) × (length (now marks) ≡ length (now distances)) ⌝ }
+    requires { ⌜ (n ≤ 64) × Lent (now highs) (now lows) × (0 < length (now distances)) × (length (now marks) ≡ length (now distances)) ⌝ }
     ensures { λ r. ⌜ (r ≤ 64) × (length (now (distances .exit)) ≡ length (now (distances .entry))) ⌝ }
 {
     let mut differences: u64 = 0;
     let mut i = 0;
     while i < n {
-        differences += compare_row(index, pages, distances, marks, row_of(near[i], tags[i]));
+        differences += compare_row(index, pages, distances, marks, row_of(highs[i], lows[i]));
         i += 1;
     }
     differences
@@ -76,13 +80,14 @@ fn differ(a: u64, b: u64) -> u64
 }
 
 // The distance of the last of n rows, 0 if there is none.
-fn last_distance(near: &[u64], n: usize) -> u64
-    requires { ⌜ n ≤ length (now near) ⌝ }
+fn last_distance(highs: &[u64], lows: &[u64], n: usize) -> u64
+    requires { ⌜ (n ≤ 64) × Lent (now highs) (now lows) ⌝ }
 {
     if n == 0 {
         return 0;
     }
-    near[n - 1]
+    let row = row_of(highs[n - 1], lows[n - 1]);
+    row.distance
 }
 
 // A question that was refused, or returned another number of rows.
@@ -103,12 +108,12 @@ pub fn compare(
     table: &[u64],
     asked: Asked,
     answer: Answer,
-    near: &[u64],
-    tags: &[u64],
+    highs: &[u64],
+    lows: &[u64],
 ) -> Seen
     requires { ⌜
         Counts asked (now pages) × (length (now table) ≡ pairs) × (0 < length (now distances))
-        × (length (now marks) ≡ length (now distances)) × Lent (now near) (now tags)
+        × (length (now marks) ≡ length (now distances)) × Lent (now highs) (now lows)
         ⌝ }
 {
     let n = answer.count;
@@ -121,8 +126,8 @@ pub fn compare(
     if MAX_ROWS < n {
         return wrong();
     }
-    let last = last_distance(near, n);
-    let rows = compare_rows(index, pages, distances, marks, near, tags, n);
+    let last = last_distance(highs, lows, n);
+    let rows = compare_rows(index, pages, distances, marks, highs, lows, n);
     let wanted = leaves_wanted(index, pages, table, last, asked);
     let leaves = answer.leaves as u64;
     Seen {

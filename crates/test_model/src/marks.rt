@@ -2,6 +2,11 @@
 ghost use Prim.Native.Nat.{_≤_, _<_};
 use crate::numbers::next;
 
+// The first stamp of the later half, and the last one.
+const MIDDLE_STAMP: u32 = 2147483648;
+
+const LAST_STAMP: u32 = 4294967295;
+
 // The mark of a live point.
 pub fn mark_of(stage: u8, stamp: u32) -> u64 {
     512 * stamp as u64 + 2 * stage as u64 + 1
@@ -33,9 +38,26 @@ fn drawn_stage(n: u64) -> u8 {
     if x < 144 { 0 } else { 2 }
 }
 
-// The mark that a number draws, with an even stamp: a number drawn has 31 bits.
+// The stamp that a number draws: a quarter each of the first 20, of 20 in the middle and of the last 20, which many points share, and of all that are
+// even; a number drawn has 31 bits.
+fn drawn_stamp(n: u64) -> u32 {
+    let turn = n % 4;
+    let shared = (n / 4 % 20) as u32;
+    if turn == 0 {
+        return shared;
+    }
+    if turn == 1 {
+        return MIDDLE_STAMP - 10 + shared;
+    }
+    if turn == 2 {
+        return LAST_STAMP - shared;
+    }
+    next(n) as u32 * 2
+}
+
+// The mark that a number draws.
 pub fn drawn_mark(n: u64) -> u64 {
-    mark_of(drawn_stage(n), next(n) as u32 * 2)
+    mark_of(drawn_stage(n), drawn_stamp(next(n)))
 }
 
 // Whether a set has the mark of a stage: what is left after halving it as often as the stage says is odd.

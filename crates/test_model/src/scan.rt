@@ -1,9 +1,10 @@
-// A full scan of the points, written apart from the index and its search: every distance, and the nearest by repeated minimum.
-// `marks` has a mark for each point; points that are not live, or whose stage is not asked for, are passed over.
+// A full scan of the points, written apart from the index and its search: every distance, and the nearest by repeated minimum; among equals the
+// newest goes first. `marks` has a mark for each point; points that are not live, or whose stage is not asked for, are passed over.
 ghost use mathlib.Core.Path.{_≡_};
 ghost use Prim.Native.Nat.{_≤_, _<_, _*_, _+_, max};
 ghost use lib.ListN.{length};
 use crate::marks::chosen;
+use crate::marks::stamp_in;
 use crate::numbers::id_of;
 use geometry::MAX_FEATURES;
 
@@ -63,28 +64,42 @@ pub fn measure(distances: &mut [u64], places: &[u16], marks: &[u64], q: &[u16], 
     }
 }
 
-// The nearer of two points, the one of the lower identifier at equal distances.
-fn nearer(a: u64, p: usize, b: u64, q: usize) -> usize
+// The newer of two points by their stamps, the one of the lower identifier at equal stamps.
+fn newer(s: u32, p: usize, t: u32, q: usize) -> usize
     ensures { λ r. ⌜ r ≤ max p q ⌝ }
 {
-    if a < b {
+    if t < s {
         return p;
     }
-    if b < a {
+    if s < t {
         return q;
     }
     if id_of(p) < id_of(q) { p } else { q }
 }
 
-// The point of the least distance, and of these that of the lowest identifier.
-fn least(distances: &[u64]) -> usize
-    requires { ⌜ 0 < length (now distances) ⌝ }
+// The nearer of two points, the newer one at equal distances.
+fn nearer(distances: &[u64], marks: &[u64], p: usize, q: usize) -> usize
+    requires { ⌜ (p < length (now distances)) × (q < length (now distances)) × (length (now marks) ≡ length (now distances)) ⌝ }
+    ensures { λ r. ⌜ r ≤ max p q ⌝ }
+{
+    if distances[p] < distances[q] {
+        return p;
+    }
+    if distances[q] < distances[p] {
+        return q;
+    }
+    newer(stamp_in(marks[p]), p, stamp_in(marks[q]), q)
+}
+
+// The point of the least distance, of these one of the latest stamp, and of these that of the lowest identifier.
+fn least(distances: &[u64], marks: &[u64]) -> usize
+    requires { ⌜ (0 < length (now distances)) × (length (now marks) ≡ length (now distances)) ⌝ }
     ensures { λ r. ⌜ r < length (now (distances .entry)) ⌝ }
 {
     let mut best = 0;
     let mut p = 1;
     while p < distances.len() {
-        best = nearer(distances[p], p, distances[best], best);
+        best = nearer(distances, marks, p, best);
         p += 1;
     }
     best
@@ -102,7 +117,7 @@ pub fn take(distances: &mut [u64], marks: &[u64]) -> Near
     requires { ⌜ (0 < length (now distances)) × (length (now marks) ≡ length (now distances)) ⌝ }
     ensures { λ r. ⌜ length (now (distances .exit)) ≡ length (now (distances .entry)) ⌝ }
 {
-    let p = least(distances);
+    let p = least(distances, marks);
     let d = distances[p];
     distances[p] = FAR;
     Near {

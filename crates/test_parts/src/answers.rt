@@ -1,5 +1,6 @@
-// Lines of an answer, of its rows, of a tally and of a leaf, each number beside the one that 01 says.
+// Lines of an answer, of its rows, of a tally and of a leaf, each number beside the one that 01 says, or Q-9 of a stamp.
 use crate::show::line;
+use crate::show::ordered;
 use index_answer::Answer;
 use index_answer::Tally;
 use pagestore::MAX_ITEMS;
@@ -18,7 +19,11 @@ pub fn show_row(row: Row, id: u64, distance: u64) {
 }
 
 pub fn show_position(row: Row, position: u64) {
-    line(b"  its position", row.position as u64, position);
+    line(b"  its position", row.position, position);
+}
+
+pub fn show_stamp(row: Row, stamp: u64) {
+    ordered(b"  its stamp", row.stamp as u64, stamp);
 }
 
 pub fn show_tally(tally: Tally, questions: u64, leaves: u64) {

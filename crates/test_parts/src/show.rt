@@ -41,3 +41,8 @@ pub fn line(what: &[u8], came: u64, said: u64) {
 pub fn staged(what: &[u8], came: u64, said: u64) {
     compared(what, b"Q-2", came, said);
 }
+
+// Beside what the change request on the order of rows says.
+pub fn ordered(what: &[u8], came: u64, said: u64) {
+    compared(what, b"Q-9", came, said);
+}

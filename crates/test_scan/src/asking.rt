@@ -18,13 +18,13 @@ fn ask(
     q: &[u16],
     d: usize,
     what: Criteria,
-    near: &mut [u64],
-    tags: &mut [u64],
+    highs: &mut [u64],
+    lows: &mut [u64],
 ) -> Answer
-    requires { ⌜ (d ≤ 16) × (16 ≤ length (now q)) × Lent (now near) (now tags) ⌝ }
+    requires { ⌜ (d ≤ 16) × (16 ≤ length (now q)) × Lent (now highs) (now lows) ⌝ }
 {
     let point = point_at(q, 0);
-    index::question_outcome(index, &point[..d], what, MAX_ROWS, near, tags)
+    index::question_outcome(index, &point[..d], what, MAX_ROWS, highs, lows)
 }
 
 // Asks one question, from the point q.
@@ -45,13 +45,13 @@ pub fn ask_from(
 {
     let d = asked.d;
     prepare(distances, table, places, marks, &q[..d], asked.stages);
-    let mut near = [0u64; MAX_ROWS];
-    let mut tags = [0u64; MAX_ROWS];
+    let mut highs = [0u64; MAX_ROWS];
+    let mut lows = [0u64; MAX_ROWS];
     let what = Criteria {
         k: asked.k,
         stages: asked.stages,
     };
-    let answer = ask(index, q, d, what, &mut near, &mut tags);
+    let answer = ask(index, q, d, what, &mut highs, &mut lows);
     compare(
         index,
         pages,
@@ -60,7 +60,7 @@ pub fn ask_from(
         table,
         asked,
         answer,
-        &near,
-        &tags,
+        &highs,
+        &lows,
     )
 }

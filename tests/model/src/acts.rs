@@ -23,7 +23,8 @@ pub fn lent_rows() -> [Row; ROWS] {
     std::array::from_fn(|i| Row {
         id: 0xABC0_0000 + i as u32,
         distance: 0xFEDC_BA98_0000_0000 + i as u64,
-        position: 0x5A5A_0000 + i as u32,
+        position: 0x5A5A_5A5A_5A5A_0000 + i as u64,
+        stamp: 0xC3C3_0000 + i as u32,
     })
 }
 
@@ -122,6 +123,16 @@ impl Run {
         let fails = model.fails();
         self.expect(fails.contains(&page), || format!("check: page {page}, judge {fails:?}"));
         (code, 2)
+    }
+
+    /// The library's rows and the leaves that it read, with the check or without. Rows past those returned are as they were lent.
+    pub fn answer(&mut self, lib: &[u8], asked: &Asked, trusted: bool) -> (Vec<Row>, u32) {
+        let mut rows = lent_rows();
+        let got = ffi::question(lib, asked, &mut rows, ROWS, &mut Tally::default(), trusted);
+        self.counts.searches += trusted as u64;
+        self.expect(got.code == 0, || format!("{asked:?}: {got:?}"));
+        self.expect(rows[got.rows..] == lent_rows()[got.rows..], || format!("{asked:?}: rows past the {} returned", got.rows));
+        (rows[..got.rows].to_vec(), got.leaves)
     }
 
     /// The search by itself against rows and leaves that it should give.

@@ -50,10 +50,14 @@ pub const KINDS: [Kind; 4] = [Kind::Uniform, Kind::Clustered, Kind::Tied, Kind::
 /// The stages that the epochs of an index have, as sets: all six, some, one.
 pub const MIXES: [u8; 6] = [0b11_1111, 0b11_1111, 0b01_1110, 0b00_1100, 0b10_0001, 0b00_1000];
 
-/// An epoch of some stage of a mix, with any stamp.
+/// Stamps that many epochs share, and that differ in a bit or two.
+const STAMPS: [u32; 8] = [0, 1, 8, 16, 1 << 28, 1 << 31, u32::MAX - 1, u32::MAX];
+
+/// An epoch of some stage of a mix, with any stamp or one of a few.
 pub fn tag(rng: &mut Rng, id: u32, mix: u8) -> Tag {
     let stages: Vec<u8> = (0..6).filter(|stage| mix & (1 << stage) != 0).collect();
-    Tag { id, stage: rng.pick(&stages), stamp: rng.next() as u32 }
+    let stamp = if rng.one_in(2) { rng.pick(&STAMPS) } else { rng.next() as u32 };
+    Tag { id, stage: rng.pick(&stages), stamp }
 }
 
 /// A point in range.

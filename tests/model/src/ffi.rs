@@ -9,7 +9,8 @@ use crate::model::{Answer, Asked, Row, Tally};
 struct CRow {
     distance: u64,
     id: u32,
-    position: u32,
+    stamp: u32,
+    position: u64,
 }
 
 #[repr(C)]
@@ -115,12 +116,12 @@ pub fn check(index: &[u8]) -> (u32, u32) {
 pub fn question(index: &[u8], asked: &Asked, rows: &mut [Row], lent: usize, tally: &mut Tally, trusted: bool) -> Answer {
     let Asked { x, k, stages } = asked;
     let f: Question = if trusted { epoch_index_trusted_question } else { epoch_index_question };
-    let mut run: Vec<CRow> = rows.iter().map(|r| CRow { distance: r.distance, id: r.id, position: r.position }).collect();
+    let mut run: Vec<CRow> = rows.iter().map(|&Row { distance, id, position, stamp }| CRow { distance, id, position, stamp }).collect();
     let mut counts = CTally { questions: tally.questions, leaves: tally.leaves };
     assert!(lent <= run.len());
     let answer = unsafe { f(index.as_ptr(), index.len(), x.as_ptr(), x.len(), *k, *stages, run.as_mut_ptr(), lent, &mut counts) };
-    for (row, r) in rows.iter_mut().zip(run) {
-        *row = Row { id: r.id, distance: r.distance, position: r.position };
+    for (row, CRow { distance, id, position, stamp }) in rows.iter_mut().zip(run) {
+        *row = Row { id, distance, position, stamp };
     }
     *tally = Tally { questions: counts.questions, leaves: counts.leaves };
     Answer { code: answer.code, rows: answer.count, leaves: answer.leaves }

@@ -19,6 +19,7 @@ mod shapes;
 mod sides;
 mod space;
 mod stages;
+mod ties;
 mod unread;
 mod unused;
 
@@ -31,6 +32,7 @@ fn main() {
     built::all(&mut run);
     space::all(&mut run);
     stages::all(&mut run);
+    ties::all(&mut run);
     unread::all(&mut run);
     unused::all(&mut run);
     rules::all(&mut run);

@@ -3,13 +3,22 @@
 use crate::geometry::{squared, Key, Slices};
 use crate::judge;
 use crate::layout::*;
+use std::cmp::Reverse;
 use std::collections::BTreeSet;
 
 #[derive(Clone, Copy, PartialEq, Eq, Debug, Default)]
 pub struct Row {
     pub id: u32,
     pub distance: u64,
-    pub position: u32,
+    pub position: u64,
+    pub stamp: u32,
+}
+
+impl Row {
+    /// Rows ascend by this: lower distance, later stamp, lower identifier.
+    pub fn order(&self) -> (u64, Reverse<u32>, u32) {
+        (self.distance, Reverse(self.stamp), self.id)
+    }
 }
 
 #[derive(Clone, Copy, PartialEq, Eq, Debug, Default)]
@@ -142,6 +151,17 @@ impl Model {
 
     pub fn record(&self, id: u32) -> Option<Record> {
         self.records().into_iter().find(|r| r.tag.id == id)
+    }
+
+    /// The bytes with other stages and stamps in the records.
+    pub fn retagged(&self, mut other: impl FnMut(Tag) -> Tag) -> Vec<u8> {
+        let mut b = self.b.clone();
+        for p in self.leaves() {
+            let mut all = records(&b, p);
+            all.iter_mut().for_each(|r| r.tag = other(r.tag));
+            put_leaf(&mut b, p, &all);
+        }
+        b
     }
 
     fn idle(&self) -> u32 {
@@ -350,10 +370,11 @@ impl Model {
         let mut rows = Vec::new();
         for (position, &p) in self.leaves().iter().enumerate() {
             for r in records(&self.b, p).iter().filter(|r| asked.seeks(r)) {
-                rows.push(Row { id: r.tag.id, distance: squared(&r.point(d), &from), position: position as u32 });
+                let distance = squared(&r.point(d), &from);
+                rows.push(Row { id: r.tag.id, distance, position: position as u64, stamp: r.tag.stamp });
             }
         }
-        rows.sort_by_key(|r| (r.distance, r.id));
+        rows.sort_by_key(Row::order);
         rows
     }
 

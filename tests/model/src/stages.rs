@@ -1,6 +1,6 @@
 //! Stages and stamps: what is sound of them, which records a set of stages looks among, and the refusals 15 and 16 in their places.
 
-use crate::acts::{lent_rows, Act, ROWS};
+use crate::acts::{Act, ROWS};
 use crate::built::{built, Plan, Shape};
 use crate::data::{Kind, Rng, KINDS};
 use crate::ffi;
@@ -12,6 +12,7 @@ use crate::model::{Asked, Model, Row, Tally};
 use crate::run::Run;
 use crate::series::{Ids, Series};
 use crate::shapes::grown;
+use std::cmp::Reverse;
 
 fn some_plan(d: usize, points: usize) -> Plan {
     Plan { pages: points / 7 + 4, d, kind: Kind::Uniform, points, shape: Shape::Any, junk: false }
@@ -38,55 +39,44 @@ fn stored_stages(run: &mut Run, points: usize) {
     }
 }
 
-/// Other stamps in every record: the index is sound, and questions are answered as before.
+/// Other stamps in every record: the index is sound, and questions go by these stamps.
 fn stored_stamps(run: &mut Run, points: usize) {
     let mut rng = Rng(points as u64);
     let mut s = Series::over(built(&mut rng, some_plan(3, points)), Kind::Uniform, Ids::Any, 5);
     for stamp in [None, Some(0), Some(1), Some(1 << 31), Some(u32::MAX)] {
-        let mut bytes = s.model.b.clone();
-        for p in s.model.leaves() {
-            (0..count(&bytes, p)).for_each(|i| put_u32(page_mut(&mut bytes, p), stamp_at(i), stamp.unwrap_or(rng.next() as u32)));
-        }
+        let bytes = s.model.retagged(|tag| Tag { stamp: stamp.unwrap_or(rng.next() as u32), ..tag });
         let mut lib = Lent::new(&bytes);
         let mut model = Model::over(bytes);
         let code = run.act(&mut lib, &mut model, &Act::Check, true);
         run.expect(code == 0, || format!("stamps of {stamp:?}: check gives {code}"));
         for _ in 0..20 {
             let asked = Asked { x: s.point(), k: 1 + rng.below(20), stages: s.set() };
-            let found = s.model.search(&asked);
+            let found = model.search(&asked);
             run.search_gives("other stamps", &lib, &asked, &found.rows, found.leaves);
         }
     }
 }
 
-/// The library's rows and the leaves that it read.
-fn answer(run: &mut Run, lib: &[u8], asked: &Asked) -> (Vec<Row>, u32) {
-    let mut rows = lent_rows();
-    let got = ffi::search(lib, asked, &mut rows, ROWS);
-    run.counts.searches += 1;
-    run.expect(got.code == 0, || format!("{asked:?}: {got:?}"));
-    (rows[..got.rows].to_vec(), got.leaves)
-}
-
 /// Every set from one point: its rows are the first k of those of its stages one by one.
 fn each_set(run: &mut Run, s: &mut Series) {
     let (x, k) = (s.point(), 1 + s.rng.below(12));
-    let ones: Vec<Vec<Row>> = (0..6).map(|stage| answer(run, &s.lib, &Asked::new(&x, k, 1 << stage)).0).collect();
+    let ones: Vec<Vec<Row>> = (0..6).map(|stage| run.answer(&s.lib, &Asked::new(&x, k, 1 << stage), true).0).collect();
     for stages in 1..=ALL_STAGES {
         let asked = Asked::new(&x, k, stages);
         let mut rows: Vec<Row> = (0..6).filter(|stage| stages & (1 << stage) != 0).flat_map(|stage| ones[stage].clone()).collect();
-        rows.sort_by_key(|row| (row.distance, row.id));
+        rows.sort_by_key(Row::order);
         rows.truncate(k);
-        let got = answer(run, &s.lib, &asked).0;
+        let got = run.answer(&s.lib, &asked, true).0;
         run.expect(got == rows, || format!("{asked:?}: other rows than its stages have one by one"));
         s.act(run, &Act::Question(asked, ROWS, Tally::default()));
     }
 }
 
 /// The k nearest of all records, whatever their stages.
-fn of_all(model: &Model, x: &[i16], k: usize) -> Vec<(u64, u32)> {
+fn of_all(model: &Model, x: &[i16], k: usize) -> Vec<(u64, Reverse<u32>, u32)> {
     let from: Vec<i64> = x.iter().map(|&c| c.into()).collect();
-    let mut all: Vec<(u64, u32)> = model.records().iter().map(|r| (squared(&r.point(from.len()), &from), r.tag.id)).collect();
+    let order = |r: &Record| (squared(&r.point(from.len()), &from), Reverse(r.tag.stamp), r.tag.id);
+    let mut all: Vec<(u64, Reverse<u32>, u32)> = model.records().iter().map(order).collect();
     all.sort();
     all.truncate(k);
     all
@@ -94,16 +84,13 @@ fn of_all(model: &Model, x: &[i16], k: usize) -> Vec<(u64, u32)> {
 
 /// The full set: the nearest of all records, the same rows and leaves when every record has another stage.
 fn full_set(run: &mut Run, s: &mut Series) {
-    let mut restaged = s.model.b.clone();
-    for p in s.model.leaves() {
-        (0..count(&restaged, p)).for_each(|i| page_mut(&mut restaged, p)[stage_at(i)] = s.rng.below(6) as u8);
-    }
+    let restaged = s.model.retagged(|tag| Tag { stage: s.rng.below(6) as u8, ..tag });
     for _ in 0..10 {
         let asked = Asked { x: s.point(), k: 1 + s.rng.below(64), stages: ALL_STAGES };
-        let (rows, leaves) = answer(run, &s.lib, &asked);
+        let (rows, leaves) = run.answer(&s.lib, &asked, true);
         let nearest = of_all(&s.model, &asked.x, asked.k);
-        run.expect(rows.iter().map(|r| (r.distance, r.id)).eq(nearest), || format!("{asked:?}: not the nearest of all records"));
-        let other = answer(run, &restaged, &asked);
+        run.expect(rows.iter().map(Row::order).eq(nearest), || format!("{asked:?}: not the nearest of all records"));
+        let other = run.answer(&restaged, &asked, true);
         run.expect(other == (rows, leaves), || format!("{asked:?}: another answer with other stages"));
     }
 }
@@ -126,7 +113,7 @@ fn few(run: &mut Run, s: &mut Series, rare: usize) {
     let mut model = Model::over(bytes.clone());
     for stages in [1 << 4, 1 << 3 | 1 << 4, ALL_STAGES & !(1 << 2)] {
         let asked = Asked { x: s.point(), k: rare + 1, stages };
-        let (rows, read) = answer(run, &bytes, &asked);
+        let (rows, read) = run.answer(&bytes, &asked, true);
         run.expect((rows.len(), read) == (rare, holding), || format!("{asked:?}: {} rows, {read} leaves of {holding}", rows.len()));
         run.act(&mut bytes, &mut model, &Act::Question(asked, ROWS, Tally::default()), true);
         if rare > 0 {

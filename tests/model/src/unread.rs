@@ -10,7 +10,7 @@ use crate::series::Series;
 use crate::shapes::grown;
 
 /// Other bytes in the pages of unread leaves, in one of several ways.
-fn overwrite(rng: &mut Rng, b: &mut [u8], unread: &[u32]) {
+pub fn overwrite(rng: &mut Rng, b: &mut [u8], unread: &[u32]) {
     let way = rng.below(6);
     for &p in unread {
         let other = rng.pick(unread);
@@ -49,7 +49,7 @@ fn exchange(rng: &mut Rng, b: &mut [u8], d: usize, unread: &[u32]) {
     }
 }
 
-fn asked_point(s: &mut Series) -> Vec<i16> {
+pub fn asked_point(s: &mut Series) -> Vec<i16> {
     let mut x = s.point();
     if s.rng.one_in(2) && !s.live.is_empty() {
         let records = s.model.records();

@@ -1,13 +1,17 @@
 //! Series of acts: with the check and without it they give the same answers and bytes, and questions give a full scan's rows.
 use super::{bytes, Random};
 use crate::*;
+use std::cmp::Reverse;
 use std::collections::BTreeMap;
 
-/// An index in two ways, the live points, and a tally for each.
+/// Distance, stamp and identifier: rows ascend by them.
+type Nearness = (u64, Reverse<u32>, u32);
+
+/// An index in two ways, the live epochs with their points, and a tally for each.
 struct Series {
     checked: Index<Vec<u8>>,
     sound: SoundIndex<Vec<u8>>,
-    points: BTreeMap<u32, (Stage, Vec<i16>)>,
+    points: BTreeMap<u32, (Epoch, Vec<i16>)>,
     tallies: [Tally; 2],
 }
 
@@ -28,7 +32,7 @@ impl Series {
             Err(refusal) => assert_eq!((refusal, self.points.contains_key(&id)), (Refusal::AlreadyLive, true)),
             Ok(()) => {
                 assert_ne!(id, 0);
-                assert_eq!(self.points.insert(id, (epoch.stage, point)), None);
+                assert_eq!(self.points.insert(id, (epoch, point)), None);
             }
         }
     }
@@ -41,16 +45,16 @@ impl Series {
 
     fn question(&mut self, point: &[i16], k: usize, stages: StageSet) {
         let found = self.checked.question(point, k, stages, &mut self.tallies[0]).unwrap();
-        let rows: Vec<(u64, u32)> = found.rows.iter().map(|row| (row.distance, row.id)).collect();
+        let rows: Vec<Nearness> = found.rows.iter().map(|row| (row.distance, Reverse(row.stamp), row.id)).collect();
         assert_eq!(self.sound.question(point, k, stages, &mut self.tallies[1]), Ok(found));
         assert_eq!(rows, self.full_scan(point, k, stages));
     }
 
     /// The nearest of some stages by a look at every point.
-    fn full_scan(&self, asked: &[i16], k: usize, stages: StageSet) -> Vec<(u64, u32)> {
+    fn full_scan(&self, asked: &[i16], k: usize, stages: StageSet) -> Vec<Nearness> {
         let squared = |p: &[i16]| p.iter().zip(asked).map(|(a, b)| (i64::from(*a) - i64::from(*b)).pow(2) as u64).sum();
-        let candidates = self.points.iter().filter(|(_, (stage, _))| stages.contains(*stage));
-        let mut rows: Vec<(u64, u32)> = candidates.map(|(id, (_, p))| (squared(p), *id)).collect();
+        let candidates = self.points.values().filter(|(epoch, _)| stages.contains(epoch.stage));
+        let mut rows: Vec<Nearness> = candidates.map(|(epoch, p)| (squared(p), Reverse(epoch.stamp), epoch.id)).collect();
         rows.sort_unstable();
         rows.truncate(k);
         rows

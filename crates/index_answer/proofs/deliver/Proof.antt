@@ -84,11 +84,11 @@ rowsT = sliceTy (tyRef (named 0) mut (pointee (R .written)))
 abbrev tallyT : Ty
 tallyT = tyRef (named 1) mut (pointee (Y .written))
 
-abbrev distancesT : Ty
-distancesT = sliceTy (tyRef (named 2) imm (tyInt w64))
+abbrev highsT : Ty
+highsT = sliceTy (tyRef (named 2) imm (tyInt w64))
 
-abbrev tagsT : Ty
-tagsT = sliceTy (tyRef (named 3) imm (tyInt w64))
+abbrev lowsT : Ty
+lowsT = sliceTy (tyRef (named 3) imm (tyInt w64))
 
 abbrev rowsT′ : Ty
 rowsT′ = sliceTy (tyRef erased mut (pointee (R .written)))
@@ -120,7 +120,7 @@ module _ {M : Type 1} (𝓤 : URA M) (H : Heap 𝓤) (A : Atoms 𝓤) (at-mem : 
   Tal = tripleOf 𝓤 H A tally.signature (tally.spec 𝓤 H A at-mem run)
 
 module _ {M : Type 1} (𝓤 : URA M) (H : Heap 𝓤) (A : Atoms 𝓤) (W : Given 𝓤 H A) (at-mem : Memory → SProp 𝓤) (run : Routine → Fun 𝓤) (κ₀ κ₁ κ₂ κ₃ : Lft) (q₀ q₁ q₂ q₃ : Share)
-    (b o : ℕ) (γ : GName) (xs : List Row) (bt ot : ℕ) (γt : GName) (h : Tally) (u : Answer) (xd xg : RefT (List ℕ)) where
+    (b o : ℕ) (γ : GName) (xs : List Row) (bt ot : ℕ) (γt : GName) (h : Tally) (u : Answer) (xh xl : RefT (List ℕ)) where
   abbrev xr : RefT (List Row)
   xr = record { ptr = (b, o); name = γ; now = xs }
 
@@ -134,18 +134,18 @@ module _ {M : Type 1} (𝓤 : URA M) (H : Heap 𝓤) (A : Atoms 𝓤) (W : Given
   abbrev nv : Val
   nv = LL.val N.the-type N′.the-laws u
 
-  abbrev sd : Val
-  sd = sliceVal (xd .ptr) (length (xd .now))
+  abbrev sh : Val
+  sh = sliceVal (xh .ptr) (length (xh .now))
 
-  abbrev sg : Val
-  sg = sliceVal (xg .ptr) (length (xg .now))
+  abbrev sl : Val
+  sl = sliceVal (xl .ptr) (length (xl .now))
 
-  module _ (is : Is N.the-row u (nv ∷ [])) (pd : Is (ShrSlice (named 2) κ₂ u64) xd (sd ∷ [])) (pg : Is (ShrSlice (named 3) κ₃ u64) xg (sg ∷ [])) (room : Room R (length xs)) where
+  module _ (is : Is N.the-row u (nv ∷ [])) (ph : Is (ShrSlice (named 2) κ₂ u64) xh (sh ∷ [])) (pl : Is (ShrSlice (named 3) κ₃ u64) xl (sl ∷ [])) (room : Room R (length xs)) where
     abbrev a : RefT (List Row) × (RefT Tally × (Answer × (RefT (List ℕ) × (RefT (List ℕ) × Unit {0}))))
-    a = (xr, (xt, (u, (xd, (xg, tt)))))
+    a = (xr, (xt, (u, (xh, (xl, tt)))))
 
     abbrev vals : List Val × (List Val × (List Val × (List Val × (List Val × Unit {0}))))
-    vals = (sr ∷ [], (vptr bt ot ∷ [], (nv ∷ [], (sd ∷ [], (sg ∷ [], tt)))))
+    vals = (sr ∷ [], (vptr bt ot ∷ [], (nv ∷ [], (sh ∷ [], (sl ∷ [], tt)))))
 
     abbrev κs : Lft × (Lft × (Lft × (Lft × Unit {0})))
     κs = (κ₀, (κ₁, (κ₂, (κ₃, tt))))
@@ -165,14 +165,14 @@ module _ {M : Type 1} (𝓤 : URA M) (H : Heap 𝓤) (A : Atoms 𝓤) (W : Given
     abbrev Held : Fml
     Held = MutRef (named 1) κ₁ Y .own xt (vptr bt ot ∷ [])
 
-    abbrev Distances : Fml
-    Distances = ShrSlice (named 2) κ₂ u64 .own xd (sd ∷ [])
+    abbrev Highs : Fml
+    Highs = ShrSlice (named 2) κ₂ u64 .own xh (sh ∷ [])
 
-    abbrev Tags : Fml
-    Tags = ShrSlice (named 3) κ₃ u64 .own xg (sg ∷ [])
+    abbrev Lows : Fml
+    Lows = ShrSlice (named 3) κ₃ u64 .own xl (sl ∷ [])
 
     abbrev Arrays : Item 𝓤
-    Arrays = ‵ Distances ⊛ ‵ Tags
+    Arrays = ‵ Highs ⊛ ‵ Lows
 
     -- the tokens that each callee takes
     abbrev Shared : Item 𝓤
@@ -199,7 +199,7 @@ module _ {M : Type 1} (𝓤 : URA M) (H : Heap 𝓤) (A : Atoms 𝓤) (W : Given
         split ! $ move ! (1 ∷ []) $ split ! $
         -- [t₁; Shared; t₀; owns]
         move ! (3 ∷ []) $ fsplit ! $ move ! (1 ∷ []) $ fsplit ! $ move ! (1 ∷ []) $ fsplit ! $ drop ! $ fsplit ! $ move ! (1 ∷ []) $ fsplit ! $
-        -- [tags; true; distances; tally; rows; t₁; Shared; t₀]
+        -- [lows; true; highs; tally; rows; t₁; Shared; t₀]
         move ! (2 ∷ 0 ∷ []) $ join ! $ move ! (4 ∷ 1 ∷ []) $ join ! $ move ! (2 ∷ 0 ∷ []) $ join ! $ move ! (1 ∷ 0 ∷ []) $ join ! $
         -- [shared slices and tally; rows; Shared; t₀]
         move ! (3 ∷ 2 ∷ []) $ join ! $ move ! (2 ∷ 0 ∷ []) $ join ! $ join ! $ done !
@@ -214,15 +214,15 @@ module _ {M : Type 1} (𝓤 : URA M) (H : Heap 𝓤) (A : Atoms 𝓤) (W : Given
     fill-lfts = (κ₀, (κ₂, (κ₃, tt)))
 
     abbrev for-fill : RefT (List Row) × (RefT (List ℕ) × (RefT (List ℕ) × (ℕ × Unit {0})))
-    for-fill = (xr, (xd, (xg, (u .count, tt))))
+    for-fill = (xr, (xh, (xl, (u .count, tt))))
 
     abbrev to-fill : Fill 𝓤 H A at-mem run .Ghost
-    to-fill = ((fill-lfts, (q₀, (q₂, (q₃, tt))), tt, for-fill, (sr ∷ [], (sd ∷ [], (sg ∷ [], (vint w64 (u .count) ∷ [], tt))))), tt)
+    to-fill = ((fill-lfts, (q₀, (q₂, (q₃, tt))), tt, for-fill, (sr ∷ [], (sh ∷ [], (sl ∷ [], (vint w64 (u .count) ∷ [], tt))))), tt)
 
     goes-fill : ent 𝓤 (⋆ 𝓤 H A ((ForRows ⊛ Arrays) ∷ [])) (sep 𝓤 (Fill 𝓤 H A at-mem run .pre to-fill) (⋆ 𝓤 H A (Arrays ∷ [])))
     goes-fill =
-        qed W ((ForRows ⊛ Arrays) ∷ []) ∵ split ! $ split ! $ move ! (2 ∷ []) $ use1 W (‵ Distances ⊛ (‵ Tags ⊛ Arrays)) (twice 𝓤 H A W (named 2) (named 3) κ₂ κ₃ xd xg (sd ∷ []) (sg ∷ [])) $ split ! $ move ! (1 ∷ []) $ split ! $
-        -- [tags; the shared slices; distances; rows; Filling]
+        qed W ((ForRows ⊛ Arrays) ∷ []) ∵ split ! $ split ! $ move ! (2 ∷ []) $ use1 W (‵ Highs ⊛ (‵ Lows ⊛ Arrays)) (twice 𝓤 H A W (named 2) (named 3) κ₂ κ₃ xh xl (sh ∷ []) (sl ∷ [])) $ split ! $ move ! (1 ∷ []) $ split ! $
+        -- [lows; the shared slices; highs; rows; Filling]
         nothing ! $ owned ! usize (Is usize) (uint-makes 𝓤 H A W w64) (u .count) _ (refl, count-fits) $ fjoin ! $ move ! (1 ∷ 0 ∷ []) $ fjoin ! $ move ! (2 ∷ 0 ∷ []) $ fjoin ! $ move ! (2 ∷ 0 ∷ []) $ fjoin ! $
         move ! (2 ∷ 0 ∷ []) $ join ! $ nothing ! $ move ! (1 ∷ 0 ∷ []) $ join ! $ frame ! $ done !
 
@@ -237,7 +237,7 @@ module _ {M : Type 1} (𝓤 : URA M) (H : Heap 𝓤) (A : Atoms 𝓤) (W : Given
     Had zs t Γ = ‵ (finally R γ zs) ∷ ‵ (fres γt (Y .coded .code t)) ∷ Filling ∷ Tallying ∷ Arrays ∷ Γ
 
     abbrev Said : List Row → Tally → Type 0
-    Said zs t = Delivered u (xd .now) (xg .now) xs h u zs t
+    Said zs t = Delivered u (xh .now) (xl .now) xs h u zs t
 
     exits : (zs : List Row) (t : Tally) → length zs ≡ length xs → Said zs t → ent 𝓤 (⋆ 𝓤 H A (Had zs t [])) (Post nv)
     exits zs t len e =
@@ -260,15 +260,15 @@ module _ {M : Type 1} (𝓤 : URA M) (H : Heap 𝓤) (A : Atoms 𝓤) (W : Given
     module _ (C : Calls 𝓤 H) (Λ : Loops 𝓤 H) (fm : FmC 𝓤 H (W .laws) C) (known-fill : Triple 𝓤 (C #index-answer·fill-rows) (Fill 𝓤 H A at-mem run)) (known-tally : Triple 𝓤 (C #index-answer·tally-question) (Tal 𝓤 H A at-mem run)) where
       module _ (l₀ l₁ l₂ l₃ l₄ l₅ l₆ l₇ l₈ l₉ l₁₀ : ℕ) where
         abbrev En : Env 𝓤 H
-        En = (N′.mir, l₀) ∷ (rowsT, l₁) ∷ (tallyT, l₂) ∷ (N′.mir, l₃) ∷ (distancesT, l₄) ∷ (tagsT, l₅) ∷ (tyBool, l₆) ∷ (tyUnit, l₇) ∷ (rowT′, l₈) ∷ (rowsT′, l₉) ∷ (tallyT′, l₁₀) ∷ []
+        En = (N′.mir, l₀) ∷ (rowsT, l₁) ∷ (tallyT, l₂) ∷ (N′.mir, l₃) ∷ (highsT, l₄) ∷ (lowsT, l₅) ∷ (tyBool, l₆) ∷ (tyUnit, l₇) ∷ (rowT′, l₈) ∷ (rowsT′, l₉) ∷ (tallyT′, l₁₀) ∷ []
 
         -- the locals, with an item for each of the parameters and t for _6
         abbrev Locals : Item 𝓤 → Item 𝓤 → Item 𝓤 → Item 𝓤 → Item 𝓤 → Item 𝓤 → List (Item 𝓤) → List (Item 𝓤)
         Locals j₁ j₂ j₃ j₄ j₅ t Γ = ‵ (froom tallyT′ l₁₀ 0) ∷ ‵ (fdies tallyT′ l₁₀) ∷ ‵ (froom rowsT′ l₉ 0) ∷ ‵ (fdies rowsT′ l₉) ∷ ‵ (froom rowT′ l₈ 0) ∷ ‵ (fdies rowT′ l₈) ∷ ‵ (froom tyUnit l₇ 0) ∷ ‵ (fdies tyUnit l₇)
-            ∷ t ∷ ‵ (fdies tyBool l₆) ∷ j₅ ∷ ‵ (fdies tagsT l₅) ∷ j₄ ∷ ‵ (fdies distancesT l₄) ∷ j₃ ∷ ‵ (fdies N′.mir l₃) ∷ j₂ ∷ ‵ (fdies tallyT l₂) ∷ j₁ ∷ ‵ (fdies rowsT l₁) ∷ ‵ (froom N′.mir l₀ 0) ∷ ‵ (fdies N′.mir l₀) ∷ Γ
+            ∷ t ∷ ‵ (fdies tyBool l₆) ∷ j₅ ∷ ‵ (fdies lowsT l₅) ∷ j₄ ∷ ‵ (fdies highsT l₄) ∷ j₃ ∷ ‵ (fdies N′.mir l₃) ∷ j₂ ∷ ‵ (fdies tallyT l₂) ∷ j₁ ∷ ‵ (fdies rowsT l₁) ∷ ‵ (froom N′.mir l₀ 0) ∷ ‵ (fdies N′.mir l₀) ∷ Γ
 
         abbrev Holding : Item 𝓤 → List (Item 𝓤)
-        Holding t = Locals (‵ (fat fullShare rowsT l₁ 0 sr)) (‵ (fat fullShare tallyT l₂ 0 (vptr bt ot))) (‵ (fat fullShare N′.mir l₃ 0 nv)) (‵ (fat fullShare distancesT l₄ 0 sd)) (‵ (fat fullShare tagsT l₅ 0 sg)) t []
+        Holding t = Locals (‵ (fat fullShare rowsT l₁ 0 sr)) (‵ (fat fullShare tallyT l₂ 0 (vptr bt ot))) (‵ (fat fullShare N′.mir l₃ 0 nv)) (‵ (fat fullShare highsT l₄ 0 sh)) (‵ (fat fullShare lowsT l₅ 0 sl)) t []
 
         abbrev test : Bool
         test = eqb (u .code) 0
@@ -299,8 +299,8 @@ module _ {M : Type 1} (𝓤 : URA M) (H : Heap 𝓤) (A : Atoms 𝓤) (W : Given
             calls-at ! fm (Fill 𝓤 H A at-mem run) known-fill to-fill
             (and-then ! (load ! (from ! (stop !)) (look ! 5 refl)) (and-then ! (load ! (from ! (stop !)) (look ! 15 refl)) (and-then ! (load ! (from ! (stop !)) (look ! 13 refl)) (and-then ! (load ! (from ! (fld ! refl (stop !))) (look-in ! 17 (sub ! 1 refl (whole !)))) (no-more !))))) (λ w.
             use1 W (later (some (λ (r : Unit {0}). (Filling ⊛ ‵ (Nothing .own r (w ∷ []))) ⊛ raw (ensured 𝓤 H A fill.ended (fill.clauses 𝓤 H A at-mem run) fill-lfts for-fill tt r)))) (id⊢ 𝓤 _) $ await ! tt $ pick ! (λ r.
-            split ! $ move ! (1 ∷ []) $ use1 W (some (λ (zs : List Row × (Unit {0} × (Unit {0} × (Unit {0} × Unit {0})))). ‵ (lasts fill.ended fill-lfts for-fill zs) ⊛ raw (fact 𝓤 (zs .0 ≡ filled (xd .now) (xg .now) (u .count) xs)))) (id⊢ 𝓤 _) $ pick ! (λ zs.
-            split ! $ move ! (1 ∷ []) $ heard ! (zs .0 ≡ filled (xd .now) (xg .now) (u .count) xs) (λ e₁. fsplit ! $ fsplit ! $ move ! (1 ∷ []) $ feqL ! (λ len. move ! (2 ∷ []) $ split ! $ move ! (1 ∷ []) $ feqL ! (λ unit₁.
+            split ! $ move ! (1 ∷ []) $ use1 W (some (λ (zs : List Row × (Unit {0} × (Unit {0} × (Unit {0} × Unit {0})))). ‵ (lasts fill.ended fill-lfts for-fill zs) ⊛ raw (fact 𝓤 (zs .0 ≡ filled (xh .now) (xl .now) (u .count) xs)))) (id⊢ 𝓤 _) $ pick ! (λ zs.
+            split ! $ move ! (1 ∷ []) $ heard ! (zs .0 ≡ filled (xh .now) (xl .now) (u .count) xs) (λ e₁. fsplit ! $ fsplit ! $ move ! (1 ∷ []) $ feqL ! (λ len. move ! (2 ∷ []) $ split ! $ move ! (1 ∷ []) $ feqL ! (λ unit₁.
             -- [Filling; the last list; the other last values; the shared slices; ForTally; _10; …]
             move ! (2 ∷ []) $ drop ! $ land ! (from ! (stop !)) (init ! 10 refl (unit-typed w unit₁)) $
             -- the tally is updated
@@ -315,7 +315,7 @@ module _ {M : Type 1} (𝓤 : URA M) (H : Heap 𝓤) (A : Atoms 𝓤) (W : Given
             move ! (2 ∷ []) $ drop ! $ move ! (3 ∷ 1 ∷ 2 ∷ 0 ∷ []) $
             by ! (leaves (zs .0) (ts .0) len (record {
               same = refl;
-              filling = e₁ ∙ ap (λ (t : Bool). choice.if t (filled (xd .now) (xg .now) (u .count) xs) xs) (sym (came test yes));
+              filling = e₁ ∙ ap (λ (t : Bool). choice.if t (filled (xh .now) (xl .now) (u .count) xs) xs) (sym (came test yes));
               count = e₂ ∙ ap (λ (t : Bool). choice.if t (counted h (u .leaves)) h) (sym (came test yes));
             }))))))))))))))
             -- both are let go
@@ -325,20 +325,20 @@ module _ {M : Type 1} (𝓤 : URA M) (H : Heap 𝓤) (A : Atoms 𝓤) (W : Given
             move ! (3 ∷ 0 ∷ 4 ∷ 1 ∷ []) $
             by ! (leaves xs h refl (record {
               same = refl;
-              filling = ap (λ (t : Bool). choice.if t (filled (xd .now) (xg .now) (u .count) xs) xs) (sym (went test no));
+              filling = ap (λ (t : Bool). choice.if t (filled (xh .now) (xl .now) (u .count) xs) xs) (sym (went test no));
               count = ap (λ (t : Bool). choice.if t (counted h (u .leaves)) h) (sym (went test no));
             })))
 
-        passes : Sq W (Locals (‵ (froom rowsT l₁ 0)) (‵ (froom tallyT l₂ 0)) (‵ (froom N′.mir l₃ 0)) (‵ (froom distancesT l₄ 0)) (‵ (froom tagsT l₅ 0)) (‵ (froom tyBool l₆ 0)) (raw Entered ∷ []))
-            (params′ En (sr ∷ vptr bt ot ∷ nv ∷ sd ∷ sg ∷ []) (runs C Λ En (code.function .body) (atRet En Post)))
+        passes : Sq W (Locals (‵ (froom rowsT l₁ 0)) (‵ (froom tallyT l₂ 0)) (‵ (froom N′.mir l₃ 0)) (‵ (froom highsT l₄ 0)) (‵ (froom lowsT l₅ 0)) (‵ (froom tyBool l₆ 0)) (raw Entered ∷ []))
+            (params′ En (sr ∷ vptr bt ot ∷ nv ∷ sh ∷ sl ∷ []) (runs C Λ En (code.function .body) (atRet En Post)))
         passes =
             params1 ! $ pass1 ! (init ! 18 refl (tt, (tt, (record { fits = room .0 }, tt)))) $ pass1 ! (init ! 16 refl (tt, tt)) $ pass1 ! (init ! 14 refl (LL.lawful N.the-type N′.the-laws 𝓤 H A W .typed u _ is .0)) $
-            pass1 ! (init ! 12 refl (shr-slice-lawful 𝓤 H A W (named 2) κ₂ u64 .typed xd _ pd .0)) $ pass1 ! (init ! 10 refl (shr-slice-lawful 𝓤 H A W (named 3) κ₃ u64 .typed xg _ pg .0)) $ pass0 ! $
+            pass1 ! (init ! 12 refl (shr-slice-lawful 𝓤 H A W (named 2) κ₂ u64 .typed xh _ ph .0)) $ pass1 ! (init ! 10 refl (shr-slice-lawful 𝓤 H A W (named 3) κ₃ u64 .typed xl _ pl .0)) $ pass0 ! $
             move ! (22 ∷ []) $ use1 W Kept has $ by ! decides
 
-      walk : ent 𝓤 Entered (WpFn 𝓤 H C Λ code.function (sr ∷ vptr bt ot ∷ nv ∷ sd ∷ sg ∷ []) Post)
+      walk : ent 𝓤 Entered (WpFn 𝓤 H C Λ code.function (sr ∷ vptr bt ot ∷ nv ∷ sh ∷ sl ∷ []) Post)
       walk =
-          qed W (raw Entered ∷ []) ∵ enter ! C Λ code.function (sr ∷ vptr bt ot ∷ nv ∷ sd ∷ sg ∷ []) _ $
+          qed W (raw Entered ∷ []) ∵ enter ! C Λ code.function (sr ∷ vptr bt ot ∷ nv ∷ sh ∷ sl ∷ []) _ $
           alloc1 ! (λ l₀. alloc1 ! (λ l₁. alloc1 ! (λ l₂. alloc1 ! (λ l₃. alloc1 ! (λ l₄. alloc1 ! (λ l₅. alloc1 ! (λ l₆. alloc1 ! (λ l₇. alloc1 ! (λ l₈. alloc1 ! (λ l₉. alloc1 ! (λ l₁₀. alloc0 ! $
           passes l₀ l₁ l₂ l₃ l₄ l₅ l₆ l₇ l₈ l₉ l₁₀)))))))))))
 

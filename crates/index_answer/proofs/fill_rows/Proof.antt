@@ -1,6 +1,6 @@
 -- `index_answer::fill_rows` meets its contract: a walk of its MIR, by hand. `fill_count` says how many rows are written; the borrow of the rows is opened once, before the loop;
 -- each turn calls `row_at` on copies of the two shared slices, takes one element out of the row, stores to it and puts it back; and the borrow is closed once, when the loop is left.
--- The loop's invariant: before turn i the slice holds `upTo ds ts xs i`. The variant is i with i ≤ n, ordered by what is left (`Nearer`).
+-- The loop's invariant: before turn i the slice holds `upTo hs ls xs i`. The variant is i with i ≤ n, ordered by what is left (`Nearer`).
 -- Assumes nothing.
 use mathlib.Core.Path.{_≡_, refl, sym, _∙_, ap, subst}
 use Prim.Native.Nat.{ℕ, _+_, _-_, _*_, _≤_, _<_, _^_, zero-le}
@@ -51,7 +51,7 @@ use denote.Triple.Walked.{says, Stays, stay-slice, stay-none, stay-none-slice, w
 use denote.Exit.{yes}
 use Rattle.search_rows.specs.declared.Row.{Row}
 use Rattle.index_answer.specs.Filling.{rowAt, rowsLent, upTo}
-use Rattle.index_answer.specs.FillingLaws.{upTo-zero, upTo-length, upTo-next, rowsLent-lent, rowsLent-distances, rowsLent-tags}
+use Rattle.index_answer.specs.FillingLaws.{upTo-zero, upTo-length, upTo-next, rowsLent-lent, rowsLent-highs, rowsLent-lows}
 use Rattle.index_answer.proofs.Pieces.{second}
 use Rattle.index_answer.proofs.Copies.{twice}
 use Rattle.search_rows.proofs.Row as T
@@ -80,11 +80,15 @@ stayed = (stay-slice (0 ∷ []) tt (plain (λ _. R)), (stay-none-slice (1 ∷ []
 abbrev sliceT : Ty
 sliceT = sliceTy (tyRef (named 0) mut (pointee (R .written)))
 
-abbrev distancesT : Ty
-distancesT = sliceTy (tyRef (named 1) imm (tyInt w64))
+abbrev highsT : Ty
+highsT = sliceTy (tyRef (named 1) imm (tyInt w64))
 
-abbrev tagsT : Ty
-tagsT = sliceTy (tyRef (named 2) imm (tyInt w64))
+abbrev lowsT : Ty
+lowsT = sliceTy (tyRef (named 2) imm (tyInt w64))
+
+-- the bytes of a row
+abbrev rowSize : ℕ
+rowSize = 24
 
 module _ {M : Type 1} (𝓤 : URA M) (H : Heap 𝓤) (A : Atoms 𝓤) (at-mem : Memory → SProp 𝓤) (run : Routine → Fun 𝓤) where
   -- the contracts that the proof cites
@@ -95,32 +99,32 @@ module _ {M : Type 1} (𝓤 : URA M) (H : Heap 𝓤) (A : Atoms 𝓤) (at-mem : 
   RowAt = tripleOf 𝓤 H A row-at.signature (row-at.spec 𝓤 H A at-mem run)
 
 module _ {M : Type 1} (𝓤 : URA M) (H : Heap 𝓤) (A : Atoms 𝓤) (W : Given 𝓤 H A) (at-mem : Memory → SProp 𝓤) (run : Routine → Fun 𝓤) (κ₀ κ₁ κ₂ : Lft) (q₀ q₁ q₂ : Share)
-    (b o : ℕ) (γ : GName) (xs : List Row) (xd xg : RefT (List ℕ)) (c : ℕ) where
-  abbrev ds : List ℕ
-  ds = xd .now
+    (b o : ℕ) (γ : GName) (xs : List Row) (xh xl : RefT (List ℕ)) (c : ℕ) where
+  abbrev hs : List ℕ
+  hs = xh .now
 
-  abbrev ts : List ℕ
-  ts = xg .now
+  abbrev ls : List ℕ
+  ls = xl .now
 
   -- the machine values of the parameters
   abbrev s : Val
   s = sliceVal (b, o) (length xs)
 
-  abbrev sd : Val
-  sd = sliceVal (xd .ptr) (length ds)
+  abbrev sh : Val
+  sh = sliceVal (xh .ptr) (length hs)
 
-  abbrev sg : Val
-  sg = sliceVal (xg .ptr) (length ts)
+  abbrev sl : Val
+  sl = sliceVal (xl .ptr) (length ls)
 
-  module _ (pd : Is (ShrSlice (named 1) κ₁ u64) xd (sd ∷ [])) (pg : Is (ShrSlice (named 2) κ₂ u64) xg (sg ∷ [])) (pc : c < 2 ^ 64) (room : Room R (length xs)) where
+  module _ (ph : Is (ShrSlice (named 1) κ₁ u64) xh (sh ∷ [])) (pl : Is (ShrSlice (named 2) κ₂ u64) xl (sl ∷ [])) (pc : c < 2 ^ 64) (room : Room R (length xs)) where
     abbrev x : List Row → RefT (List Row)
     x zs = record { ptr = (b, o); name = γ; now = zs }
 
     abbrev a : RefT (List Row) × (RefT (List ℕ) × (RefT (List ℕ) × (ℕ × Unit {0})))
-    a = (x xs, (xd, (xg, (c, tt))))
+    a = (x xs, (xh, (xl, (c, tt))))
 
     abbrev vals : List Val × (List Val × (List Val × (List Val × Unit {0})))
-    vals = (s ∷ [], (sd ∷ [], (sg ∷ [], (vint w64 c ∷ [], tt))))
+    vals = (s ∷ [], (sh ∷ [], (sl ∷ [], (vint w64 c ∷ [], tt))))
 
     abbrev κs : Lft × (Lft × (Lft × Unit {0}))
     κs = (κ₀, (κ₁, (κ₂, tt)))
@@ -129,10 +133,10 @@ module _ {M : Type 1} (𝓤 : URA M) (H : Heap 𝓤) (A : Atoms 𝓤) (W : Given
     qs = (q₀, (q₁, (q₂, tt)))
 
     abbrev n : ℕ
-    n = rowsLent ds ts c (length xs)
+    n = rowsLent hs ls c (length xs)
 
     abbrev cur : ℕ → List Row
-    cur = upTo ds ts xs
+    cur = upTo hs ls xs
 
     abbrev Entered : SProp 𝓤
     Entered = onEntry 𝓤 H A fill.signature κs qs a vals
@@ -144,17 +148,17 @@ module _ {M : Type 1} (𝓤 : URA M) (H : Heap 𝓤) (A : Atoms 𝓤) (W : Given
     abbrev Rows : Fml
     Rows = MutSlice (named 0) κ₀ R .own (x xs) (s ∷ [])
 
-    abbrev Distances : Fml
-    Distances = ShrSlice (named 1) κ₁ u64 .own xd (sd ∷ [])
+    abbrev Highs : Fml
+    Highs = ShrSlice (named 1) κ₁ u64 .own xh (sh ∷ [])
 
-    abbrev Tags : Fml
-    Tags = ShrSlice (named 2) κ₂ u64 .own xg (sg ∷ [])
+    abbrev Lows : Fml
+    Lows = ShrSlice (named 2) κ₂ u64 .own xl (sl ∷ [])
 
     abbrev Shared : Item 𝓤
     Shared = ‵ (flft κ₁ q₁) ⊛ (‵ (flft κ₂ q₂) ⊛ ‵ ftrue)
 
     abbrev Arrays : Item 𝓤
-    Arrays = ‵ Distances ⊛ ‵ Tags
+    Arrays = ‵ Highs ⊛ ‵ Lows
 
     abbrev Had : Item 𝓤
     Had = (‵ Rows ⊛ ‵ (flft κ₀ q₀)) ⊛ (Shared ⊛ Arrays)
@@ -163,12 +167,12 @@ module _ {M : Type 1} (𝓤 : URA M) (H : Heap 𝓤) (A : Atoms 𝓤) (W : Given
     has =
         qed W ((‵ (flft κ₀ q₀) ⊛ Shared) ∷ ‵ (owns (MutSlice (named 0) κ₀ R ∷ ShrSlice (named 1) κ₁ u64 ∷ ShrSlice (named 2) κ₂ u64 ∷ usize ∷ []) a vals) ∷ []) ∵
         split ! $ move ! (2 ∷ []) $ fsplit ! $ move ! (1 ∷ []) $ fsplit ! $ move ! (1 ∷ []) $ fsplit ! $ move ! (1 ∷ []) $ drop ! $
-        -- [tags; distances; rows; t₀; Shared]
+        -- [lows; highs; rows; t₀; Shared]
         move ! (1 ∷ 0 ∷ []) $ join ! $ move ! (3 ∷ 0 ∷ []) $ join ! $ move ! (1 ∷ 2 ∷ []) $ join ! $ join ! $ done !
 
     cur-length : (i : ℕ) → i ≤ n → length (cur i) ≡ length xs
     cur-length i le =
-        upTo-length ds ts xs i (omega (arith, rowsLent-distances ds ts c (length xs))) (omega (arith, rowsLent-tags ds ts c (length xs))) (omega (arith, rowsLent-lent ds ts c (length xs)))
+        upTo-length hs ls xs i (omega (arith, rowsLent-highs hs ls c (length xs))) (omega (arith, rowsLent-lows hs ls c (length xs))) (omega (arith, rowsLent-lent hs ls c (length xs)))
 
     -- what is had when the loop is left: the rows' borrow at its last value, the tokens, the shared slices
     abbrev Left : ℕ → List (Item 𝓤)
@@ -191,34 +195,34 @@ module _ {M : Type 1} (𝓤 : URA M) (H : Heap 𝓤) (A : Atoms 𝓤) (W : Given
     lfts = (κ₁, (κ₂, tt))
 
     abbrev for-count : RefT (List ℕ) × (RefT (List ℕ) × (ℕ × (ℕ × Unit {0})))
-    for-count = (xd, (xg, (c, (length xs, tt))))
+    for-count = (xh, (xl, (c, (length xs, tt))))
 
     abbrev to-count : Count 𝓤 H A at-mem run .Ghost
-    to-count = ((lfts, (q₁, (q₂, tt)), tt, for-count, (sd ∷ [], (sg ∷ [], (vint w64 c ∷ [], (vint w64 (length xs) ∷ [], tt))))), tt)
+    to-count = ((lfts, (q₁, (q₂, tt)), tt, for-count, (sh ∷ [], (sl ∷ [], (vint w64 c ∷ [], (vint w64 (length xs) ∷ [], tt))))), tt)
 
     goes-count : ent 𝓤 (⋆ 𝓤 H A ((Shared ⊛ Arrays) ∷ [])) (sep 𝓤 (Count 𝓤 H A at-mem run .pre to-count) (⋆ 𝓤 H A (Arrays ∷ [])))
     goes-count =
-        qed W ((Shared ⊛ Arrays) ∷ []) ∵ split ! $ move ! (1 ∷ []) $ use1 W (‵ Distances ⊛ (‵ Tags ⊛ Arrays)) (twice 𝓤 H A W (named 1) (named 2) κ₁ κ₂ xd xg (sd ∷ []) (sg ∷ [])) $ split ! $ move ! (1 ∷ []) $ split ! $
-        -- [tags; the shared slices; distances; Shared]
+        qed W ((Shared ⊛ Arrays) ∷ []) ∵ split ! $ move ! (1 ∷ []) $ use1 W (‵ Highs ⊛ (‵ Lows ⊛ Arrays)) (twice 𝓤 H A W (named 1) (named 2) κ₁ κ₂ xh xl (sh ∷ []) (sl ∷ [])) $ split ! $ move ! (1 ∷ []) $ split ! $
+        -- [lows; the shared slices; highs; Shared]
         nothing ! $ owned ! usize (Is usize) (uint-makes 𝓤 H A W w64) (length xs) _ (refl, room .0) $ fjoin ! $ owned ! usize (Is usize) (uint-makes 𝓤 H A W w64) c _ (refl, pc) $ fjoin ! $
         move ! (1 ∷ 0 ∷ []) $ fjoin ! $ move ! (2 ∷ 0 ∷ []) $ fjoin ! $ move ! (2 ∷ 0 ∷ []) $ join ! $ nothing ! $ move ! (1 ∷ 0 ∷ []) $ join ! $ frame ! $ done !
 
     abbrev for-row : ℕ → RefT (List ℕ) × (RefT (List ℕ) × (ℕ × Unit {0}))
-    for-row i = (xd, (xg, (i, tt)))
+    for-row i = (xh, (xl, (i, tt)))
 
     abbrev to-row : ℕ → RowAt 𝓤 H A at-mem run .Ghost
-    to-row i = ((lfts, (q₁, (q₂, tt)), tt, for-row i, (sd ∷ [], (sg ∷ [], (vint w64 i ∷ [], tt)))), tt)
+    to-row i = ((lfts, (q₁, (q₂, tt)), tt, for-row i, (sh ∷ [], (sl ∷ [], (vint w64 i ∷ [], tt)))), tt)
 
-    calls-row : (i : ℕ) → i < length ds → i < length ts → i < 2 ^ 64 → ent 𝓤 (⋆ 𝓤 H A ((Shared ⊛ (‵ Distances ⊛ ‵ Tags)) ∷ [])) (RowAt 𝓤 H A at-mem run .pre (to-row i))
-    calls-row i hd hg fits =
-        qed W ((Shared ⊛ (‵ Distances ⊛ ‵ Tags)) ∷ []) ∵ says ! (hd, hg) $ split ! $ move ! (1 ∷ []) $ split ! $ nothing ! $ owned ! usize (Is usize) (uint-makes 𝓤 H A W w64) i _ (refl, fits) $ fjoin ! $
+    calls-row : (i : ℕ) → i < length hs → i < length ls → i < 2 ^ 64 → ent 𝓤 (⋆ 𝓤 H A ((Shared ⊛ (‵ Highs ⊛ ‵ Lows)) ∷ [])) (RowAt 𝓤 H A at-mem run .pre (to-row i))
+    calls-row i hh hl fits =
+        qed W ((Shared ⊛ (‵ Highs ⊛ ‵ Lows)) ∷ []) ∵ says ! (hh, hl) $ split ! $ move ! (1 ∷ []) $ split ! $ nothing ! $ owned ! usize (Is usize) (uint-makes 𝓤 H A W w64) i _ (refl, fits) $ fjoin ! $
         move ! (2 ∷ 0 ∷ []) $ fjoin ! $ move ! (1 ∷ 0 ∷ []) $ fjoin ! $ move ! (1 ∷ 0 ∷ []) $ join ! $ done !
 
-    goes-row : (i : ℕ) → i < length ds → i < length ts → i < 2 ^ 64 → ent 𝓤 (⋆ 𝓤 H A ((Shared ⊛ Arrays) ∷ [])) (sep 𝓤 (RowAt 𝓤 H A at-mem run .pre (to-row i)) (⋆ 𝓤 H A (Arrays ∷ [])))
-    goes-row i hd hg fits =
-        qed W ((Shared ⊛ Arrays) ∷ []) ∵ split ! $ move ! (1 ∷ []) $ use1 W (‵ Distances ⊛ (‵ Tags ⊛ Arrays)) (twice 𝓤 H A W (named 1) (named 2) κ₁ κ₂ xd xg (sd ∷ []) (sg ∷ [])) $ split ! $ move ! (1 ∷ []) $ split ! $
-        -- [tags; the shared slices; distances; Shared]
-        move ! (2 ∷ 0 ∷ []) $ join ! $ move ! (2 ∷ 0 ∷ []) $ join ! $ use1 W (raw (RowAt 𝓤 H A at-mem run .pre (to-row i))) (calls-row i hd hg fits) $ frame ! $ done !
+    goes-row : (i : ℕ) → i < length hs → i < length ls → i < 2 ^ 64 → ent 𝓤 (⋆ 𝓤 H A ((Shared ⊛ Arrays) ∷ [])) (sep 𝓤 (RowAt 𝓤 H A at-mem run .pre (to-row i)) (⋆ 𝓤 H A (Arrays ∷ [])))
+    goes-row i hh hl fits =
+        qed W ((Shared ⊛ Arrays) ∷ []) ∵ split ! $ move ! (1 ∷ []) $ use1 W (‵ Highs ⊛ (‵ Lows ⊛ Arrays)) (twice 𝓤 H A W (named 1) (named 2) κ₁ κ₂ xh xl (sh ∷ []) (sl ∷ [])) $ split ! $ move ! (1 ∷ []) $ split ! $
+        -- [lows; the shared slices; highs; Shared]
+        move ! (2 ∷ 0 ∷ []) $ join ! $ move ! (2 ∷ 0 ∷ []) $ join ! $ use1 W (raw (RowAt 𝓤 H A at-mem run .pre (to-row i))) (calls-row i hh hl fits) $ frame ! $ done !
 
     -- ---- the loop
     abbrev Upto : Type 0
@@ -242,16 +246,16 @@ module _ {M : Type 1} (𝓤 : URA M) (H : Heap 𝓤) (A : Atoms 𝓤) (W : Given
 
       module _ (l₀ l₁ l₂ l₃ l₄ l₅ l₆ l₇ l₈ l₉ l₁₀ l₁₁ : ℕ) where
         abbrev En : Env 𝓤 H
-        En = (tyUnit, l₀) ∷ (sliceT, l₁) ∷ (distancesT, l₂) ∷ (tagsT, l₃) ∷ (tyInt w64, l₄) ∷ (tyInt w64, l₅) ∷ (tyInt w64, l₆) ∷ (tyInt w64, l₇) ∷ (tyBool, l₈) ∷ (T′.mir, l₉) ∷ (tyInt w64, l₁₀) ∷ (tyPtr, l₁₁) ∷ []
+        En = (tyUnit, l₀) ∷ (sliceT, l₁) ∷ (highsT, l₂) ∷ (lowsT, l₃) ∷ (tyInt w64, l₄) ∷ (tyInt w64, l₅) ∷ (tyInt w64, l₆) ∷ (tyInt w64, l₇) ∷ (tyBool, l₈) ∷ (T′.mir, l₉) ∷ (tyInt w64, l₁₀) ∷ (tyPtr, l₁₁) ∷ []
 
         -- the locals, with an item for each of _1 to _7, and what stands behind them
         abbrev Locals : Item 𝓤 → Item 𝓤 → Item 𝓤 → Item 𝓤 → Item 𝓤 → Item 𝓤 → Item 𝓤 → List (Item 𝓤) → List (Item 𝓤)
         Locals j₁ j₂ j₃ j₄ j₅ j₆ j₇ Γ = ‵ (froom tyPtr l₁₁ 0) ∷ ‵ (fdies tyPtr l₁₁) ∷ ‵ (froom (tyInt w64) l₁₀ 0) ∷ ‵ (fdies (tyInt w64) l₁₀) ∷ ‵ (froom T′.mir l₉ 0) ∷ ‵ (fdies T′.mir l₉) ∷ ‵ (froom tyBool l₈ 0) ∷ ‵ (fdies tyBool l₈)
-            ∷ j₇ ∷ ‵ (fdies (tyInt w64) l₇) ∷ j₆ ∷ ‵ (fdies (tyInt w64) l₆) ∷ j₅ ∷ ‵ (fdies (tyInt w64) l₅) ∷ j₄ ∷ ‵ (fdies (tyInt w64) l₄) ∷ j₃ ∷ ‵ (fdies tagsT l₃) ∷ j₂ ∷ ‵ (fdies distancesT l₂) ∷ j₁ ∷ ‵ (fdies sliceT l₁)
+            ∷ j₇ ∷ ‵ (fdies (tyInt w64) l₇) ∷ j₆ ∷ ‵ (fdies (tyInt w64) l₆) ∷ j₅ ∷ ‵ (fdies (tyInt w64) l₅) ∷ j₄ ∷ ‵ (fdies (tyInt w64) l₄) ∷ j₃ ∷ ‵ (fdies lowsT l₃) ∷ j₂ ∷ ‵ (fdies highsT l₂) ∷ j₁ ∷ ‵ (fdies sliceT l₁)
             ∷ ‵ (froom tyUnit l₀ 0) ∷ ‵ (fdies tyUnit l₀) ∷ Γ
 
         abbrev Passed : Item 𝓤 → Item 𝓤 → Item 𝓤 → List (Item 𝓤) → List (Item 𝓤)
-        Passed = Locals (‵ (fat fullShare sliceT l₁ 0 s)) (‵ (fat fullShare distancesT l₂ 0 sd)) (‵ (fat fullShare tagsT l₃ 0 sg)) (‵ (fat fullShare (tyInt w64) l₄ 0 (vint w64 c)))
+        Passed = Locals (‵ (fat fullShare sliceT l₁ 0 s)) (‵ (fat fullShare highsT l₂ 0 sh)) (‵ (fat fullShare lowsT l₃ 0 sl)) (‵ (fat fullShare (tyInt w64) l₄ 0 (vint w64 c)))
 
         abbrev At : Upto → List (Item 𝓤)
         At i = ‵ (row R fullShare (cur (i .0)) b o) ∷ ‵ (fobor κ₀ q₀ (Held R (length xs) b o γ)) ∷ ‵ (fobs γ (codedHoleys R .code (heres R xs))) ∷ ‵ (fauth γ (codedHoleys R .code (heres R xs))) ∷ Shared ∷ Arrays
@@ -266,23 +270,23 @@ module _ {M : Type 1} (𝓤 : URA M) (H : Heap 𝓤) (A : Atoms 𝓤) (W : Given
             assigns ! (bin ! (load ! (from ! (stop !)) (look ! 16 refl)) (load ! (from ! (stop !)) (look ! 18 refl)) tt) (from ! (stop !)) (init ! 12 refl (tt, tt)) $
             first ! $ branches ! (load ! (from ! (stop !)) (look ! 12 refl))
             (λ less. skips ! $ exec ! C Λ En (second (second pieces.turn-1)) (anyQ (Turned i)) $
-            move ! (4 ∷ 5 ∷ []) $ join ! $ use1 W (raw (RowAt 𝓤 H A at-mem run .pre (to-row (i .0))) ⊛ Arrays) (goes-row (i .0) (far less) (tagged less) (fits (lent less))) $ split ! $
+            move ! (4 ∷ 5 ∷ []) $ join ! $ use1 W (raw (RowAt 𝓤 H A at-mem run .pre (to-row (i .0))) ⊛ Arrays) (goes-row (i .0) (in-highs less) (in-lows less) (fits (lent less))) $ split ! $
             -- [what `row_at` takes; the shared slices; the rows; the open borrow; obs; auth; _11; …]
             calls-at ! fm (RowAt 𝓤 H A at-mem run) known-row (to-row (i .0)) (and-then ! (load ! (from ! (stop !)) (look ! 24 refl)) (and-then ! (load ! (from ! (stop !)) (look ! 22 refl)) (and-then ! (load ! (from ! (stop !)) (look ! 16 refl)) (no-more !)))) (λ w.
             use1 W (later (some (λ (r : Row). (Shared ⊛ ‵ (R .own r (w ∷ []))) ⊛ raw (ensured 𝓤 H A row-at.ended (row-at.clauses 𝓤 H A at-mem run) lfts (for-row (i .0)) tt r)))) (id⊢ 𝓤 _) $ await ! tt $ pick ! (λ r.
-            split ! $ move ! (1 ∷ []) $ use1 W (raw (fact 𝓤 (r ≡ rowAt ds ts (i .0)))) (exE 𝓤 _ (λ ws. snd∗ 𝓤 (sem 𝓤 H A (lasts row-at.ended lfts (for-row (i .0)) ws)) (fact 𝓤 (r ≡ rowAt ds ts (i .0))))) $
-            heard ! (r ≡ rowAt ds ts (i .0)) (λ e. split ! $ move ! (1 ∷ []) $
-            rewrite ! 0 (λ (y : Row). ‵ (R .own y (w ∷ []))) e refl $ peeks ! R (Is R) (shows 𝓤 H A R) (rowAt ds ts (i .0)) (w ∷ []) (λ is.
-            land ! (from ! (stop !)) (init ! 11 refl (LL.lawful T.the-type T′.the-laws 𝓤 H A W .typed (rowAt ds ts (i .0)) _ is .0)) $
+            split ! $ move ! (1 ∷ []) $ use1 W (raw (fact 𝓤 (r ≡ rowAt hs ls (i .0)))) (exE 𝓤 _ (λ ws. snd∗ 𝓤 (sem 𝓤 H A (lasts row-at.ended lfts (for-row (i .0)) ws)) (fact 𝓤 (r ≡ rowAt hs ls (i .0))))) $
+            heard ! (r ≡ rowAt hs ls (i .0)) (λ e. split ! $ move ! (1 ∷ []) $
+            rewrite ! 0 (λ (y : Row). ‵ (R .own y (w ∷ []))) e refl $ peeks ! R (Is R) (shows 𝓤 H A R) (rowAt hs ls (i .0)) (w ∷ []) (λ is.
+            land ! (from ! (stop !)) (init ! 11 refl (LL.lawful T.the-type T′.the-laws 𝓤 H A W .typed (rowAt hs ls (i .0)) _ is .0)) $
             -- [what the new row owns; Shared; the shared slices; the rows; the open borrow; obs; auth; _11; …; _10; …; _9; …]: where the element lies
             assigns ! (bin ! (load ! (from ! (stop !)) (look ! 17 refl)) (lit ! tt) (record { fits = bytes (lent less) })) (from ! (stop !)) (init ! 9 refl (tt, record { fits = bytes (lent less) })) $
             assigns ! (bin ! (load ! (from ! (fld ! refl (stop !))) (look-in ! 27 (sub ! 0 refl (whole !)))) (load ! (from ! (stop !)) (look ! 9 refl)) tt) (from ! (stop !)) (init ! 7 refl (tt, tt)) $
-            rewrite ! 7 (λ (p : ℕ). ‵ (fat fullShare tyPtr l₁₁ 0 (vptr b p))) (sym (place-is 16 o (i .0))) refl $
+            rewrite ! 7 (λ (p : ℕ). ‵ (fat fullShare tyPtr l₁₁ 0 (vptr b p))) (sym (place-is rowSize o (i .0))) refl $
             -- the element is taken out, stored to, and put back
-            move ! (3 ∷ []) $ elem-out ! R (Is R) (shows 𝓤 H A R) (LL.vals T.the-type T′.the-laws) (LL.tells T.the-type T′.the-laws) fullShare (cur (i .0)) (i .0) (rowAt ds ts 0) b o (within less) (λ _.
-            assigns ! (of-opd ! (load ! (from ! (stop !)) (look ! 13 refl))) (from ! (hop ! (look ! 9 refl) (stop !))) (store-raw ! 0 refl (LL.lawful T.the-type T′.the-laws 𝓤 H A W .typed (rowAt ds ts (i .0)) _ is .0)) $
-            move ! (1 ∷ []) $ drop ! $ move ! (0 ∷ 2 ∷ 1 ∷ []) $ elem-put ! R fullShare (cur (i .0)) (i .0) (rowAt ds ts (i .0)) (w ∷ []) b o (within less) $
-            rewrite ! 0 (λ (zs : List Row). ‵ (row R fullShare zs b o)) (upTo-next ds ts xs (i .0) (far less) (tagged less) (lent less)) refl $
+            move ! (3 ∷ []) $ elem-out ! R (Is R) (shows 𝓤 H A R) (LL.vals T.the-type T′.the-laws) (LL.tells T.the-type T′.the-laws) fullShare (cur (i .0)) (i .0) (rowAt hs ls 0) b o (within less) (λ _.
+            assigns ! (of-opd ! (load ! (from ! (stop !)) (look ! 13 refl))) (from ! (hop ! (look ! 9 refl) (stop !))) (store-raw ! 0 refl (LL.lawful T.the-type T′.the-laws 𝓤 H A W .typed (rowAt hs ls (i .0)) _ is .0)) $
+            move ! (1 ∷ []) $ drop ! $ move ! (0 ∷ 2 ∷ 1 ∷ []) $ elem-put ! R fullShare (cur (i .0)) (i .0) (rowAt hs ls (i .0)) (w ∷ []) b o (within less) $
+            rewrite ! 0 (λ (zs : List Row). ‵ (row R fullShare zs b o)) (upTo-next hs ls xs (i .0) (in-highs less) (in-lows less) (lent less)) refl $
             -- [the rows; Shared; the shared slices; the open borrow; obs; auth; _11; …]
             assigns-last ! (bin ! (load ! (from ! (stop !)) (look ! 16 refl)) (lit ! tt) (record { fits = succ (lent less) })) (from ! (stop !)) (store ! 16 refl (tt, record { fits = succ (lent less) })) $
             forget ! 6 refl $ forget ! 8 refl $ forget ! 10 refl $ forget ! 12 refl $ move ! (0 ∷ 3 ∷ 4 ∷ 5 ∷ []) $
@@ -297,13 +301,13 @@ module _ {M : Type 1} (𝓤 : URA M) (H : Heap 𝓤) (A : Atoms 𝓤) (W : Given
             by ! (exits (i .0) (le-antisymm (i .1) (nltb→le (i .0) n over))))
           where
             lent : Holds (ltb (i .0) n) → i .0 < length xs
-            lent less = lt-of-lt-of-le (ltb→lt (i .0) n less) (rowsLent-lent ds ts c (length xs))
+            lent less = lt-of-lt-of-le (ltb→lt (i .0) n less) (rowsLent-lent hs ls c (length xs))
 
-            far : Holds (ltb (i .0) n) → i .0 < length ds
-            far less = lt-of-lt-of-le (ltb→lt (i .0) n less) (rowsLent-distances ds ts c (length xs))
+            in-highs : Holds (ltb (i .0) n) → i .0 < length hs
+            in-highs less = lt-of-lt-of-le (ltb→lt (i .0) n less) (rowsLent-highs hs ls c (length xs))
 
-            tagged : Holds (ltb (i .0) n) → i .0 < length ts
-            tagged less = lt-of-lt-of-le (ltb→lt (i .0) n less) (rowsLent-tags ds ts c (length xs))
+            in-lows : Holds (ltb (i .0) n) → i .0 < length ls
+            in-lows less = lt-of-lt-of-le (ltb→lt (i .0) n less) (rowsLent-lows hs ls c (length xs))
 
             within : Holds (ltb (i .0) n) → i .0 < length (cur (i .0))
             within less = subst (λ (m : ℕ). i .0 < m) (sym (cur-length (i .0) (i .1))) (lent less)
@@ -311,9 +315,9 @@ module _ {M : Type 1} (𝓤 : URA M) (H : Heap 𝓤) (A : Atoms 𝓤) (W : Given
             fits : i .0 < length xs → i .0 < 2 ^ 64
             fits h = omega (arith, room .0)
 
-            bytes : i .0 < length xs → i .0 * 16 < 2 ^ 64
+            bytes : i .0 < length xs → i .0 * rowSize < 2 ^ 64
             bytes h =
-                let most : length xs * 16 < 2 ^ 63 = room .1 in
+                let most : length xs * rowSize < 2 ^ 63 = room .1 in
                 omega arith
 
             succ : i .0 < length xs → i .0 + 1 < 2 ^ 64
@@ -335,19 +339,19 @@ module _ {M : Type 1} (𝓤 : URA M) (H : Heap 𝓤) (A : Atoms 𝓤) (W : Given
             land ! (from ! (stop !)) (init ! 16 refl (uint-lawful 𝓤 H A W w64 .typed r _ is .0)) $ rewrite ! 16 (λ (u : Val). ‵ (fat fullShare (tyInt w64) l₅ 0 u)) (ap only (is .0) ∙ ap (vint w64) e) refl $ drop ! $
             assigns ! (of-opd ! (lit ! tt)) (from ! (stop !)) (init ! 13 refl (tt, record { fits = lit< tt })) $
             move ! (2 ∷ []) $ split ! $ fsplit ! $ move ! (1 ∷ []) $ fsplit ! $ move ! (0 ∷ 1 ∷ 3 ∷ []) $ opens-slice ! tt R xs b o $
-            rewrite ! 0 (λ (zs : List Row). ‵ (row R fullShare zs b o)) (sym (upTo-zero ds ts xs)) refl $
+            rewrite ! 0 (λ (zs : List Row). ‵ (row R fullShare zs b o)) (sym (upTo-zero hs ls xs)) refl $
             -- [the rows; the open borrow; obs; auth; the rows' fact; Shared; the shared slices; _11; …]
             move ! (4 ∷ []) $ drop ! $ first ! $ blocks ! $ loops ! 𝓣 Nearer Nearer-wf At turns (0, zero-le)))))
 
-        passes : Sq W (Locals (‵ (froom sliceT l₁ 0)) (‵ (froom distancesT l₂ 0)) (‵ (froom tagsT l₃ 0)) (‵ (froom (tyInt w64) l₄ 0)) (‵ (froom (tyInt w64) l₅ 0)) (‵ (froom (tyInt w64) l₆ 0)) (‵ (froom (tyInt w64) l₇ 0)) (raw Entered ∷ []))
-            (params′ En (s ∷ sd ∷ sg ∷ vint w64 c ∷ []) (runs C Λ En (code.function .body) (atRet En Post)))
+        passes : Sq W (Locals (‵ (froom sliceT l₁ 0)) (‵ (froom highsT l₂ 0)) (‵ (froom lowsT l₃ 0)) (‵ (froom (tyInt w64) l₄ 0)) (‵ (froom (tyInt w64) l₅ 0)) (‵ (froom (tyInt w64) l₆ 0)) (‵ (froom (tyInt w64) l₇ 0)) (raw Entered ∷ []))
+            (params′ En (s ∷ sh ∷ sl ∷ vint w64 c ∷ []) (runs C Λ En (code.function .body) (atRet En Post)))
         passes =
-            params1 ! $ pass1 ! (init ! 20 refl (tt, (tt, (record { fits = room .0 }, tt)))) $ pass1 ! (init ! 18 refl (shr-slice-lawful 𝓤 H A W (named 1) κ₁ u64 .typed xd _ pd .0)) $
-            pass1 ! (init ! 16 refl (shr-slice-lawful 𝓤 H A W (named 2) κ₂ u64 .typed xg _ pg .0)) $ pass1 ! (init ! 14 refl (tt, record { fits = pc })) $ pass0 ! $ by ! counts
+            params1 ! $ pass1 ! (init ! 20 refl (tt, (tt, (record { fits = room .0 }, tt)))) $ pass1 ! (init ! 18 refl (shr-slice-lawful 𝓤 H A W (named 1) κ₁ u64 .typed xh _ ph .0)) $
+            pass1 ! (init ! 16 refl (shr-slice-lawful 𝓤 H A W (named 2) κ₂ u64 .typed xl _ pl .0)) $ pass1 ! (init ! 14 refl (tt, record { fits = pc })) $ pass0 ! $ by ! counts
 
-      walk : ent 𝓤 Entered (WpFn 𝓤 H C Λ code.function (s ∷ sd ∷ sg ∷ vint w64 c ∷ []) Post)
+      walk : ent 𝓤 Entered (WpFn 𝓤 H C Λ code.function (s ∷ sh ∷ sl ∷ vint w64 c ∷ []) Post)
       walk =
-          qed W (raw Entered ∷ []) ∵ enter ! C Λ code.function (s ∷ sd ∷ sg ∷ vint w64 c ∷ []) _ $
+          qed W (raw Entered ∷ []) ∵ enter ! C Λ code.function (s ∷ sh ∷ sl ∷ vint w64 c ∷ []) _ $
           alloc1 ! (λ l₀. alloc1 ! (λ l₁. alloc1 ! (λ l₂. alloc1 ! (λ l₃. alloc1 ! (λ l₄. alloc1 ! (λ l₅. alloc1 ! (λ l₆. alloc1 ! (λ l₇. alloc1 ! (λ l₈. alloc1 ! (λ l₉. alloc1 ! (λ l₁₀. alloc1 ! (λ l₁₁. alloc0 ! $
           passes l₀ l₁ l₂ l₃ l₄ l₅ l₆ l₇ l₈ l₉ l₁₀ l₁₁))))))))))))
 

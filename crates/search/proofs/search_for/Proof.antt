@@ -33,8 +33,8 @@ search-with-requires c κs =
           ∙ c .before .before .before .before .before .if1 .left;
       room = room-small (now (S .args .index)) _ (c .before .before .before .before .total-records .ensures)
           (omega (arith, c .before .before .before .if2 .taken));
-      rows = S .pre .rows;
-      tags = S .pre .tags;
+      roomHighs = S .pre .roomHighs;
+      roomLows = S .pre .roomLows;
     }
 
 same-length : tie.Need-same-length
@@ -59,8 +59,8 @@ search-with-requires-2 c κs =
           ∙ c .before .before .before .before .before .before .if1 .left;
       room = room-middle (now (S .args .index)) _ (c .before .before .before .before .before .total-records .ensures)
           (c .before .before .before .before .if2 .left) (omega (arith, c .before .before .before .if3 .taken));
-      rows = S .pre .rows;
-      tags = S .pre .tags;
+      roomHighs = S .pre .roomHighs;
+      roomLows = S .pre .roomLows;
     }
 
 same-length-3 : tie.Need-same-length-3
@@ -85,8 +85,8 @@ search-with-requires-3 c κs =
           ∙ c .before .before .before .before .before .before .before .if1 .left;
       room = room-large (now (S .args .index)) _ (c .before .before .before .before .before .before .total-records .ensures)
           (c .before .before .before .before .if3 .left) (omega (arith, c .before .before .before .if4 .taken));
-      rows = S .pre .rows;
-      tags = S .pre .tags;
+      roomHighs = S .pre .roomHighs;
+      roomLows = S .pre .roomLows;
     }
 
 same-length-5 : tie.Need-same-length-5
@@ -111,8 +111,8 @@ search-with-requires-4 c κs =
           ∙ c .before .before .before .before .before .before .before .if1 .left;
       room = room-full (now (S .args .index)) _ (c .before .before .before .before .before .before .total-records .ensures)
           (c .before .before .before .if4 .left);
-      rows = S .pre .rows;
-      tags = S .pre .tags;
+      roomHighs = S .pre .roomHighs;
+      roomLows = S .pre .roomLows;
     }
 
 same-length-7 : tie.Need-same-length-7

@@ -30,8 +30,8 @@ best-first-requires c κs = let S = (c .before .before .before .before .before .
       low = level-low (now (S .args .index)) (S .pre .some);
       one = S .pre .one;
       room = S .pre .room;
-      rows = S .pre .rows;
-      tags = S .pre .tags;
+      roomHighs = S .pre .roomHighs;
+      roomLows = S .pre .roomLows;
     }
 
 same-length : tie.Need-same-length

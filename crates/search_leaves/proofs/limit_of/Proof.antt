@@ -7,28 +7,33 @@ use Rattle.search_leaves.proofs.limit_of.Statement.{statement}
 use Rattle.search_leaves.proofs.limit_of.Tie as tie
 
 returns : tie.Need-returns
-returns c = limit-all (now (c .before .args .distances)) (c .before .args .n) (c .before .args .k)
+returns c = let a = c .before .before .args in limit-all (now (a .highs)) (a .n) (a .k)
 
 returns-2 : tie.Need-returns-2
-returns-2 c = limit-all (now (c .before .before .args .distances)) (c .before .before .args .n) (c .before .before .args .k)
+returns-2 c = let a = c .before .before .before .args in limit-all (now (a .highs)) (a .n) (a .k)
 
-sub-last : tie.Need-sub-last
-sub-last c = omega (arith, c .if2 .left)
+sub-distance-in : tie.Need-sub-distance-in
+sub-distance-in c = omega (arith, c .if2 .left)
 
-mul-last : tie.Need-mul-last
-mul-last c = search needs
+mul-distance-in : tie.Need-mul-distance-in
+mul-distance-in c = search needs
 
-shared-slice-read-last : tie.Need-shared-slice-read-last
-shared-slice-read-last c = omega (arith, c .before .if2 .left, c .before .before .before .pre)
+shared-slice-read-distance-in : tie.Need-shared-slice-read-distance-in
+shared-slice-read-distance-in c = omega (arith, c .before .if2 .left, c .before .before .before .before .pre)
+
+distance-in-requires : tie.Need-distance-in-requires
+distance-in-requires c κs = search needs
 
 cast-result : tie.Need-cast-result
 cast-result c = search needs
 
 returns-3 : tie.Need-returns-3
-returns-3 c = limit-last (now (c .before .before .before .before .args .distances)) (c .before .before .before .before .args .n) (c .before .before .before .before .args .k) (c .before .before .before .if1 .left) (c .before .before .if2 .left)
+returns-3 c =
+    let a = c .before .before .before .before .before .before .args in
+    rw (c .before .distance-in .ensures) (limit-last (now (a .highs)) (a .n) (a .k) (c .before .before .before .before .if1 .left) (c .before .before .before .if2 .left))
 
 returns-4 : tie.Need-returns-4
-returns-4 c = limit-all (now (c .before .before .before .before .args .distances)) (c .before .before .before .before .args .n) (c .before .before .before .before .args .k)
+returns-4 c = let a = c .before .before .before .before .before .before .args in limit-all (now (a .highs)) (a .n) (a .k)
 
 pub limit-of-spec : {M : Type 1} → statement M
 limit-of-spec =
@@ -36,9 +41,10 @@ limit-of-spec =
     (tie.spec
     returns
     returns-2
-    sub-last
-    mul-last
-    shared-slice-read-last
+    sub-distance-in
+    mul-distance-in
+    shared-slice-read-distance-in
+    distance-in-requires
     cast-result
     returns-3
     returns-4)

@@ -1,5 +1,5 @@
--- `offer_leaf`: the sums are the distances, and the invariant says what offering the records still to come makes of the rows.
-use Prim.Native.Nat.{ℕ, _-_, _≤_, min}
+-- `offer_leaf`: the sums are the distances, and the invariant says that the rows held are what offering the records from i on makes of those at the start.
+use Prim.Native.Nat.{ℕ, _+_, _-_, _≤_, min}
 use mathlib.Core.Path.{_≡_, refl, sym, ap, _∙_}
 use native.Mathlib.Omega.{arith}
 use denote.Ref.{now}
@@ -11,16 +11,16 @@ use Rattle.search_rows.specs.Held.{rowsIn, Held}
 use Rattle.search_model.specs.Asked.{askingPoint}
 use Rattle.search_leaves.specs.Columns.{recordIn, Sums}
 use Rattle.search_leaves.proofs.ColumnLaws.{sums-start, sums-end}
-use Rattle.search_leaves.proofs.LeafLaws.{point-distance, offersFrom, offers-next, offers-end, offers-all, none-offered}
+use Rattle.search_leaves.proofs.LeafLaws.{point-distance, offersFrom, offers-next, offers-end, offers-all, held-few, none-offered}
 use Rattle.search_leaves.proofs.offer_leaf.Statement.{statement}
 use Rattle.search_leaves.proofs.offer_leaf.Tie as tie
 
 abbrev Inv-loop : tie.InvT-loop
-Inv-loop page q position distances₀ tags₀ n k choice count full sums rows₀ i₀ distances tags rows i = (i ≤ count) × (count ≡ min (leafOf page .count) 16) × (count ≤ full) × Sums page q (length q) full sums × (length distances ≡ length distances₀) × (length tags ≡ length tags₀) × Held distances tags rows k
-    × (offersFrom (askingPoint q k choice) position k (recordsIn (leafOf page)) i (rowsIn distances tags rows) ≡ offersFrom (askingPoint q k choice) position k (recordsIn (leafOf page)) 0 (rowsIn distances₀ tags₀ n))
+Inv-loop page q position highs₀ lows₀ n k choice count full sums rows₀ i₀ highs lows rows i = (i ≤ count) × (count ≡ min (leafOf page .count) 16) × (count ≤ full) × Sums page q (length q) full sums × (length highs ≡ length highs₀) × (length lows ≡ length lows₀) × Held highs lows rows k
+    × (length (rowsIn highs₀ lows₀ n) ≤ k) × (rowsIn highs lows rows ≡ offersFrom (askingPoint q k choice) position k (recordsIn (leafOf page)) i (rowsIn highs₀ lows₀ n))
 
 abbrev μ-loop : tie.MeasureT-loop
-μ-loop page q position distances₀ tags₀ n k choice count full sums rows₀ i₀ distances tags rows i = count - i
+μ-loop page q position highs₀ lows₀ n k choice count full sums rows₀ i₀ highs lows rows i = i
 
 read-count-requires : tie.Need-read-count-requires Inv-loop μ-loop
 read-count-requires c κs = c .before .before .before .before .pre .0
@@ -41,7 +41,7 @@ slice-aggregate-within : tie.Need-slice-aggregate-within Inv-loop μ-loop
 slice-aggregate-within c = search needs
 
 limit-of-requires : tie.Need-limit-of-requires Inv-loop μ-loop
-limit-of-requires c κs = c .before .before .before .before .before .before .before .before .before .before .before .before .pre .2 .room
+limit-of-requires c κs = c .before .before .before .before .before .before .before .before .before .before .before .before .pre .3 .room
 
 within-requires : tie.Need-within-requires Inv-loop μ-loop
 within-requires c κs = let s = c .before .before .before .before .add-columns .ensures in (omega (arith, s .slots, s .sized .few), s .sized .few)
@@ -53,44 +53,73 @@ returns : tie.Need-returns Inv-loop μ-loop
 returns c =
     let a = c .before .before .before .before .before .before .before .before .before .before .before .before .before .before .before .args in
     let number = c .before .before .before .before .before .before .before .before .before .filled .ensures ∙ ap (λ (x : ℕ). min x 16) (c .before .before .before .before .before .before .before .before .before .before .read-count .ensures) in
-    none-offered (now (a .page)) (now (a .q)) (a .position) (a .k) (a .choice) (a .n) _ _ (now (a .distances)) (now (a .tags)) _ (c .before .before .before .before .before .before .before .before .before .before .before .before .before .before .before .pre .2) (c .before .before .before .before .before .before .add-columns .ensures) (omega (arith, number, c .before .before .before .before .before .before .before .before .lanes .ensures .0)) (c .before .before .limit-of .ensures) (sym (c .before .within .ensures) ∙ c .if1 .taken)
+    none-offered (now (a .page)) (now (a .q)) (a .position) (a .k) (a .choice) (a .n) _ _ (now (a .highs)) (now (a .lows)) _ (c .before .before .before .before .before .before .before .before .before .before .before .before .before .before .before .pre .3) (c .before .before .before .before .before .before .add-columns .ensures) (omega (arith, number, c .before .before .before .before .before .before .before .before .lanes .ensures .0)) (c .before .before .limit-of .ensures) (sym (c .before .within .ensures) ∙ c .if1 .taken)
 
 loop-holds : tie.Need-loop-holds Inv-loop μ-loop
 loop-holds c =
-    (omega arith, c .before .before .before .before .before .before .before .before .before .filled .ensures ∙ ap (λ (x : ℕ). min x 16) (c .before .before .before .before .before .before .before .before .before .before .read-count .ensures), c .before .before .before .before .before .before .before .before .lanes .ensures .0, c .before .before .before .before .before .before .add-columns .ensures, refl, refl, c .before .before .before .before .before .before .before .before .before .before .before .before .before .before .before .pre .2, refl)
+    let S = (c .before .before .before .before .before .before .before .before .before .before .before .before .before .before .before) in
+    let a = S .args in
+    let number = c .before .before .before .before .before .before .before .before .before .filled .ensures ∙ ap (λ (x : ℕ). min x 16) (c .before .before .before .before .before .before .before .before .before .before .read-count .ensures) in (
+      omega arith,
+      number,
+      c .before .before .before .before .before .before .before .before .lanes .ensures .0,
+      c .before .before .before .before .before .before .add-columns .ensures,
+      refl,
+      refl,
+      S .pre .3,
+      held-few (now (a .highs)) (now (a .lows)) (a .n) (a .k) (S .pre .3),
+      sym (offers-end (now (a .page)) (askingPoint (now (a .q)) (a .k) (a .choice)) (a .position) (a .k) (leafOf (now (a .page))) refl _ number _ _ (omega arith)),
+    )
+
+sub-i : tie.Need-sub-i Inv-loop μ-loop
+sub-i c = omega (arith, c .loop-test .taken)
 
 mul-wide : tie.Need-mul-wide Inv-loop μ-loop
-mul-wide c = let L = c .before .loop in omega (arith, L .inv .1, c .loop-test .taken)
+mul-wide c = let L = c .before .loop in omega (arith, L .inv .0, L .inv .1, c .loop-test .taken)
 
 array-read-wide : tie.Need-array-read-wide Inv-loop μ-loop
-array-read-wide c = let L = c .before .loop in omega (arith, L .inv .3 .slots, L .inv .1, c .loop-test .taken)
+array-read-wide c = let L = c .before .loop in omega (arith, L .inv .0, L .inv .3 .slots, L .inv .1, c .loop-test .taken)
 
 wide-requires : tie.Need-wide-requires Inv-loop μ-loop
 wide-requires c κs = search needs
 
 offer-record-requires : tie.Need-offer-record-requires Inv-loop μ-loop
-offer-record-requires c κs = let L = c .before .before .before .before .loop in (c .before .before .before .before .before .before .before .before .before .before .before .before .before .before .before .before .before .before .before .before .pre .0, omega (arith, L .inv .1, c .before .before .before .loop-test .taken), L .inv .6)
-
-add-i : tie.Need-add-i Inv-loop μ-loop
-add-i c = let L = c .before .before .before .before .before .before .before .before .before .loop in omega (arith, L .inv .1, c .before .before .before .before .before .before .before .before .loop-test .taken)
+offer-record-requires c κs =
+    let S = (c .before .before .before .before .before .before .before .before .before .before .before .before .before .before .before .before .before .before .before .before) in
+    let L = c .before .before .before .before .loop in
+    record {
+      bytes = S .pre .0;
+      slot = omega (arith, L .inv .0, L .inv .1, c .before .before .before .loop-test .taken);
+      fits = record { near = c .before .before .wide .ensures .1; placed = S .pre .2 };
+      held = L .inv .6;
+    }
 
 loop-less : tie.Need-loop-less Inv-loop μ-loop
 loop-less c = omega (arith, c .before .before .before .before .before .before .before .before .loop-test .taken)
 
 loop-again : tie.Need-loop-again Inv-loop μ-loop
 loop-again c =
-    let a = c .before .before .before .before .before .before .before .before .before .before .before .before .before .before .before .before .before .before .before .before .before .before .before .before .before .args in let L = c .before .before .before .before .before .before .before .before .before .loop in let O = c .before .before .before .before .offer-record in let W = c .before .before .before .before .before .before .before .wide in let t = c .before .before .before .before .before .before .before .before .loop-test .taken in
-    let D = W .ensures ∙ sums-end (now (a .page)) (now (a .q)) _ _ (L .inv .3) (L .i) (omega (arith, L .inv .2, t)) in
+    let a = c .before .before .before .before .before .before .before .before .before .before .before .before .before .before .before .before .before .before .before .before .before .before .before .before .before .args in
+    let L = c .before .before .before .before .before .before .before .before .before .loop in
+    let O = c .before .before .before .before .offer-record in
+    let W = c .before .before .before .before .before .before .before .wide in
+    let t = c .before .before .before .before .before .before .before .before .loop-test .taken in
+    let j = L .i - 1 in
+    let D = W .ensures .0 ∙ sums-end (now (a .page)) (now (a .q)) _ _ (L .inv .3) j (omega (arith, L .inv .0, L .inv .2, t)) in
     let q = askingPoint (now (a .q)) (a .k) (a .choice) in
-    let near = point-distance (now (a .q)) (a .k) (a .choice) (recordIn (now (a .page)) (L .i)) (W .result) D in (
-      omega (arith, t),
+    let near = point-distance (now (a .q)) (a .k) (a .choice) (recordIn (now (a .page)) j) (W .result) D in
+    let again : j + 1 ≡ L .i = omega (arith, t) in (
+      omega (arith, L .inv .0, t),
       L .inv .1,
       L .inv .2,
       L .inv .3,
       O .kept .1 .1 .1 .1 .0 ∙ L .inv .4,
       O .kept .1 .1 .1 .1 .1 .0 ∙ L .inv .5,
       O .ensures .held,
-      offers-next (now (a .page)) q (a .position) (a .k) (leafOf (now (a .page))) refl _ (L .inv .1) (L .i) noRecord _ _ t (O .ensures .rows q refl near) ∙ L .inv .7,
+      L .inv .7,
+      O .ensures .rows q refl near
+          ∙ sym (offers-next (now (a .page)) q (a .position) (a .k) (leafOf (now (a .page))) refl _ (L .inv .1) j noRecord _ _ (omega (arith, L .inv .0, t)) (L .inv .7)
+          (L .inv .8 ∙ ap (λ (i : ℕ). offersFrom q (a .position) (a .k) (recordsIn (leafOf (now (a .page)))) i (rowsIn (now (a .highs)) (now (a .lows)) (a .n))) (sym again))),
     )
 
 same-length-2 : tie.Need-same-length-2 Inv-loop μ-loop
@@ -101,11 +130,15 @@ same-length-3 c = c .before .loop .inv .5
 
 returns-2 : tie.Need-returns-2 Inv-loop μ-loop
 returns-2 c =
-    let a = c .before .before .before .before .before .before .before .before .before .before .before .before .before .before .before .before .before .args in let L = c .before .loop in
+    let a = c .before .before .before .before .before .before .before .before .before .before .before .before .before .before .before .before .before .args in
+    let L = c .before .loop in
+    let q = askingPoint (now (a .q)) (a .k) (a .choice) in
+    let leaf = leafOf (now (a .page)) in
+    let zero : L .i ≡ 0 = omega (arith, c .loop-test .left) in
     record {
       held = L .inv .6;
-      rows = sym (offers-end (now (a .page)) (askingPoint (now (a .q)) (a .k) (a .choice)) (a .position) (a .k) (leafOf (now (a .page))) refl _ (L .inv .1) (L .i) _ (c .loop-test .left)) ∙ L .inv .7
-          ∙ offers-all (now (a .page)) (askingPoint (now (a .q)) (a .k) (a .choice)) (a .position) (a .k) (leafOf (now (a .page))) refl _ (L .inv .1) _;
+      rows = L .inv .8 ∙ ap (λ (i : ℕ). offersFrom q (a .position) (a .k) (recordsIn leaf) i (rowsIn (now (a .highs)) (now (a .lows)) (a .n))) zero
+          ∙ offers-all (now (a .page)) q (a .position) (a .k) leaf refl _ (L .inv .1) _;
     }
 
 pub offer-leaf-spec : {M : Type 1} → statement M
@@ -125,11 +158,11 @@ offer-leaf-spec =
     same-length
     returns
     loop-holds
+    sub-i
     mul-wide
     array-read-wide
     wide-requires
     offer-record-requires
-    add-i
     loop-less
     loop-again
     same-length-2

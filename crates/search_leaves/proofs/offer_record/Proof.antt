@@ -16,7 +16,7 @@ same-length c = search needs
 
 returns : tie.Need-returns
 returns c = let S = (c .before .before .before .before .before .before) in
-    record-behind (now (S .args .page)) (S .args .i) (S .args .distance) (S .args .position) (now (S .args .distances)) (now (S .args .tags)) (S .args .n) (S .args .k) (S .args .choice) (S .pre .2) (sym (c .before .behind .ensures) ∙ c .if1 .taken)
+    record-behind (now (S .args .page)) (S .args .i) (S .args .distance) (S .args .position) (now (S .args .highs)) (now (S .args .lows)) (S .args .n) (S .args .k) (S .args .choice) (S .pre .held) (sym (c .before .behind .ensures) ∙ c .if1 .taken)
 
 is-candidate-requires : tie.Need-is-candidate-requires
 is-candidate-requires c κs = search needs
@@ -26,10 +26,13 @@ same-length-2 c = search needs
 
 returns-2 : tie.Need-returns-2
 returns-2 c = let S = (c .before .before .before .before .before .before .before .before) in
-    record-passed (now (S .args .page)) (S .args .i) (S .args .distance) (S .args .position) (now (S .args .distances)) (now (S .args .tags)) (S .args .n) (S .args .k) (S .args .choice) (S .pre .2) (λ q w. sym (c .before .is-candidate .ensures q w) ∙ not-true _ (c .if2 .taken))
+    record-passed (now (S .args .page)) (S .args .i) (S .args .distance) (S .args .position) (now (S .args .highs)) (now (S .args .lows)) (S .args .n) (S .args .k) (S .args .choice) (S .pre .held) (λ q w. sym (c .before .is-candidate .ensures q w) ∙ not-true _ (c .if2 .taken))
 
 read-ident-requires : tie.Need-read-ident-requires
 read-ident-requires c κs = search needs
+
+read-stamp-requires : tie.Need-read-stamp-requires
+read-stamp-requires c κs = search needs
 
 offer-requires : tie.Need-offer-requires
 offer-requires c κs = search needs
@@ -41,9 +44,16 @@ same-length-4 : tie.Need-same-length-4
 same-length-4 c = search needs
 
 returns-3 : tie.Need-returns-3
-returns-3 c = let S = (c .before .before .before .before .before .before .before .before .before .before .before .before .before .before .before .before) in let I = c .before .before .before .before .before .before .before .read-ident in let O = c .before .before .before .before .offer in
-    let e : record { distance = S .args .distance; id = I .result; position = S .args .position } ≡ rowAt (now (S .args .page)) (S .args .i) (S .args .distance) (S .args .position) = λ j. record { distance = S .args .distance; id = I .ensures j; position = S .args .position } in
-    record-taken (now (S .args .page)) (S .args .i) (S .args .distance) (S .args .position) (now (S .args .distances)) (now (S .args .tags)) (S .args .n) (S .args .k) (S .args .choice) _ _ _ (λ q w. sym (c .before .before .before .before .before .before .before .before .before .is-candidate .ensures q w) ∙ not-false _ (c .before .before .before .before .before .before .before .before .if2 .left)) (rw e at (O .ensures))
+returns-3 c =
+    let S = (c .before .before .before .before .before .before .before .before .before .before .before .before .before .before .before .before .before) in
+    let a = S .args in
+    let I = c .before .before .before .before .before .before .before .before .read-ident in
+    let T = c .before .before .before .before .before .before .before .read-stamp in
+    let O = c .before .before .before .before .offer in
+    let e : record { distance = a .distance; id = I .result; stamp = T .result; position = a .position } ≡ rowAt (now (a .page)) (a .i) (a .distance) (a .position) =
+    λ j. record { distance = a .distance; id = I .ensures j; stamp = T .ensures j; position = a .position } in
+    record-taken (now (a .page)) (a .i) (a .distance) (a .position) (now (a .highs)) (now (a .lows)) (a .n) (a .k) (a .choice) _ _ _
+    (λ q w. sym (c .before .before .before .before .before .before .before .before .before .before .is-candidate .ensures q w) ∙ not-false _ (c .before .before .before .before .before .before .before .before .before .if2 .left)) (rw e at (O .ensures))
 
 pub offer-record-spec : {M : Type 1} → statement M
 offer-record-spec =
@@ -56,6 +66,7 @@ offer-record-spec =
     same-length-2
     returns-2
     read-ident-requires
+    read-stamp-requires
     offer-requires
     same-length-3
     same-length-4

@@ -48,7 +48,7 @@ returns c = let S = (c .before .before .before .before .before .before .before .
     offered-part (now (S .args .index)) (S .args .page) (now (S .args .asked)) (S .args .position) _ _ _ _ _ _ _ _ (sym (c .before .before .before .before .before .before .before .before .before .before .in-range .ensures) ∙ c .before .before .before .before .before .before .before .before .before .if1 .taken) (S .pre .0) (O .ensures)
 
 returns-2 : tie.Need-returns-2
-returns-2 c = let S = (c .before .before .before .before .before .before) in offered-outside (now (S .args .index)) (S .args .page) (asking (now (S .args .asked)) (S .args .k) (S .args .choice)) (S .args .position) _ _ _ _ (sym (c .before .in-range .ensures) ∙ c .if1 .left) (S .pre .1)
+returns-2 c = let S = (c .before .before .before .before .before .before) in offered-outside (now (S .args .index)) (S .args .page) (asking (now (S .args .asked)) (S .args .k) (S .args .choice)) (S .args .position) _ _ _ _ (sym (c .before .in-range .ensures) ∙ c .if1 .left) (S .pre .2)
 
 pub visit-leaf-spec : {M : Type 1} → statement M
 visit-leaf-spec =

@@ -9,63 +9,63 @@ use Rattle.search_rows.proofs.slide.Statement.{statement}
 use Rattle.search_rows.proofs.slide.Tie as tie
 
 abbrev Inv-loop : tie.InvT-loop
-Inv-loop distances₀ tags₀ n distance tag i₀ distances tags i =
-    (length distances ≡ length distances₀) × (length tags ≡ length tags₀) × Sliding distances₀ tags₀ n (rowOf distance tag) distances tags i
+Inv-loop highs₀ lows₀ n high low i₀ highs lows i =
+    (length highs ≡ length highs₀) × (length lows ≡ length lows₀) × Sliding highs₀ lows₀ n (rowOf high low) highs lows i
 
 abbrev μ-loop : tie.MeasureT-loop
-μ-loop distances₀ tags₀ n distance tag i₀ distances tags i = i
+μ-loop highs₀ lows₀ n high low i₀ highs lows i = i
 
 loop-holds : tie.Need-loop-holds Inv-loop μ-loop
 loop-holds c =
     let S = c .before .before in
-    (refl, refl, slide-start (now (S .args .distances)) (now (S .args .tags)) (S .args .n) (rowOf (S .args .distance) (S .args .tag)) (S .pre))
+    (refl, refl, slide-start (now (S .args .highs)) (now (S .args .lows)) (S .args .n) (rowOf (S .args .high) (S .args .low)) (S .pre))
 
 gives-way-requires : tie.Need-gives-way-requires Inv-loop μ-loop
 gives-way-requires c κs = let s = c .before .before .loop .inv .2 in (omega arith, omega arith)
 
-sub-distances : tie.Need-sub-distances Inv-loop μ-loop
-sub-distances c = let z = c .before .gives-way .ensures .gives (c .if1 .taken) .0 in omega arith
+sub-highs : tie.Need-sub-highs Inv-loop μ-loop
+sub-highs c = let z = c .before .gives-way .ensures .gives (c .if1 .taken) .0 in omega arith
 
-mul-distances : tie.Need-mul-distances Inv-loop μ-loop
-mul-distances c =
+mul-highs : tie.Need-mul-highs Inv-loop μ-loop
+mul-highs c =
     let s = c .before .before .before .before .loop .inv .2 in
     let z = c .before .gives-way .ensures .gives (c .if1 .taken) .0 in omega arith
 
-slice-read-distances : tie.Need-slice-read-distances Inv-loop μ-loop
-slice-read-distances c =
+slice-read-highs : tie.Need-slice-read-highs Inv-loop μ-loop
+slice-read-highs c =
     let s = c .before .before .before .before .before .loop .inv .2 in
     let z = c .before .before .gives-way .ensures .gives (c .before .if1 .taken) .0 in omega arith
 
-mul-distances-2 : tie.Need-mul-distances-2 Inv-loop μ-loop
-mul-distances-2 c =
+mul-highs-2 : tie.Need-mul-highs-2 Inv-loop μ-loop
+mul-highs-2 c =
     let s = c .before .before .before .before .before .loop .inv .2 in
     let z = c .before .before .gives-way .ensures .gives (c .before .if1 .taken) .0 in omega arith
 
-slice-write-distances : tie.Need-slice-write-distances Inv-loop μ-loop
-slice-write-distances c =
+slice-write-highs : tie.Need-slice-write-highs Inv-loop μ-loop
+slice-write-highs c =
     let s = c .before .before .before .before .before .loop .inv .2 in
     let z = c .before .before .gives-way .ensures .gives (c .before .if1 .taken) .0 in omega arith
 
-sub-tags : tie.Need-sub-tags Inv-loop μ-loop
-sub-tags c = let z = c .before .before .gives-way .ensures .gives (c .before .if1 .taken) .0 in omega arith
+sub-lows : tie.Need-sub-lows Inv-loop μ-loop
+sub-lows c = let z = c .before .before .gives-way .ensures .gives (c .before .if1 .taken) .0 in omega arith
 
-mul-tags : tie.Need-mul-tags Inv-loop μ-loop
-mul-tags c =
+mul-lows : tie.Need-mul-lows Inv-loop μ-loop
+mul-lows c =
     let s = c .before .before .before .before .before .loop .inv .2 in
     let z = c .before .before .gives-way .ensures .gives (c .before .if1 .taken) .0 in omega arith
 
-slice-read-tags : tie.Need-slice-read-tags Inv-loop μ-loop
-slice-read-tags c =
+slice-read-lows : tie.Need-slice-read-lows Inv-loop μ-loop
+slice-read-lows c =
     let s = c .before .before .before .before .before .before .loop .inv .2 in
     let z = c .before .before .before .gives-way .ensures .gives (c .before .before .if1 .taken) .0 in omega arith
 
-mul-tags-2 : tie.Need-mul-tags-2 Inv-loop μ-loop
-mul-tags-2 c =
+mul-lows-2 : tie.Need-mul-lows-2 Inv-loop μ-loop
+mul-lows-2 c =
     let s = c .before .before .before .before .before .before .loop .inv .2 in
     let z = c .before .before .before .gives-way .ensures .gives (c .before .before .if1 .taken) .0 in omega arith
 
-slice-write-tags : tie.Need-slice-write-tags Inv-loop μ-loop
-slice-write-tags c =
+slice-write-lows : tie.Need-slice-write-lows Inv-loop μ-loop
+slice-write-lows c =
     let s = c .before .before .before .before .before .before .loop .inv .2 in
     let z = c .before .before .before .gives-way .ensures .gives (c .before .before .if1 .taken) .0 in omega arith
 
@@ -79,30 +79,30 @@ loop-again : tie.Need-loop-again Inv-loop μ-loop
 loop-again c =
     let l = c .before .before .before .before .before .before .loop in
     let g = c .before .before .before .gives-way .ensures .gives (c .before .before .if1 .taken) in
-    (length-set (l .distances) (l .i) _ ∙ l .inv .0, length-set (l .tags) (l .i) _ ∙ l .inv .1, slide-on _ _ _ _ (l .distances) (l .tags) (l .i) (l .inv .2) (g .0) (g .1))
+    (length-set (l .highs) (l .i) _ ∙ l .inv .0, length-set (l .lows) (l .i) _ ∙ l .inv .1, slide-on _ _ _ _ (l .highs) (l .lows) (l .i) (l .inv .2) (g .0) (g .1))
 
-mul-distances-3 : tie.Need-mul-distances-3 Inv-loop μ-loop
-mul-distances-3 c = let s = c .before .before .before .before .loop .inv .2 in omega arith
+mul-highs-3 : tie.Need-mul-highs-3 Inv-loop μ-loop
+mul-highs-3 c = let s = c .before .before .before .before .loop .inv .2 in omega arith
 
-slice-write-distances-2 : tie.Need-slice-write-distances-2 Inv-loop μ-loop
-slice-write-distances-2 c = let s = c .before .before .before .before .loop .inv .2 in omega arith
+slice-write-highs-2 : tie.Need-slice-write-highs-2 Inv-loop μ-loop
+slice-write-highs-2 c = let s = c .before .before .before .before .loop .inv .2 in omega arith
 
-mul-tags-3 : tie.Need-mul-tags-3 Inv-loop μ-loop
-mul-tags-3 c = let s = c .before .before .before .before .loop .inv .2 in omega arith
+mul-lows-3 : tie.Need-mul-lows-3 Inv-loop μ-loop
+mul-lows-3 c = let s = c .before .before .before .before .loop .inv .2 in omega arith
 
-slice-write-tags-2 : tie.Need-slice-write-tags-2 Inv-loop μ-loop
-slice-write-tags-2 c = let s = c .before .before .before .before .loop .inv .2 in omega arith
+slice-write-lows-2 : tie.Need-slice-write-lows-2 Inv-loop μ-loop
+slice-write-lows-2 c = let s = c .before .before .before .before .loop .inv .2 in omega arith
 
 same-length : tie.Need-same-length Inv-loop μ-loop
-same-length c = let l = c .before .before .before .before .loop in length-set (l .distances) (l .i) _ ∙ l .inv .0
+same-length c = let l = c .before .before .before .before .loop in length-set (l .highs) (l .i) _ ∙ l .inv .0
 
 same-length-2 : tie.Need-same-length-2 Inv-loop μ-loop
-same-length-2 c = let l = c .before .before .before .before .loop in length-set (l .tags) (l .i) _ ∙ l .inv .1
+same-length-2 c = let l = c .before .before .before .before .loop in length-set (l .lows) (l .i) _ ∙ l .inv .1
 
 returns : tie.Need-returns Inv-loop μ-loop
 returns c =
     let l = c .before .before .before .before .loop in
-    slide-done _ _ _ _ (l .distances) (l .tags) (l .i) _ _ (l .inv .2) (c .before .gives-way .ensures .stays (c .if1 .left)) refl (c .before .before .before .before .before .before .before .pre)
+    slide-done _ _ _ _ (l .highs) (l .lows) (l .i) _ _ (l .inv .2) (c .before .gives-way .ensures .stays (c .if1 .left)) refl (c .before .before .before .before .before .before .before .pre)
 
 pub slide-spec : {M : Type 1} → statement M
 slide-spec =
@@ -112,23 +112,23 @@ slide-spec =
     μ-loop
     loop-holds
     gives-way-requires
-    sub-distances
-    mul-distances
-    slice-read-distances
-    mul-distances-2
-    slice-write-distances
-    sub-tags
-    mul-tags
-    slice-read-tags
-    mul-tags-2
-    slice-write-tags
+    sub-highs
+    mul-highs
+    slice-read-highs
+    mul-highs-2
+    slice-write-highs
+    sub-lows
+    mul-lows
+    slice-read-lows
+    mul-lows-2
+    slice-write-lows
     sub-i
     loop-less
     loop-again
-    mul-distances-3
-    slice-write-distances-2
-    mul-tags-3
-    slice-write-tags-2
+    mul-highs-3
+    slice-write-highs-2
+    mul-lows-3
+    slice-write-lows-2
     same-length
     same-length-2
     returns)

@@ -7,10 +7,10 @@ use Rattle.acts_output.proofs.rows.put_rows.Statement.{statement}
 use Rattle.acts_output.proofs.rows.put_rows.Tie as tie
 
 abbrev Inv-loop : tie.InvT-loop
-Inv-loop out₀ at number leaves distances tags count end₀ i₀ out end i = (i ≤ count) × Rowed number leaves distances tags out₀ at out end i
+Inv-loop out₀ at number leaves highs lows count end₀ i₀ out end i = (i ≤ count) × Rowed number leaves highs lows out₀ at out end i
 
 abbrev μ-loop : tie.MeasureT-loop
-μ-loop out₀ at number leaves distances tags count end₀ i₀ out end i = count - i
+μ-loop out₀ at number leaves highs lows count end₀ i₀ out end i = count - i
 
 loop-holds : tie.Need-loop-holds Inv-loop μ-loop
 loop-holds c = (search needs, rows-start _ _ _ _ _ _)

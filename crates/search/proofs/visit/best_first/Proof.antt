@@ -11,10 +11,10 @@ use Rattle.search.proofs.visit.best_first.Statement.{statement}
 use Rattle.search.proofs.visit.best_first.Tie as tie
 
 abbrev Inv-loop : tie.InvT-loop
-Inv-loop index asked near whole k choice slots₀ distances₀ tags₀ n₀ rows₀ leaves₀ steps₀ slots distances tags n rows leaves steps = Visiting index asked near whole k choice slots₀ distances₀ tags₀ slots distances tags n rows leaves steps
+Inv-loop index asked near whole k choice slots₀ highs₀ lows₀ n₀ rows₀ leaves₀ steps₀ slots highs lows n rows leaves steps = Visiting index asked near whole k choice slots₀ highs₀ lows₀ slots highs lows n rows leaves steps
 
 abbrev μ-loop : tie.MeasureT-loop
-μ-loop index asked near whole k choice slots₀ distances₀ tags₀ n₀ rows₀ leaves₀ steps₀ slots distances tags n rows leaves steps = steps
+μ-loop index asked near whole k choice slots₀ highs₀ lows₀ n₀ rows₀ leaves₀ steps₀ slots highs lows n rows leaves steps = steps
 
 root-key-requires : tie.Need-root-key-requires Inv-loop μ-loop
 root-key-requires c κs = c .before .before .before .before .before .before .before .pre .low
@@ -53,7 +53,7 @@ place-in-requires : tie.Need-place-in-requires Inv-loop μ-loop
 place-in-requires c κs = search needs
 
 visit-leaf-requires : tie.Need-visit-leaf-requires Inv-loop μ-loop
-visit-leaf-requires c κs = let v = c .before .before .before .before .before .before .before .before .before .before .before .before .before .before .loop .inv in (v .tables .seekable, v .holds)
+visit-leaf-requires c κs = let v = c .before .before .before .before .before .before .before .before .before .before .before .before .before .before .loop .inv in (v .tables .seekable, omega (arith, c .before .before .before .place-in .ensures), v .holds)
 
 add-leaves : tie.Need-add-leaves Inv-loop μ-loop
 add-leaves c = let f = c .before .before .before .before .before .before .before .before .before .before .before .before .before .before .before .before .before .before .before .loop .inv .few in omega arith
@@ -84,10 +84,10 @@ same-length : tie.Need-same-length Inv-loop μ-loop
 same-length c = c .before .before .before .before .loop .inv .lengths ∙ length-set (now (c .before .before .before .before .before .before .before .before .before .before .before .before .before .before .args .slots)) 0 (c .before .before .before .before .before .before .root-key .result)
 
 same-length-2 : tie.Need-same-length-2 Inv-loop μ-loop
-same-length-2 c = c .before .before .before .before .loop .inv .lengthsD
+same-length-2 c = c .before .before .before .before .loop .inv .lengthsHighs
 
 same-length-3 : tie.Need-same-length-3 Inv-loop μ-loop
-same-length-3 c = c .before .before .before .before .loop .inv .lengthsT
+same-length-3 c = c .before .before .before .before .loop .inv .lengthsLows
 
 returns : tie.Need-returns Inv-loop μ-loop
 returns c = visiting-ends _ _ _ _ _ _ _ _ _ _ _ _ _ _ _ _ (c .before .before .before .before .loop .inv) (c .before .goes-on .ensures .ends (c .if1 .left))

@@ -6,10 +6,10 @@ use Rattle.search.proofs.visit.goes_on.Statement.{statement}
 use Rattle.search.proofs.visit.goes_on.Tie as tie
 
 returns : tie.Need-returns
-returns c = let S = ((c .before .before .before .before)) in goes-spent (now (S .args .index)) (now (S .args .slots)) (S .args .n) (now (S .args .distances)) (S .args .rows) (S .args .k) (S .args .steps) (c .if1 .taken)
+returns c = let S = ((c .before .before .before .before)) in goes-spent (now (S .args .index)) (now (S .args .slots)) (S .args .n) (now (S .args .highs)) (S .args .rows) (S .args .k) (S .args .steps) (c .if1 .taken)
 
 returns-2 : tie.Need-returns-2
-returns-2 c = let S = ((c .before .before .before .before .before)) in goes-empty (now (S .args .index)) (now (S .args .slots)) (S .args .n) (now (S .args .distances)) (S .args .rows) (S .args .k) (S .args .steps) (c .if2 .taken)
+returns-2 c = let S = ((c .before .before .before .before .before)) in goes-empty (now (S .args .index)) (now (S .args .slots)) (S .args .n) (now (S .args .highs)) (S .args .rows) (S .args .k) (S .args .steps) (c .if2 .taken)
 
 shared-slice-read-first : tie.Need-shared-slice-read-first
 shared-slice-read-first c = search needs
@@ -22,14 +22,14 @@ behind-requires c κs = search needs
 
 returns-3 : tie.Need-returns-3
 returns-3 c = let S = ((c .before .before .before .before .before .before .before .before .before)) in
-    goes-far (now (S .args .index)) (now (S .args .slots)) (S .args .n) (now (S .args .distances)) (S .args .rows) (S .args .k) (S .args .steps) (c .before .before .before .before .before .if1 .left) (c .before .before .before .before .if2 .left) _ (c .before .before .bound-in .ensures) _ (c .before .behind .ensures) (c .if3 .taken)
+    goes-far (now (S .args .index)) (now (S .args .slots)) (S .args .n) (now (S .args .highs)) (S .args .rows) (S .args .k) (S .args .steps) (c .before .before .before .before .before .if1 .left) (c .before .before .before .before .if2 .left) _ (c .before .before .bound-in .ensures) _ (c .before .behind .ensures) (c .if3 .taken)
 
 level-in-requires : tie.Need-level-in-requires
 level-in-requires c κs = search needs
 
 returns-4 : tie.Need-returns-4
 returns-4 c = let S = ((c .before .before .before .before .before .before .before .before .before .before .before)) in
-    goes-leaf (now (S .args .index)) (now (S .args .slots)) (S .args .n) (now (S .args .distances)) (S .args .rows) (S .args .k) (S .args .steps) (c .before .before .before .before .before .before .before .if1 .left) (c .before .before .before .before .before .before .if2 .left) _ (c .before .before .before .before .bound-in .ensures) _ (c .before .before .before .behind .ensures) (c .before .before .if3 .left) _ (c .before .level-in .ensures) (c .if4 .taken)
+    goes-leaf (now (S .args .index)) (now (S .args .slots)) (S .args .n) (now (S .args .highs)) (S .args .rows) (S .args .k) (S .args .steps) (c .before .before .before .before .before .before .before .if1 .left) (c .before .before .before .before .before .before .if2 .left) _ (c .before .before .before .before .bound-in .ensures) _ (c .before .before .before .behind .ensures) (c .before .before .if3 .left) _ (c .before .level-in .ensures) (c .if4 .taken)
 
 page-in-requires : tie.Need-page-in-requires
 page-in-requires c κs = search needs
@@ -45,7 +45,7 @@ add-result c = search needs
 
 returns-5 : tie.Need-returns-5
 returns-5 c = let S = ((c .before .before .before .before .before .before .before .before .before .before .before .before .before)) in
-    goes-inner (now (S .args .index)) (now (S .args .slots)) (S .args .n) (now (S .args .distances)) (S .args .rows) (S .args .k) (S .args .steps) (c .before .before .before .before .before .before .before .before .before .if1 .left) (c .before .before .before .before .before .before .before .before .if2 .left) _ (c .before .before .before .before .before .before .bound-in .ensures) _ (c .before .before .before .before .before .behind .ensures) (c .before .before .before .before .if3 .left) _ (c .before .before .before .level-in .ensures) (c .before .before .if4 .left) _ _ (c .before .page-in .ensures) (c .entry-count .ensures .0)
+    goes-inner (now (S .args .index)) (now (S .args .slots)) (S .args .n) (now (S .args .highs)) (S .args .rows) (S .args .k) (S .args .steps) (c .before .before .before .before .before .before .before .before .before .if1 .left) (c .before .before .before .before .before .before .before .before .if2 .left) _ (c .before .before .before .before .before .before .bound-in .ensures) _ (c .before .before .before .before .before .behind .ensures) (c .before .before .before .before .if3 .left) _ (c .before .before .before .level-in .ensures) (c .before .before .if4 .left) _ _ (c .before .page-in .ensures) (c .entry-count .ensures .0)
 
 pub goes-on-spec : {M : Type 1} → statement M
 goes-on-spec =

@@ -5,25 +5,13 @@ use Rattle.test_model.proofs.scan.least.Statement.{statement}
 use Rattle.test_model.proofs.scan.least.Tie as tie
 
 abbrev Inv-loop : tie.InvT-loop
-Inv-loop distances best₀ p₀ best p = (1 ≤ p) × (p ≤ length distances) × (best < length distances)
+Inv-loop distances marks best₀ p₀ best p = (1 ≤ p) × (p ≤ length distances) × (best < length distances)
 
 abbrev μ-loop : tie.MeasureT-loop
-μ-loop distances best₀ p₀ best p = length distances - p
+μ-loop distances marks best₀ p₀ best p = length distances - p
 
 loop-holds : tie.Need-loop-holds Inv-loop μ-loop
 loop-holds c = search needs
-
-mul-nearer : tie.Need-mul-nearer Inv-loop μ-loop
-mul-nearer c = search needs
-
-shared-slice-read-nearer : tie.Need-shared-slice-read-nearer Inv-loop μ-loop
-shared-slice-read-nearer c = search needs
-
-mul-nearer-2 : tie.Need-mul-nearer-2 Inv-loop μ-loop
-mul-nearer-2 c = search needs
-
-shared-slice-read-nearer-2 : tie.Need-shared-slice-read-nearer-2 Inv-loop μ-loop
-shared-slice-read-nearer-2 c = search needs
 
 nearer-requires : tie.Need-nearer-requires Inv-loop μ-loop
 nearer-requires c κs = search needs
@@ -47,10 +35,6 @@ least-spec =
     Inv-loop
     μ-loop
     loop-holds
-    mul-nearer
-    shared-slice-read-nearer
-    mul-nearer-2
-    shared-slice-read-nearer-2
     nearer-requires
     add-p
     loop-less
