@@ -9,8 +9,9 @@
  * What holds of every function here:
  * - All memory is the caller's. Nothing is allocated, and no pointer is kept after the return. There is no other state, so threads may work
  *   on different indexes, and ask or check the same index, at the same time; a change wants the index for itself.
- * - A run of memory is a pointer and its length in elements. A pointer is not null, even where the length is 0, is aligned for its type
- *   and leads to that many elements. What a function writes (a pointer without const) overlaps nothing else that the call is handed.
+ * - A run of memory is a pointer and its length in elements. A pointer is not null, even where the length is 0 (but for the weights of
+ *   epoch_index_question and epoch_index_trusted_question), is aligned for its type and leads to that many elements. What a function writes
+ *   (a pointer without const) overlaps nothing else that the call is handed.
  * - Every value of every parameter has a defined outcome; what cannot be done is refused with a code, and a refusal changes no byte.
  * - The bytes of an index may be anything: an act refuses a damaged index (EPOCH_INDEX_UNSOUND) and is never led astray by it.
  * - Stack: up to 1.5 MB for an act, whatever the bytes hold.
@@ -22,6 +23,9 @@
 
 #include <stddef.h>
 #include <stdint.h>
+#ifndef __cplusplus
+#include <stdbool.h>
+#endif
 
 #ifdef __cplusplus
 extern "C" {
@@ -29,9 +33,9 @@ extern "C" {
 
 /* The version of these headers and of the library they declare. */
 #define EPOCH_INDEX_VERSION_MAJOR 0
-#define EPOCH_INDEX_VERSION_MINOR 4
+#define EPOCH_INDEX_VERSION_MINOR 5
 #define EPOCH_INDEX_VERSION_PATCH 0
-#define EPOCH_INDEX_VERSION "0.4.0"
+#define EPOCH_INDEX_VERSION "0.5.0"
 
 /* Limits. A length in bytes is a multiple of the page, EPOCH_INDEX_MIN_PAGES to EPOCH_INDEX_MAX_PAGES of them. */
 #define EPOCH_INDEX_PAGE_BYTES 1024
@@ -47,6 +51,7 @@ extern "C" {
 #define EPOCH_INDEX_MAX_K 64
 #define EPOCH_INDEX_MAX_POINTS 65535
 #define EPOCH_INDEX_MAX_STAGE 5
+#define EPOCH_INDEX_MAX_WEIGHT 1000
 
 /* The stage of an epoch. */
 enum epoch_index_stage {
@@ -68,7 +73,7 @@ enum epoch_index_code {
     EPOCH_INDEX_OK = 0,
     EPOCH_INDEX_BAD_LENGTH = 1,       /* index length isn't a permitted number of whole pages */
     EPOCH_INDEX_UNSOUND = 2,          /* index isn't sound */
-    EPOCH_INDEX_BAD_FEATURES = 3,     /* d, or the number of coordinates, is wrong */
+    EPOCH_INDEX_BAD_FEATURES = 3,     /* d, or the number of coordinates or weights, is wrong */
     EPOCH_INDEX_BAD_COORDINATE = 4,   /* a coordinate is out of range */
     EPOCH_INDEX_ZERO_ID = 5,          /* identifier 0 */
     EPOCH_INDEX_ALREADY_LIVE = 6,     /* identifier already live */
@@ -79,13 +84,14 @@ enum epoch_index_code {
     EPOCH_INDEX_FEW_ROWS = 11,        /* fewer than k rows lent */
                                       /* 12 is given to nothing: evening out two leaves takes no page */
     EPOCH_INDEX_UNREADABLE_LINE = 13, /* program: line not readable (not given here) */
-                                      /* 14 is given to nothing yet */
+    EPOCH_INDEX_BAD_WEIGHT = 14,      /* a weight above 1,000 */
     EPOCH_INDEX_BAD_STAGE = 15,       /* stage above 5 */
     EPOCH_INDEX_BAD_STAGE_SET = 16    /* stage set is 0 or above 63 */
 };
 
-/* A record that a question found: its squared distance from the asked point, its identifier, its stamp, and the position (0, 1, 2 .. in key
- * order) of the leaf that holds it. Rows stand nearest first, equal distances by later stamp, then by lower identifier. */
+/* A record that a question found: its distance from the asked point, its identifier, its stamp, and the position (0, 1, 2 .. in key order)
+ * of the leaf that holds it. The distance is the squared one; with weights it is the sum of weight times squared difference, at most
+ * 64,000,000,000. Rows stand nearest first, equal distances by later stamp, then by lower identifier. */
 typedef struct epoch_index_row {
     uint64_t distance;
     uint32_t id;
@@ -122,14 +128,31 @@ uint32_t epoch_index_insert(uint8_t *index, size_t index_len, uint32_t id, uint8
  * Refusals: EPOCH_INDEX_BAD_LENGTH, EPOCH_INDEX_UNSOUND, EPOCH_INDEX_ZERO_ID, EPOCH_INDEX_NOT_LIVE. */
 uint32_t epoch_index_delete(uint8_t *index, size_t index_len, uint32_t id);
 
+/* The question as the library exports it: `weighted` says whether it carries weights. Where it does not, what `weights` leads to is
+ * disregarded, but the pointer is not null. epoch_index_question, below, says what is asked, and calls it. */
+epoch_index_answer epoch_index_weighted_question(const uint8_t *index, size_t index_len, const int16_t *point, size_t point_len,
+                                                 bool weighted, const uint16_t *weights, size_t weights_len, size_t k, uint8_t stages,
+                                                 epoch_index_row *rows, size_t rows_len, epoch_index_tally *tally);
+
 /* Asks for the `k` records nearest to `point` among those whose stage is in the set `stages`; with EPOCH_INDEX_ALL_STAGES that is every
  * record. They are written to the first `count` of the `rows_len` rows lent, nearest first, equal distances by later stamp, then by lower
  * identifier, an order that also decides which are among the k: k of them, or all of these stages if fewer are live; rows past those keep
  * their contents. The tally counts the question and the leaves it read. Refused, rows and tally stay as they are.
- * Refusals: EPOCH_INDEX_BAD_LENGTH, EPOCH_INDEX_UNSOUND, EPOCH_INDEX_BAD_FEATURES, EPOCH_INDEX_BAD_COORDINATE, EPOCH_INDEX_BAD_K,
- * EPOCH_INDEX_FEW_ROWS, EPOCH_INDEX_BAD_STAGE_SET. */
-epoch_index_answer epoch_index_question(const uint8_t *index, size_t index_len, const int16_t *point, size_t point_len, size_t k,
-                                        uint8_t stages, epoch_index_row *rows, size_t rows_len, epoch_index_tally *tally);
+ *
+ * `weights` leads to a weight for each coordinate, 0 to EPOCH_INDEX_MAX_WEIGHT: distance is then the sum of weight times squared
+ * difference. A null pointer carries none, whatever `weights_len` is: such a question gives what weights of 1 give. A pointer that is not
+ * null carries `weights_len` weights, so that one with a length of 0 is refused (EPOCH_INDEX_BAD_FEATURES).
+ * Refusals: EPOCH_INDEX_BAD_LENGTH, EPOCH_INDEX_UNSOUND, EPOCH_INDEX_BAD_FEATURES, EPOCH_INDEX_BAD_COORDINATE, EPOCH_INDEX_BAD_WEIGHT,
+ * EPOCH_INDEX_BAD_K, EPOCH_INDEX_FEW_ROWS, EPOCH_INDEX_BAD_STAGE_SET. */
+static inline epoch_index_answer epoch_index_question(const uint8_t *index, size_t index_len, const int16_t *point, size_t point_len,
+                                                      const uint16_t *weights, size_t weights_len, size_t k, uint8_t stages,
+                                                      epoch_index_row *rows, size_t rows_len, epoch_index_tally *tally)
+{
+    const uint16_t none = 0;
+    if (weights == NULL)
+        return epoch_index_weighted_question(index, index_len, point, point_len, false, &none, 0, k, stages, rows, rows_len, tally);
+    return epoch_index_weighted_question(index, index_len, point, point_len, true, weights, weights_len, k, stages, rows, rows_len, tally);
+}
 
 /* Checks whether an index is sound: it looks at every page. With EPOCH_INDEX_UNSOUND `*page` is a page at which soundness fails, else 0.
  * Refusals: EPOCH_INDEX_BAD_LENGTH, EPOCH_INDEX_UNSOUND. */

@@ -37,10 +37,26 @@ uint32_t epoch_index_trusted_insert(uint8_t *index, size_t index_len, uint32_t i
 /* Refusals: EPOCH_INDEX_BAD_LENGTH, EPOCH_INDEX_UNSOUND, EPOCH_INDEX_ZERO_ID, EPOCH_INDEX_NOT_LIVE. */
 uint32_t epoch_index_trusted_delete(uint8_t *index, size_t index_len, uint32_t id);
 
-/* Refusals: EPOCH_INDEX_BAD_LENGTH, EPOCH_INDEX_UNSOUND, EPOCH_INDEX_BAD_FEATURES, EPOCH_INDEX_BAD_COORDINATE, EPOCH_INDEX_BAD_K,
- * EPOCH_INDEX_FEW_ROWS, EPOCH_INDEX_BAD_STAGE_SET. */
-epoch_index_answer epoch_index_trusted_question(const uint8_t *index, size_t index_len, const int16_t *point, size_t point_len, size_t k,
-                                                uint8_t stages, epoch_index_row *rows, size_t rows_len, epoch_index_tally *tally);
+/* The question without the check as the library exports it: epoch_index_trusted_question is to it what epoch_index_question is to
+ * epoch_index_weighted_question. */
+epoch_index_answer epoch_index_trusted_weighted_question(const uint8_t *index, size_t index_len, const int16_t *point, size_t point_len,
+                                                         bool weighted, const uint16_t *weights, size_t weights_len, size_t k,
+                                                         uint8_t stages, epoch_index_row *rows, size_t rows_len,
+                                                         epoch_index_tally *tally);
+
+/* Refusals: EPOCH_INDEX_BAD_LENGTH, EPOCH_INDEX_UNSOUND, EPOCH_INDEX_BAD_FEATURES, EPOCH_INDEX_BAD_COORDINATE, EPOCH_INDEX_BAD_WEIGHT,
+ * EPOCH_INDEX_BAD_K, EPOCH_INDEX_FEW_ROWS, EPOCH_INDEX_BAD_STAGE_SET. */
+static inline epoch_index_answer epoch_index_trusted_question(const uint8_t *index, size_t index_len, const int16_t *point,
+                                                              size_t point_len, const uint16_t *weights, size_t weights_len, size_t k,
+                                                              uint8_t stages, epoch_index_row *rows, size_t rows_len,
+                                                              epoch_index_tally *tally)
+{
+    const uint16_t none = 0;
+    if (weights == NULL)
+        return epoch_index_trusted_weighted_question(index, index_len, point, point_len, false, &none, 0, k, stages, rows, rows_len, tally);
+    return epoch_index_trusted_weighted_question(index, index_len, point, point_len, true, weights, weights_len, k, stages, rows, rows_len,
+                                                 tally);
+}
 
 /*
  * Insert and delete without the check and without a look through the leaves for the identifier, for a caller that keeps its identifiers

@@ -1,18 +1,20 @@
-// The question of all stages and the check beside those of the archive before, in one program (bench/run --before): both work on the same bytes
-// and take turns. The archive before is of version 0.3, whose rows have no stamp and go by distance and identifier alone; its names stand
-// behind `before_`.
+// The question of all stages, without weights and with weights of ones, and the check beside those of the archive before, in one program
+// (bench/run --before): both work on the same bytes and take turns. The archive before is of version 0.4, whose questions carry no weights; its
+// names stand behind `before_`.
 mod data;
 mod index;
 mod time;
 
-use data::{epoch, mixed, Kind, Source};
-use epoch_index::{Epoch, Index, SoundIndex, StageSet, Tally};
-use index::room;
+use data::{Kind, Source};
+use epoch_index::{SoundIndex, StageSet, Tally};
+use index::filled;
 use std::hint::black_box;
 use time::{quickest, spread};
 
 const ROUNDS: usize = 31;
+const FEATURES: [usize; 5] = [1, 2, 4, 8, 16];
 const SIZES: [usize; 3] = [1_000, 10_000, 65_535];
+const ROWS: [usize; 3] = [1, 10, 64];
 
 #[repr(C)]
 #[derive(Clone, Copy, Default)]
@@ -21,15 +23,6 @@ struct FoundRow {
     id: u32,
     stamp: u32,
     position: u64,
-}
-
-/// As the archive before has it.
-#[repr(C)]
-#[derive(Clone, Copy, Default)]
-struct RowBefore {
-    distance: u64,
-    id: u32,
-    position: u32,
 }
 
 #[repr(C)]
@@ -41,11 +34,14 @@ struct Answer {
 
 extern "C" {
     fn epoch_index_check(index: *const u8, index_len: usize, page: *mut u32) -> u32;
-    fn epoch_index_trusted_question(
+    fn epoch_index_trusted_weighted_question(
         index: *const u8,
         index_len: usize,
         point: *const i16,
         point_len: usize,
+        weighted: bool,
+        weights: *const u16,
+        weights_len: usize,
         k: usize,
         stages: u8,
         rows: *mut FoundRow,
@@ -60,7 +56,7 @@ extern "C" {
         point_len: usize,
         k: usize,
         stages: u8,
-        rows: *mut RowBefore,
+        rows: *mut FoundRow,
         rows_len: usize,
         tally: *mut Tally,
     ) -> Answer;
@@ -76,69 +72,64 @@ fn check_before(bytes: &[u8]) {
     assert_eq!(unsafe { before_epoch_index_check(bytes.as_ptr(), bytes.len(), &mut page) }, 0);
 }
 
-/// The stamps of the epochs: with all 0 both archives give the same rows.
+/// The weights of the question now: both give the rows of the one before.
 #[derive(Clone, Copy, PartialEq)]
-enum Stamps {
-    Zero,
-    Random,
-    /// As in a recording: each epoch thirty seconds after the one of the identifier before.
-    Rising,
+enum Weights {
+    None,
+    Ones,
 }
 
-impl Stamps {
-    const ALL: [Stamps; 3] = [Stamps::Zero, Stamps::Random, Stamps::Rising];
+impl Weights {
+    const ALL: [Weights; 2] = [Weights::None, Weights::Ones];
 
     fn name(self) -> &'static str {
         match self {
-            Stamps::Zero => "0",
-            Stamps::Random => "random",
-            Stamps::Rising => "rising",
+            Weights::None => "none",
+            Weights::Ones => "ones",
         }
-    }
-
-    fn of(self, id: u32) -> u32 {
-        match self {
-            Stamps::Zero => 0,
-            Stamps::Random => mixed(id) as u32,
-            Stamps::Rising => 30 * id,
-        }
-    }
-
-    /// An index that holds the points, with these stamps.
-    fn filled(self, points: &[i16], d: usize) -> Vec<u8> {
-        let mut bytes = room(points.len() / d);
-        let made = Index::make(&mut bytes[..], d as u8).unwrap().into_inner();
-        let mut tabled = SoundIndex::open(made).unwrap().into_tabled();
-        (1..).zip(points.chunks(d)).for_each(|(id, p)| tabled.insert(Epoch { stamp: self.of(id), ..epoch(id) }, p).unwrap());
-        bytes
     }
 }
 
 /// An index, and points to ask from.
 struct Case {
     d: usize,
-    stamps: Stamps,
     bytes: Vec<u8>,
     questions: Vec<i16>,
 }
 
 impl Case {
-    fn new(kind: Kind, d: usize, n: usize, stamps: Stamps) -> Case {
+    fn new(kind: Kind, d: usize, n: usize) -> Case {
         let mut source = Source::new(kind, d);
-        Case { d, stamps, bytes: stamps.filled(&source.points(n), d), questions: source.points(50) }
+        Case { d, bytes: filled(&source.points(n), d), questions: source.points(50) }
     }
 
     /// Rows and leaves of a question of all stages.
-    fn ask(&self, q: &[i16], k: usize, rows: &mut [FoundRow], tally: &mut Tally) -> (usize, u32) {
-        let (index, length, all) = (self.bytes.as_ptr(), self.bytes.len(), StageSet::ALL.bits());
-        let answer =
-            unsafe { epoch_index_trusted_question(index, length, q.as_ptr(), q.len(), k, all, rows.as_mut_ptr(), rows.len(), tally) };
+    fn ask(&self, q: &[i16], weights: Weights, k: usize, rows: &mut [FoundRow], tally: &mut Tally) -> (usize, u32) {
+        let (index, length, all, ones) = (self.bytes.as_ptr(), self.bytes.len(), StageSet::ALL.bits(), [1u16; 16]);
+        let (weighted, some) = (weights == Weights::Ones, if weights == Weights::Ones { self.d } else { 0 });
+        let (point, lent) = ((q.as_ptr(), q.len()), (rows.as_mut_ptr(), rows.len()));
+        let answer = unsafe {
+            epoch_index_trusted_weighted_question(
+                index,
+                length,
+                point.0,
+                point.1,
+                weighted,
+                ones.as_ptr(),
+                some,
+                k,
+                all,
+                lent.0,
+                lent.1,
+                tally,
+            )
+        };
         assert_eq!(answer.code, 0);
         (answer.count, answer.leaves)
     }
 
     /// The same of the archive before.
-    fn ask_before(&self, q: &[i16], k: usize, rows: &mut [RowBefore], tally: &mut Tally) -> (usize, u32) {
+    fn ask_before(&self, q: &[i16], k: usize, rows: &mut [FoundRow], tally: &mut Tally) -> (usize, u32) {
         let (index, length, all) = (self.bytes.as_ptr(), self.bytes.len(), StageSet::ALL.bits());
         let answer = unsafe {
             before_epoch_index_trusted_question(index, length, q.as_ptr(), q.len(), k, all, rows.as_mut_ptr(), rows.len(), tally)
@@ -147,32 +138,32 @@ impl Case {
         (answer.count, answer.leaves)
     }
 
-    /// Holds the rows and leaves of all questions to those before; where stamps may decide, the distances alone.
+    /// Holds the rows and leaves of all questions to those before.
     fn compare(&self, sound: &SoundIndex<&[u8]>, k: usize) {
-        let mut rows = [RowBefore::default(); 64];
-        for q in self.questions.chunks(self.d) {
-            let found = sound.question(q, k, StageSet::ALL, &mut Tally::default()).unwrap();
+        let (mut rows, ones) = ([FoundRow::default(); 64], vec![1; self.d]);
+        for (q, weights) in self.questions.chunks(self.d).flat_map(|q| [(q, None), (q, Some(&ones[..]))]) {
+            let found = sound.question(q, weights, k, StageSet::ALL, &mut Tally::default()).unwrap();
             let (count, leaves) = self.ask_before(q, k, &mut rows, &mut Tally::default());
             assert_eq!((found.rows.len(), found.leaves), (count, leaves));
             for (now, before) in found.rows.iter().zip(&rows) {
-                assert_eq!((now.distance, now.stamp), (before.distance, self.stamps.of(now.id)));
-                assert!(self.stamps != Stamps::Zero || (now.id, now.position) == (before.id, before.position.into()));
+                let before = (before.distance, before.id, before.stamp, before.position);
+                assert_eq!((now.distance, now.id, now.stamp, now.position), before);
             }
         }
     }
 
     fn ask_all_before(&self, k: usize) {
-        let (mut rows, mut tally) = ([RowBefore::default(); 64], Tally::default());
+        let (mut rows, mut tally) = ([FoundRow::default(); 64], Tally::default());
         for q in self.questions.chunks(self.d) {
             black_box(self.ask_before(q, k, &mut rows, &mut tally));
         }
         black_box(rows);
     }
 
-    fn ask_all(&self, k: usize) {
+    fn ask_all(&self, weights: Weights, k: usize) {
         let (mut rows, mut tally) = ([FoundRow::default(); 64], Tally::default());
         for q in self.questions.chunks(self.d) {
-            black_box(self.ask(q, k, &mut rows, &mut tally));
+            black_box(self.ask(q, weights, k, &mut rows, &mut tally));
         }
         black_box(rows);
     }
@@ -181,7 +172,7 @@ impl Case {
 /// What a line has measured: now over before, and before over itself.
 struct Measured {
     what: String,
-    stamps: Stamps,
+    d: usize,
     n: usize,
     ratio: f64,
     twice: f64,
@@ -196,51 +187,63 @@ fn line(what: &str, name: &str, now: &dyn Fn(), before: &dyn Fn()) -> (f64, f64)
     (ratio, twice)
 }
 
-fn measure(kind: Kind, d: usize, n: usize, stamps: Stamps) -> Vec<Measured> {
-    let case = Case::new(kind, d, n, stamps);
-    let name = format!("{} | {d} | {n} | {}", kind.name(), stamps.name());
+/// What a question is called in the tables.
+fn named(k: usize, weights: Weights) -> String {
+    format!("search, k = {k} | {}", weights.name())
+}
+
+const CHECK: &str = "check | ";
+
+fn measure(kind: Kind, d: usize, n: usize) -> Vec<Measured> {
+    let case = Case::new(kind, d, n);
+    let name = format!("{} | {d} | {n}", kind.name());
     let sound = SoundIndex::open(&case.bytes[..]).unwrap();
     let mut all = Vec::new();
-    let mut add = |what: String, (ratio, twice)| all.push(Measured { what, stamps, n, ratio, twice });
-    for k in [1, 10, 64] {
+    let mut add = |what: String, (ratio, twice)| all.push(Measured { what, d, n, ratio, twice });
+    for k in ROWS {
         case.compare(&sound, k);
-        let what = format!("search, k = {k}");
-        let ratios = line(&what, &name, &|| case.ask_all(k), &|| case.ask_all_before(k));
-        add(what, ratios);
+        for weights in Weights::ALL {
+            let what = named(k, weights);
+            let ratios = line(&what, &name, &|| case.ask_all(weights, k), &|| case.ask_all_before(k));
+            add(what, ratios);
+        }
     }
-    add("check".into(), line("check", &name, &|| check(&case.bytes), &|| check_before(&case.bytes)));
+    add(CHECK.into(), line(CHECK, &name, &|| check(&case.bytes), &|| check_before(&case.bytes)));
     all
 }
 
-/// The median of now over before, over the kinds of points and d.
-fn median(all: &[Measured], what: &str, stamps: Stamps, n: usize) -> f64 {
-    let mut ratios: Vec<f64> = all.iter().filter(|m| (&m.what[..], m.stamps, m.n) == (what, stamps, n)).map(|m| m.ratio).collect();
+/// The median of now over before, over some of the lines.
+fn median(all: &[Measured], some: impl Fn(&Measured) -> bool) -> String {
+    let mut ratios: Vec<f64> = all.iter().filter(|m| some(m)).map(|m| m.ratio).collect();
     ratios.sort_by(f64::total_cmp);
-    ratios[ratios.len() / 2]
+    format!(" {:.2} |", ratios[ratios.len() / 2])
 }
 
-/// Prints the medians, and how well the time before agrees with itself.
+/// Prints the medians by n, over the kinds of points and d, and by d, over the kinds of points and n, and how well the time before agrees with
+/// itself.
 fn report(all: &[Measured]) {
-    println!("\n| now / before | stamps | 1,000 points | 10,000 points | 65,535 points |");
+    let mut whats: Vec<String> = ROWS.into_iter().flat_map(|k| Weights::ALL.map(|weights| named(k, weights))).collect();
+    whats.push(CHECK.into());
+    println!("\n| now / before | weights | 1,000 points | 10,000 points | 65,535 points |");
     println!("|---|---|---|---|---|");
-    for what in ["search, k = 1", "search, k = 10", "search, k = 64", "check"] {
-        for stamps in Stamps::ALL {
-            let [few, some, many] = SIZES.map(|n| median(all, what, stamps, n));
-            println!("| {what} | {} | {few:.2} | {some:.2} | {many:.2} |", stamps.name());
-        }
+    for what in &whats {
+        println!("| {what} |{}", SIZES.map(|n| median(all, |m| m.what == *what && m.n == n)).concat());
+    }
+    println!("\n| now / before | weights | d = 1 | 2 | 4 | 8 | 16 |");
+    println!("|---|---|---|---|---|---|---|");
+    for what in &whats {
+        println!("| {what} |{}", FEATURES.map(|d| median(all, |m| m.what == *what && m.d == d)).concat());
     }
     println!("\nThe code before timed twice in each line: {}.", spread(all.iter().map(|m| m.twice).collect()));
 }
 
 fn main() {
-    println!("| what | points | d | n | stamps | now / before | before, timed twice |");
+    println!("| what | weights | points | d | n | now / before | before, timed twice |");
     println!("|---|---|---|---|---|---|---|");
     let mut all = Vec::new();
     for kind in Kind::ALL {
-        for d in [1, 2, 4, 8, 16] {
-            for n in SIZES {
-                Stamps::ALL.into_iter().for_each(|stamps| all.extend(measure(kind, d, n, stamps)));
-            }
+        for d in FEATURES {
+            SIZES.into_iter().for_each(|n| all.extend(measure(kind, d, n)));
         }
     }
     report(&all);

@@ -8,6 +8,7 @@ mod others;
 mod scan;
 mod stages;
 mod time;
+mod weights;
 
 use data::{Kind, Source};
 use epoch_index::{Index, Row, SoundIndex, StageSet, Tally, PAGE_BYTES};
@@ -17,6 +18,7 @@ use std::env;
 use std::hint::black_box;
 use std::process::{Command, Stdio};
 use time::{quickest, spread, timed};
+use weights::Weights;
 
 const FEATURES: [usize; 5] = [1, 2, 4, 8, 16];
 const SIZES: [usize; 3] = [1_000, 10_000, 65_535];
@@ -62,7 +64,7 @@ impl Case {
     fn search_all(&self, sound: &SoundIndex<&[u8]>, k: usize, stages: StageSet) -> u64 {
         let (mut rows, mut tally) = ([Row::default(); 64], Tally::default());
         for q in self.questions.chunks(self.d) {
-            black_box(sound.question_into(q, k, stages, &mut rows, &mut tally).unwrap());
+            black_box(sound.question_into(q, None, k, stages, &mut rows, &mut tally).unwrap());
         }
         black_box(rows);
         u64::from(tally.leaves)
@@ -73,7 +75,7 @@ impl Case {
         let index = Index::new(&self.bytes[..]);
         let mut rows = [Row::default(); 64];
         for q in self.questions.chunks(self.d).take(some) {
-            black_box(index.question_into(q, k, StageSet::ALL, &mut rows, &mut Tally::default()).unwrap());
+            black_box(index.question_into(q, None, k, StageSet::ALL, &mut rows, &mut Tally::default()).unwrap());
         }
         black_box(rows);
     }
@@ -119,7 +121,7 @@ impl Case {
         let sound = SoundIndex::open(&self.bytes[..]).unwrap();
         let mut kept = Vec::new();
         for q in self.questions.chunks(self.d) {
-            let found = sound.question(q, k, StageSet::ALL, &mut Tally::default()).unwrap();
+            let found = sound.question(q, None, k, StageSet::ALL, &mut Tally::default()).unwrap();
             self.scan.ask(q, k, &mut kept);
             assert!(found.rows.iter().map(|r| (r.distance as u32, r.id)).eq(kept.iter().copied()));
         }
@@ -272,6 +274,9 @@ fn measure(kind: Kind, d: usize) {
             println!("1{line}\n0{again}");
         }
         println!("5{}", stages::line(&case, 10));
+        if weights::KINDS.contains(&kind) && weights::FEATURES.contains(&d) {
+            Weights::ALL.into_iter().for_each(|weights| println!("6{}", weights::line(&case, weights, 10)));
+        }
         times.push(Times::of(&mut case));
     }
     times.iter().for_each(|time| println!("2{}", time.line()));
@@ -316,6 +321,11 @@ fn report(lines: &[String]) {
     println!("| points | d | n | leaves read, all stages | leaves read, one | search, all stages | search, one | scan of its points |");
     println!("|---|---|---|---|---|---|---|---|");
     of_table(lines, '5').for_each(|line| println!("{line}"));
+    println!("\n## Questions with weights, as multiples of the linear scan by the same weights, k = 10\n");
+    print!("| points | d | n | weights | leaves read, none | leaves read | search | scan, AVX2 | scan, none | search / search, none ");
+    println!("| search, ones / none | scan, timed twice |");
+    println!("|---|---|---|---|---|---|---|---|---|---|---|---|");
+    of_table(lines, '6').for_each(|line| println!("{line}"));
 }
 
 fn main() {

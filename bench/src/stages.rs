@@ -25,7 +25,7 @@ impl Part {
     fn compare(&self, case: &Case, sound: &SoundIndex<&[u8]>, k: usize) {
         let mut kept = Vec::new();
         for q in case.questions.chunks(case.d) {
-            let found = sound.question(q, k, ONE.into(), &mut Tally::default()).unwrap();
+            let found = sound.question(q, None, k, ONE.into(), &mut Tally::default()).unwrap();
             self.scan.ask(q, k, &mut kept);
             let rows = kept.iter().map(|&(distance, place)| (distance, self.ids[place as usize - 1]));
             assert!(found.rows.iter().map(|r| (r.distance as u32, r.id)).eq(rows));

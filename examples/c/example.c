@@ -1,5 +1,5 @@
-/* A review: an index in 64 pages, acts that check it each time, then one check and acts without it, with and without a look for the
- * identifier, then a damaged byte. */
+/* A review: an index in 64 pages, acts that check it each time, questions with weights, then one check and acts without it, with and
+ * without a look for the identifier, then a damaged byte. */
 #include <inttypes.h>
 #include <stdio.h>
 #include <stdlib.h>
@@ -17,13 +17,16 @@ static void print(epoch_index_answer answer, const epoch_index_row *rows)
 {
     printf("question: code %" PRIu32 ", %zu rows, %" PRIu32 " leaves\n", answer.code, answer.count, answer.leaves);
     for (size_t i = 0; i < answer.count; i++)
-        printf("  id %" PRIu32 " at squared distance %" PRIu64 ", leaf %" PRIu64 ", stamp %" PRIu32 "\n", rows[i].id, rows[i].distance,
+        printf("  id %" PRIu32 " at distance %" PRIu64 ", leaf %" PRIu64 ", stamp %" PRIu32 "\n", rows[i].id, rows[i].distance,
                rows[i].position, rows[i].stamp);
 }
 
 int main(void)
 {
     const int16_t first[2] = {-300, 100}, second[2] = {100, -300}, third[2] = {-90, -90}, asked[2] = {-100, -100};
+    const int16_t other[2] = {-250, -250};
+    /* the first feature is trusted less than the second; none counts; one weight is too great */
+    const uint16_t weights[2] = {3, EPOCH_INDEX_MAX_WEIGHT}, zeros[2] = {0, 0}, heavy[2] = {3, EPOCH_INDEX_MAX_WEIGHT + 1};
     epoch_index_row rows[K];
     epoch_index_tally tally = {0, 0};
     uint32_t page, code;
@@ -37,16 +40,24 @@ int main(void)
     printf("insert 4: code %" PRIu32 "\n", epoch_index_insert(index, LENGTH, 4, EPOCH_INDEX_REM, TEN_PM, second, 2));
     printf("insert 4 again: code %" PRIu32 "\n", epoch_index_insert(index, LENGTH, 4, EPOCH_INDEX_REM, TEN_PM, first, 2));
     printf("insert 4 with stage 6: code %" PRIu32 "\n", epoch_index_insert(index, LENGTH, 4, 6, TEN_PM, first, 2));
-    print(epoch_index_question(index, LENGTH, asked, 2, K, EPOCH_INDEX_ALL_STAGES, rows, K, &tally), rows);
-    print(epoch_index_question(index, LENGTH, asked, 2, K, EPOCH_INDEX_STAGE_BIT(EPOCH_INDEX_N3), rows, K, &tally), rows);
-    print(epoch_index_question(index, LENGTH, asked, 2, K, 0, rows, K, &tally), rows);
+    print(epoch_index_question(index, LENGTH, asked, 2, NULL, 0, K, EPOCH_INDEX_ALL_STAGES, rows, K, &tally), rows);
+    print(epoch_index_question(index, LENGTH, asked, 2, NULL, 0, K, EPOCH_INDEX_STAGE_BIT(EPOCH_INDEX_N3), rows, K, &tally), rows);
+    print(epoch_index_question(index, LENGTH, asked, 2, NULL, 0, K, 0, rows, K, &tally), rows);
+    print(epoch_index_question(index, LENGTH, other, 2, NULL, 0, K, EPOCH_INDEX_ALL_STAGES, rows, K, &tally), rows);
+    print(epoch_index_question(index, LENGTH, other, 2, weights, 2, K, EPOCH_INDEX_ALL_STAGES, rows, K, &tally), rows);
+    print(epoch_index_question(index, LENGTH, other, 2, zeros, 2, K, EPOCH_INDEX_ALL_STAGES, rows, K, &tally), rows);
+    print(epoch_index_question(index, LENGTH, other, 2, weights, 1, K, EPOCH_INDEX_ALL_STAGES, rows, K, &tally), rows);
+    print(epoch_index_question(index, LENGTH, other, 2, weights, 0, K, EPOCH_INDEX_ALL_STAGES, rows, K, &tally), rows);
+    print(epoch_index_question(index, LENGTH, other, 2, heavy, 2, 0, EPOCH_INDEX_ALL_STAGES, rows, K, &tally), rows);
     printf("delete 7: code %" PRIu32 "\n", epoch_index_delete(index, LENGTH, 7));
 
     code = epoch_index_check(index, LENGTH, &page);
     printf("check: code %" PRIu32 ", page %" PRIu32 "\n", code, page);
     if (code == EPOCH_INDEX_OK) {
         printf("insert 9: code %" PRIu32 "\n", epoch_index_trusted_insert(index, LENGTH, 9, EPOCH_INDEX_N2, TEN_PM, third, 2));
-        print(epoch_index_trusted_question(index, LENGTH, asked, 2, K, NON_REM, rows, K, &tally), rows);
+        print(epoch_index_trusted_question(index, LENGTH, asked, 2, NULL, 0, K, NON_REM, rows, K, &tally), rows);
+        print(epoch_index_trusted_question(index, LENGTH, asked, 2, weights, 2, K, NON_REM, rows, K, &tally), rows);
+        print(epoch_index_trusted_question(index, LENGTH, asked, 2, weights, 0, K, NON_REM, rows, K, &tally), rows);
         printf("delete 4: code %" PRIu32 "\n", epoch_index_trusted_delete(index, LENGTH, 4));
         printf("insert 5, which is not live: code %" PRIu32 "\n",
                epoch_index_vouched_insert(index, LENGTH, 5, EPOCH_INDEX_UNSCORED, TEN_PM, second, 2));
@@ -59,7 +70,7 @@ int main(void)
     index[EPOCH_INDEX_PAGE_BYTES + 1] = 0xff;
     code = epoch_index_check(index, LENGTH, &page);
     printf("check of a damaged page: code %" PRIu32 ", page %" PRIu32 "\n", code, page);
-    print(epoch_index_question(index, LENGTH, asked, 2, K, EPOCH_INDEX_ALL_STAGES, rows, K, &tally), rows);
+    print(epoch_index_question(index, LENGTH, asked, 2, NULL, 0, K, EPOCH_INDEX_ALL_STAGES, rows, K, &tally), rows);
 
     free(index);
     return 0;

@@ -1,4 +1,4 @@
-//! A review: an index in 64 pages, checked acts, then the bytes opened once for acts without the check.
+//! A review: an index in 64 pages, checked acts, questions with weights, then the bytes opened once for acts without the check.
 use epoch_index::{Epoch, Found, Index, Refusal, Row, SoundIndex, Stage, StageSet, Tally, PAGE_BYTES};
 
 /// 16 November 2025 22:00 by the lab clock, in seconds since 1 January 2000.
@@ -9,7 +9,7 @@ fn print(asked: Result<Found, Refusal>) {
         Ok(found) => {
             println!("question: {} rows, {} leaves", found.rows.len(), found.leaves);
             for Row { id, distance, position, stamp, .. } in found.rows {
-                println!("  id {id} at squared distance {distance}, leaf {position}, stamp {stamp}");
+                println!("  id {id} at distance {distance}, leaf {position}, stamp {stamp}");
             }
         }
         Err(refusal) => println!("question refused: {} ({refusal})", refusal.code()),
@@ -26,14 +26,21 @@ fn main() -> Result<(), Box<dyn std::error::Error>> {
     if let Err(refusal) = index.insert(fourth, &[5, 5]) {
         println!("insert 4 again refused: {} ({refusal})", refusal.code());
     }
-    print(index.question(&[-100, -100], 2, StageSet::ALL, &mut tally));
-    print(index.question(&[-100, -100], 2, StageSet::of(&[Stage::N2, Stage::N3]), &mut tally));
-    print(index.question(&[-100, -100], 2, StageSet::EMPTY, &mut tally));
+    print(index.question(&[-100, -100], None, 2, StageSet::ALL, &mut tally));
+    print(index.question(&[-100, -100], None, 2, StageSet::of(&[Stage::N2, Stage::N3]), &mut tally));
+    print(index.question(&[-100, -100], None, 2, StageSet::EMPTY, &mut tally));
+    // the first feature is trusted less than the second; none counts; a weight is missing; one is too great
+    print(index.question(&[-250, -250], None, 2, StageSet::ALL, &mut tally));
+    print(index.question(&[-250, -250], Some(&[3, 1_000]), 2, StageSet::ALL, &mut tally));
+    print(index.question(&[-250, -250], Some(&[0, 0]), 2, StageSet::ALL, &mut tally));
+    print(index.question(&[-250, -250], Some(&[3]), 2, StageSet::ALL, &mut tally));
+    print(index.question(&[-250, -250], Some(&[3, 1_001]), 0, StageSet::ALL, &mut tally));
 
     let mut sound = SoundIndex::open(index.into_inner())?;
     sound.delete(7)?;
-    print(sound.question(&[-100, -100], 2, StageSet::ALL, &mut tally));
-    print(sound.question(&[-100, -100], 65, StageSet::ALL, &mut tally));
+    print(sound.question(&[-100, -100], None, 2, StageSet::ALL, &mut tally));
+    print(sound.question(&[-100, -100], Some(&[3, 1_000]), 2, StageSet::ALL, &mut tally));
+    print(sound.question(&[-100, -100], None, 65, StageSet::ALL, &mut tally));
     println!("tally: {} questions, {} leaves", tally.questions, tally.leaves);
 
     let mut damaged = sound.into_inner();

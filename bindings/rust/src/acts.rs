@@ -32,19 +32,35 @@ pub fn delete_point(index: &mut [u8], id: u32, point: &[i16]) -> Result<(), Refu
     Refusal::of(unsafe { sys::epoch_index_vouched_delete(index.as_mut_ptr(), index.len(), id, point.as_ptr(), point.len()) })
 }
 
-/// What is asked: a point, how many rows, and the stages looked among.
+/// What is asked: a point, the weights of its coordinates, if any, how many rows, and the stages looked among.
 #[derive(Clone, Copy)]
 pub struct Asked<'a> {
     pub point: &'a [i16],
+    pub weights: Option<&'a [u16]>,
     pub k: usize,
     pub stages: StageSet,
 }
 
 pub fn question(act: sys::Question, index: &[u8], asked: Asked, rows: &mut [Row], tally: &mut Tally) -> Result<Counts, Refusal> {
-    let Asked { point, k, stages } = asked;
-    // SAFETY: pointers and lengths are those of four borrows; `rows` and `tally` are borrowed alone, so they overlap nothing. `Row` and
-    // `Tally` have C's layout. Either question ends within them whatever the index holds.
-    let answer =
-        unsafe { act(index.as_ptr(), index.len(), point.as_ptr(), point.len(), k, stages.bits(), rows.as_mut_ptr(), rows.len(), tally) };
+    let Asked { point, weights, k, stages } = asked;
+    let (weighted, weights) = (weights.is_some(), weights.unwrap_or_default());
+    // SAFETY: pointers and lengths are those of five borrows, none of them null; `rows` and `tally` are borrowed alone, so they overlap
+    // nothing. `Row` and `Tally` have C's layout. Either question ends within them whatever the index holds.
+    let answer = unsafe {
+        act(
+            index.as_ptr(),
+            index.len(),
+            point.as_ptr(),
+            point.len(),
+            weighted,
+            weights.as_ptr(),
+            weights.len(),
+            k,
+            stages.bits(),
+            rows.as_mut_ptr(),
+            rows.len(),
+            tally,
+        )
+    };
     Refusal::of(answer.code).map(|()| Counts { rows: answer.count, leaves: answer.leaves })
 }

@@ -2,9 +2,10 @@
 //!
 //! An epoch is a point of 1 to 16 whole numbers from -1,000 to 1,000 with an identifier, a sleep stage and a stamp ([`Epoch`]). A question
 //! asks for the epochs nearest to a point among those of some stages ([`StageSet`]); of those at equal distance the one with the later stamp
-//! comes first, then the one with the lower identifier. An index is whole pages of 1,024 bytes, 2 to 16,384 of them, and lies in its bytes
-//! entirely: they may be stored and read back as they are. The work is done by libepoch_index.a, each function of which is proved to meet
-//! its contract; this crate is a thin safe layer over it.
+//! comes first, then the one with the lower identifier. It may carry a weight for each coordinate, 0 to 1,000; without weights each counts
+//! as 1. An index is whole pages of 1,024 bytes, 2 to 16,384 of them, and lies in its bytes entirely: they may be stored and read back as
+//! they are. The work is done by libepoch_index.a, each function of which is proved to meet its contract; this crate is a thin safe layer
+//! over it.
 //!
 //! - [`Index`]: five acts, each of which checks the whole index first and so is right about any bytes.
 //! - [`SoundIndex`]: checked once, by [`SoundIndex::open`], and changed by nothing but its own methods, which therefore need no check.
@@ -17,10 +18,13 @@
 //! index.insert(Epoch { id: 7, stage: Stage::N3, stamp: 816_645_600 }, &[-300, 100])?;
 //! index.insert(Epoch { id: 4, stage: Stage::Rem, stamp: 816_645_630 }, &[100, -300])?;
 //! let mut tally = Tally::default();
-//! let found = index.question(&[-100, -90], 1, StageSet::ALL, &mut tally)?;
+//! let found = index.question(&[-100, -90], None, 1, StageSet::ALL, &mut tally)?;
 //! assert_eq!((found.rows[0].id, found.rows[0].distance, found.leaves), (7, 76_100, 1));
-//! let found = index.question(&[-100, -90], 1, Stage::Rem.into(), &mut tally)?;
+//! let found = index.question(&[-100, -90], None, 1, Stage::Rem.into(), &mut tally)?;
 //! assert_eq!((found.rows[0].id, found.rows[0].distance, found.leaves), (4, 84_100, 1));
+//! // the first feature counts half as much as the second
+//! let found = index.question(&[0, 0], Some(&[500, 1_000]), 1, StageSet::ALL, &mut tally)?;
+//! assert_eq!((found.rows[0].id, found.rows[0].distance, found.leaves), (7, 55_000_000, 1));
 //! # Ok::<(), Refusal>(())
 //! ```
 //!
@@ -50,13 +54,16 @@ pub const MAX_K: usize = 64;
 pub const MAX_FEATURES: usize = 16;
 /// The most points that an index holds.
 pub const MAX_POINTS: usize = 65_535;
+/// The greatest weight of a coordinate.
+pub const MAX_WEIGHT: u16 = 1_000;
 
 /// A record that a question found. Its stage is no part of the row; [`TabledIndex::epoch`] tells it.
 #[derive(Clone, Copy, Debug, Default, PartialEq, Eq, Hash)]
 #[non_exhaustive]
 #[repr(C)]
 pub struct Row {
-    /// Its squared distance from the asked point.
+    /// Its squared distance from the asked point; of a question with weights the sum of weight times squared difference, at most
+    /// 64,000,000,000.
     pub distance: u64,
     /// Its identifier.
     pub id: u32,
@@ -126,13 +133,31 @@ impl<B: AsRef<[u8]>> Index<B> {
     }
 
     /// The k records nearest to a point among those of some stages. The tally counts the question and the leaves it read.
-    pub fn question(&self, point: &[i16], k: usize, stages: StageSet, tally: &mut Tally) -> Result<Found, Refusal> {
-        found(sys::epoch_index_question, self.as_bytes(), Asked { point, k, stages }, tally)
+    ///
+    /// With weights, one for each coordinate and none above [`MAX_WEIGHT`], distance is the sum of weight times squared difference; without
+    /// ([`None`]) it is as with weights of 1. No weights at all (`Some(&[])`) are a wrong number of them: [`Refusal::BadFeatures`].
+    pub fn question(
+        &self,
+        point: &[i16],
+        weights: Option<&[u16]>,
+        k: usize,
+        stages: StageSet,
+        tally: &mut Tally,
+    ) -> Result<Found, Refusal> {
+        found(sys::epoch_index_weighted_question, self.as_bytes(), Asked { point, weights, k, stages }, tally)
     }
 
     /// The same in lent rows, k of them or more. Rows past those written keep their contents.
-    pub fn question_into(&self, point: &[i16], k: usize, stages: StageSet, rows: &mut [Row], tally: &mut Tally) -> Result<Counts, Refusal> {
-        acts::question(sys::epoch_index_question, self.as_bytes(), Asked { point, k, stages }, rows, tally)
+    pub fn question_into(
+        &self,
+        point: &[i16],
+        weights: Option<&[u16]>,
+        k: usize,
+        stages: StageSet,
+        rows: &mut [Row],
+        tally: &mut Tally,
+    ) -> Result<Counts, Refusal> {
+        acts::question(sys::epoch_index_weighted_question, self.as_bytes(), Asked { point, weights, k, stages }, rows, tally)
     }
 
     /// The bytes.
@@ -174,7 +199,7 @@ impl<B: AsRef<[u8]> + AsMut<[u8]>> Index<B> {
 /// let mut bytes = Index::make(vec![0; 2048], 1).unwrap().into_inner();
 /// let sound = SoundIndex::open(&mut bytes[..]).unwrap();
 /// bytes[4] = 2;
-/// sound.question(&[0], 1, StageSet::ALL, &mut Tally::default()).unwrap();
+/// sound.question(&[0], None, 1, StageSet::ALL, &mut Tally::default()).unwrap();
 /// ```
 ///
 /// The bytes are a [`StableBytes`]: `Vec<u8>`, `Box<[u8]>`, `&[u8]` or `&mut [u8]`. A type of one's own, which could give other bytes than
@@ -213,14 +238,30 @@ impl<B: StableBytes> SoundIndex<B> {
         Ok(SoundIndex { bytes })
     }
 
-    /// The k records nearest to a point among those of some stages. The tally counts the question and the leaves it read.
-    pub fn question(&self, point: &[i16], k: usize, stages: StageSet, tally: &mut Tally) -> Result<Found, Refusal> {
-        found(sys::epoch_index_trusted_question, self.as_bytes(), Asked { point, k, stages }, tally)
+    /// The k records nearest to a point among those of some stages, by weights or without, as [`Index::question`] has them. The tally counts
+    /// the question and the leaves it read.
+    pub fn question(
+        &self,
+        point: &[i16],
+        weights: Option<&[u16]>,
+        k: usize,
+        stages: StageSet,
+        tally: &mut Tally,
+    ) -> Result<Found, Refusal> {
+        found(sys::epoch_index_trusted_weighted_question, self.as_bytes(), Asked { point, weights, k, stages }, tally)
     }
 
     /// The same in lent rows, k of them or more. Rows past those written keep their contents.
-    pub fn question_into(&self, point: &[i16], k: usize, stages: StageSet, rows: &mut [Row], tally: &mut Tally) -> Result<Counts, Refusal> {
-        acts::question(sys::epoch_index_trusted_question, self.as_bytes(), Asked { point, k, stages }, rows, tally)
+    pub fn question_into(
+        &self,
+        point: &[i16],
+        weights: Option<&[u16]>,
+        k: usize,
+        stages: StageSet,
+        rows: &mut [Row],
+        tally: &mut Tally,
+    ) -> Result<Counts, Refusal> {
+        acts::question(sys::epoch_index_trusted_weighted_question, self.as_bytes(), Asked { point, weights, k, stages }, rows, tally)
     }
 
     /// The index with a table of its live epochs and their points. Every leaf is read once.
@@ -233,7 +274,7 @@ impl<B: StableBytes> SoundIndex<B> {
     /// tabled.insert(epoch, &[-300])?;
     /// assert_eq!(tabled.insert(epoch, &[5]), Err(Refusal::AlreadyLive));
     /// assert_eq!((tabled.len(), tabled.point(7)), (1, Some(&[-300][..])));
-    /// let found = tabled.sound().question(&[0], 1, StageSet::ALL, &mut Tally::default())?;
+    /// let found = tabled.sound().question(&[0], None, 1, StageSet::ALL, &mut Tally::default())?;
     /// assert_eq!((found.rows[0].distance, tabled.epoch(found.rows[0].id)), (90_000, Some(epoch)));
     /// # Ok::<(), Refusal>(())
     /// ```

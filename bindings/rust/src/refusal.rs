@@ -11,7 +11,7 @@ pub enum Refusal {
     BadLength = 1,
     /// Index isn't sound.
     Unsound = 2,
-    /// d, or the number of coordinates, is wrong.
+    /// d, or the number of coordinates or weights, is wrong.
     BadFeatures = 3,
     /// A coordinate is out of range.
     BadCoordinate = 4,
@@ -32,7 +32,8 @@ pub enum Refusal {
     // 12 is given to nothing: evening out two leaves takes no page.
     /// Line not readable: the acts program alone gives it.
     UnreadableLine = 13,
-    // 14 is given to nothing yet.
+    /// A weight above 1,000.
+    BadWeight = 14,
     /// Stage above 5, which no [`Stage`](crate::Stage) has: given where one is made of a number.
     BadStage = 15,
     /// Stage set is 0 or above 63: [`StageSet::EMPTY`](crate::StageSet::EMPTY).
@@ -54,6 +55,7 @@ impl Refusal {
         Refusal::BadK,
         Refusal::FewRows,
         Refusal::UnreadableLine,
+        Refusal::BadWeight,
         Refusal::BadStage,
         Refusal::BadStageSet,
     ];
@@ -76,7 +78,7 @@ impl Refusal {
         match self {
             Refusal::BadLength => "index length isn't a permitted number of whole pages",
             Refusal::Unsound => "index isn't sound",
-            Refusal::BadFeatures => "d, or the number of coordinates, is wrong",
+            Refusal::BadFeatures => "d, or the number of coordinates or weights, is wrong",
             Refusal::BadCoordinate => "a coordinate is out of range",
             Refusal::ZeroIdentifier => "identifier 0",
             Refusal::AlreadyLive => "identifier already live",
@@ -86,6 +88,7 @@ impl Refusal {
             Refusal::BadK => "k out of range",
             Refusal::FewRows => "fewer than k rows lent",
             Refusal::UnreadableLine => "line not readable",
+            Refusal::BadWeight => "a weight above 1,000",
             Refusal::BadStage => "stage above 5",
             Refusal::BadStageSet => "stage set is 0 or above 63",
         }

@@ -23,6 +23,9 @@ pub type Question = unsafe extern "C" fn(
     index_len: usize,
     point: *const i16,
     point_len: usize,
+    weighted: bool,
+    weights: *const u16,
+    weights_len: usize,
     k: usize,
     stages: u8,
     rows: *mut Row,
@@ -36,11 +39,14 @@ extern "C" {
     pub fn epoch_index_insert(index: *mut u8, index_len: usize, id: u32, stage: u8, stamp: u32, point: *const i16, point_len: usize)
         -> u32;
     pub fn epoch_index_delete(index: *mut u8, index_len: usize, id: u32) -> u32;
-    pub fn epoch_index_question(
+    pub fn epoch_index_weighted_question(
         index: *const u8,
         index_len: usize,
         point: *const i16,
         point_len: usize,
+        weighted: bool,
+        weights: *const u16,
+        weights_len: usize,
         k: usize,
         stages: u8,
         rows: *mut Row,
@@ -57,11 +63,14 @@ extern "C" {
         point_len: usize,
     ) -> u32;
     pub fn epoch_index_trusted_delete(index: *mut u8, index_len: usize, id: u32) -> u32;
-    pub fn epoch_index_trusted_question(
+    pub fn epoch_index_trusted_weighted_question(
         index: *const u8,
         index_len: usize,
         point: *const i16,
         point_len: usize,
+        weighted: bool,
+        weights: *const u16,
+        weights_len: usize,
         k: usize,
         stages: u8,
         rows: *mut Row,

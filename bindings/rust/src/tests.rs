@@ -4,6 +4,7 @@ mod stack;
 mod stages;
 mod tabled;
 mod ties;
+mod weights;
 
 use super::*;
 use std::cell::Cell;
@@ -57,6 +58,13 @@ impl Random {
         StageSet::from_bits(1 + self.below(63) as u8).unwrap()
     }
 
+    /// Weights, or none: any, and some that are often equal.
+    fn weights(&mut self, d: usize) -> Option<Vec<u16>> {
+        let most = [0, 1, 2, 1000][self.below(4) as usize];
+        let weights = (0..d).map(|_| self.below(most + 1) as u16).collect();
+        (self.below(4) > 0).then_some(weights)
+    }
+
     fn point(&mut self, d: usize, reach: u64) -> Vec<i16> {
         (0..d).map(|_| self.below(2 * reach + 1) as i16 - reach as i16).collect()
     }
@@ -73,7 +81,7 @@ fn layout_is_that_of_the_header() {
 #[test]
 fn refusals_have_their_numbers_and_words() {
     let codes: Vec<u32> = Refusal::ALL.iter().map(|refusal| refusal.code()).collect();
-    assert_eq!(codes, [1, 2, 3, 4, 5, 6, 7, 8, 9, 10, 11, 13, 15, 16], "12 is given to nothing");
+    assert_eq!(codes, [1, 2, 3, 4, 5, 6, 7, 8, 9, 10, 11, 13, 14, 15, 16], "12 is given to nothing");
     for refusal in Refusal::ALL {
         assert_eq!(Refusal::of(refusal.code()), Err(*refusal));
         assert!(!refusal.to_string().is_empty());
@@ -103,10 +111,10 @@ fn leaves_read() {
     let mut tally = Tally::default();
     let cases: [(i16, usize, &[u32], u32); 3] = [(9, 1, &[9], 1), (9, 2, &[9, 8], 2), (1, 9, &[1, 2, 3, 4, 5, 6, 7, 8, 9], 1)];
     for (from, k, rows, leaves) in cases {
-        let found = index.question(&[from], k, StageSet::ALL, &mut tally).unwrap();
+        let found = index.question(&[from], None, k, StageSet::ALL, &mut tally).unwrap();
         assert_eq!((ids(&found), found.leaves), (rows.to_vec(), leaves));
     }
-    let all = index.question(&[1], 18, StageSet::ALL, &mut tally).unwrap();
+    let all = index.question(&[1], None, 18, StageSet::ALL, &mut tally).unwrap();
     assert_eq!((all.rows.len(), all.leaves), (17, 2));
     assert_eq!(all.rows[16], Row { distance: 256, id: 17, position: 1, stamp: 0 });
     assert_eq!(tally, Tally { questions: 4, leaves: 6 });
@@ -118,10 +126,10 @@ fn pages_run_out_and_come_back() {
     assert_eq!(index.insert(epoch(17), &[17]), Err(Refusal::NoPages));
     let mut index = upward(4, 17);
     index.delete(17).unwrap();
-    let all = index.question(&[1], 16, StageSet::ALL, &mut Tally::default()).unwrap();
+    let all = index.question(&[1], None, 16, StageSet::ALL, &mut Tally::default()).unwrap();
     assert_eq!(all.rows.iter().filter(|row| row.position == 0).count(), 8);
     index.delete(16).unwrap();
-    assert_eq!(index.question(&[1], 16, StageSet::ALL, &mut Tally::default()).unwrap().leaves, 1);
+    assert_eq!(index.question(&[1], None, 16, StageSet::ALL, &mut Tally::default()).unwrap().leaves, 1);
     for id in 16..=17 {
         index.insert(epoch(id), &[id as i16]).unwrap();
     }
@@ -142,16 +150,16 @@ fn refused_acts_change_nothing() {
     assert_eq!(index.delete(0), Err(Refusal::ZeroIdentifier));
     assert_eq!(index.delete(18), Err(Refusal::NotLive));
     for stages in [StageSet::ALL, StageSet::EMPTY] {
-        assert_eq!(index.question_into(&[], 1, stages, &mut rows, &mut tally), Err(Refusal::BadFeatures));
-        assert_eq!(index.question_into(&[-1001], 1, stages, &mut rows, &mut tally), Err(Refusal::BadCoordinate));
-        assert_eq!(index.question_into(&[1], 0, stages, &mut rows, &mut tally), Err(Refusal::BadK));
-        assert_eq!(index.question_into(&[1], 65, stages, &mut rows, &mut tally), Err(Refusal::BadK));
-        assert_eq!(index.question_into(&[1], usize::MAX, stages, &mut [], &mut tally), Err(Refusal::BadK));
-        assert_eq!(index.question_into(&[1], 3, stages, &mut rows, &mut tally), Err(Refusal::FewRows));
-        assert_eq!(index.question(&[1], 65, stages, &mut tally), Err(Refusal::BadK));
+        assert_eq!(index.question_into(&[], None, 1, stages, &mut rows, &mut tally), Err(Refusal::BadFeatures));
+        assert_eq!(index.question_into(&[-1001], None, 1, stages, &mut rows, &mut tally), Err(Refusal::BadCoordinate));
+        assert_eq!(index.question_into(&[1], None, 0, stages, &mut rows, &mut tally), Err(Refusal::BadK));
+        assert_eq!(index.question_into(&[1], None, 65, stages, &mut rows, &mut tally), Err(Refusal::BadK));
+        assert_eq!(index.question_into(&[1], None, usize::MAX, stages, &mut [], &mut tally), Err(Refusal::BadK));
+        assert_eq!(index.question_into(&[1], None, 3, stages, &mut rows, &mut tally), Err(Refusal::FewRows));
+        assert_eq!(index.question(&[1], None, 65, stages, &mut tally), Err(Refusal::BadK));
     }
-    assert_eq!(index.question_into(&[1], 2, StageSet::EMPTY, &mut rows, &mut tally), Err(Refusal::BadStageSet));
-    assert_eq!(index.question(&[1], 2, StageSet::EMPTY, &mut tally), Err(Refusal::BadStageSet));
+    assert_eq!(index.question_into(&[1], None, 2, StageSet::EMPTY, &mut rows, &mut tally), Err(Refusal::BadStageSet));
+    assert_eq!(index.question(&[1], None, 2, StageSet::EMPTY, &mut tally), Err(Refusal::BadStageSet));
     assert_eq!(index.as_bytes(), before);
     assert_eq!(rows, [mark; 2]);
     assert_eq!(tally, Tally { questions: 5, leaves: 6 });
@@ -164,7 +172,7 @@ fn rows_past_those_returned_keep_their_contents() {
     let mark = Row { distance: 7, id: 8, position: 9, stamp: 10 };
     let mut rows = [mark; 3];
     let mut tally = Tally { questions: u32::MAX, leaves: u32::MAX - 1 };
-    assert_eq!(index.question_into(&[4], 2, StageSet::ALL, &mut rows, &mut tally), Ok(Counts { rows: 1, leaves: 1 }));
+    assert_eq!(index.question_into(&[4], None, 2, StageSet::ALL, &mut rows, &mut tally), Ok(Counts { rows: 1, leaves: 1 }));
     assert_eq!(rows, [Row { distance: 9, id: 1, position: 0, stamp: epoch(1).stamp }, mark, mark]);
     assert_eq!(tally, Tally { questions: u32::MAX, leaves: u32::MAX });
 }
@@ -180,7 +188,7 @@ fn a_damaged_index_is_refused() {
     assert!((1..4).contains(&fault.page));
     assert_eq!(index.insert(epoch(18), &[18]), Err(Refusal::Unsound));
     assert_eq!(index.delete(1), Err(Refusal::Unsound));
-    assert_eq!(index.question(&[1], 1, StageSet::ALL, &mut Tally::default()), Err(Refusal::Unsound));
+    assert_eq!(index.question(&[1], None, 1, StageSet::ALL, &mut Tally::default()), Err(Refusal::Unsound));
     assert_eq!(SoundIndex::open(&copy[..]).unwrap_err(), fault);
     assert_eq!(damaged, copy);
 }
@@ -190,10 +198,10 @@ fn a_sound_index_asks_borrowed_bytes() {
     let stored = upward(4, 17).into_inner();
     let sound = SoundIndex::open(&stored[..]).unwrap();
     let mut tally = Tally::default();
-    assert_eq!(ids(&sound.question(&[9], 2, StageSet::ALL, &mut tally).unwrap()), [9, 8]);
+    assert_eq!(ids(&sound.question(&[9], None, 2, StageSet::ALL, &mut tally).unwrap()), [9, 8]);
     let mut rows = [Row::default(); 1];
-    assert_eq!(sound.question_into(&[9], 2, StageSet::ALL, &mut rows, &mut tally), Err(Refusal::FewRows));
-    assert_eq!(sound.question_into(&[9], 1, StageSet::ALL, &mut rows, &mut tally), Ok(Counts { rows: 1, leaves: 1 }));
+    assert_eq!(sound.question_into(&[9], None, 2, StageSet::ALL, &mut rows, &mut tally), Err(Refusal::FewRows));
+    assert_eq!(sound.question_into(&[9], None, 1, StageSet::ALL, &mut rows, &mut tally), Ok(Counts { rows: 1, leaves: 1 }));
     assert_eq!(tally, Tally { questions: 2, leaves: 3 });
 }
 
@@ -213,8 +221,8 @@ fn acts_are_right_about_bytes_that_change() {
     let index = Index::new(Changing(Cell::new(0), [whole, damaged]));
     let mut tally = Tally::default();
     for _ in 0..2 {
-        assert_eq!(index.question(&[9], 2, StageSet::ALL, &mut tally), Err(Refusal::Unsound));
-        assert_eq!(ids(&index.question(&[9], 2, StageSet::ALL, &mut tally).unwrap()), [9, 8]);
+        assert_eq!(index.question(&[9], None, 2, StageSet::ALL, &mut tally), Err(Refusal::Unsound));
+        assert_eq!(ids(&index.question(&[9], None, 2, StageSet::ALL, &mut tally).unwrap()), [9, 8]);
     }
 }
 

@@ -2,13 +2,15 @@
 ghost use mathlib.Core.Path.{_≡_};
 ghost use Prim.Native.Nat.{_+_, _≤_, min};
 ghost use lib.ListN.{length};
-ghost use Rattle.index_query.specs.Asking.{questionOf};
+ghost use Rattle.index_query.specs.Asking.{nearestOf};
 ghost use Rattle.index.specs.Acts.{insert, delete};
-ghost use Rattle.acts_output.specs.Puts.{mostPrinted, Puts};
+ghost use Rattle.index.specs.Questions.{QuestionOutcome};
+ghost use Rattle.acts_output.specs.Puts.{mostPrinted, rowsLent, Puts};
 ghost use Rattle.acts_step.specs.Steps.{askedBy, Acted, Replies};
 use acts_output::put_result;
 use acts_output::put_rows;
 use acts_text::ActLine;
+use index_answer::Answer;
 use index_query::Criteria;
 use index_refusals::Epoch;
 use search_rows::MAX_ROWS;
@@ -44,24 +46,47 @@ fn delete_line(index: &mut [u8], id: u32, number: u64, out: &mut [u8], at: usize
     put_result(out, at, number, code as u64, id as u64, 0, 0)
 }
 
+// Asks without weights.
+fn ask(
+    index: &[u8],
+    point: &[i16],
+    k: usize,
+    stages: u8,
+    highs: &mut [u64],
+    lows: &mut [u64],
+) -> Answer
+    requires { ⌜ (rowsLent ≤ length (now highs)) × (rowsLent ≤ length (now lows)) ⌝ }
+    ensures { λ r. ⌜ QuestionOutcome (now (index .entry)) (nearestOf (now (point .entry)) k stages) rowsLent
+        (now (highs .exit)) (now (lows .exit)) r ⌝ }
+{
+    let none = [0u16; 0];
+    let what = Criteria {
+        k,
+        stages,
+        weighted: false,
+    };
+    index::question_outcome(index, point, &none, what, MAX_ROWS, highs, lows)
+}
+
 // Asks, and prints a line for each row; with no rows one line with zeros.
 fn question_line(
     index: &[u8],
     point: &[i16],
-    what: Criteria,
+    k: usize,
+    stages: u8,
     number: u64,
     out: &mut [u8],
     at: usize,
 ) -> usize
     requires { ⌜ at + mostPrinted ≤ length (now out) ⌝ }
     ensures { λ r. ⌜
-        Puts (Replies (questionOf (now (point .entry)) what) (now (index .entry)) number)
+        Puts (Replies (nearestOf (now (point .entry)) k stages) (now (index .entry)) number)
         mostPrinted (now (out .entry)) (now (out .exit)) at r
         ⌝ }
 {
     let mut highs = [0u64; MAX_ROWS];
     let mut lows = [0u64; MAX_ROWS];
-    let answer = index::question_outcome(index, point, what, MAX_ROWS, &mut highs, &mut lows);
+    let answer = ask(index, point, k, stages, &mut highs, &mut lows);
     if answer.count == 0 {
         return put_result(
             out,
@@ -114,6 +139,5 @@ pub fn do_act(index: &mut [u8], a: ActLine, number: u64, out: &mut [u8], at: usi
         return insert_line(index, epoch, &coords[..d], number, out, at);
     }
     let k = a.k as usize;
-    let what = Criteria { k, stages: stage };
-    question_line(index, &coords[..d], what, number, out, at)
+    question_line(index, &coords[..d], k, stage, number, out, at)
 }

@@ -1,6 +1,6 @@
 // The acts for programs in C and other languages (include/epoch_index.h, include/epoch_index_unchecked.h). Each is the act of `index`,
 // `index_trusted` or `index_vouched` and promises what that promises.
-ghost use Rattle.index_query.specs.Asking.{nearestOf};
+ghost use Rattle.index_query.specs.Asking.{questionOf};
 ghost use Rattle.index_trusted.specs.Changes.{TrustedInserted, TrustedDeleted};
 ghost use Rattle.index_trusted.specs.Questions.{TrustedQuestioned};
 ghost use Rattle.index_vouched.specs.Vouched.{VouchedInserted, VouchedDeleted};
@@ -57,19 +57,25 @@ pub extern "C" fn epoch_index_check(index: &[u8], page: &mut u32) -> u32
 
 // The question for the k nearest records of a point among those whose stage is in a set: its rows go to those lent, and the caller's tally counts it.
 #[no_mangle]
-pub extern "C" fn epoch_index_question(
+pub extern "C" fn epoch_index_weighted_question(
     index: &[u8],
     point: &[i16],
+    weighted: bool,
+    weights: &[u16],
     k: usize,
     stages: u8,
     rows: &mut [Row],
     tally: &mut Tally,
 ) -> Answer
-    ensures { λ r. ⌜ Questioned (now (index .entry)) (nearestOf (now (point .entry)) k stages)
+    ensures { λ r. ⌜ Questioned (now (index .entry)) (questionOf (now (point .entry)) (now (weights .entry)) (record { k = k; stages = stages; weighted = weighted }))
         (now (rows .entry)) (now (tally .entry)) r (now (rows .exit)) (now (tally .exit)) ⌝ }
 {
-    let what = Criteria { k, stages };
-    index::question(index, point, what, rows, tally)
+    let what = Criteria {
+        k,
+        stages,
+        weighted,
+    };
+    index::question(index, point, weights, what, rows, tally)
 }
 
 // Inserts an identifier with its stage, its stamp and its point, without the check.
@@ -98,19 +104,25 @@ pub extern "C" fn epoch_index_trusted_delete(index: &mut [u8], id: u32) -> u32
 
 // The question without the check.
 #[no_mangle]
-pub extern "C" fn epoch_index_trusted_question(
+pub extern "C" fn epoch_index_trusted_weighted_question(
     index: &[u8],
     point: &[i16],
+    weighted: bool,
+    weights: &[u16],
     k: usize,
     stages: u8,
     rows: &mut [Row],
     tally: &mut Tally,
 ) -> Answer
-    ensures { λ r. ⌜ TrustedQuestioned (now (index .entry)) (nearestOf (now (point .entry)) k stages) (now (rows .entry))
+    ensures { λ r. ⌜ TrustedQuestioned (now (index .entry)) (questionOf (now (point .entry)) (now (weights .entry)) (record { k = k; stages = stages; weighted = weighted })) (now (rows .entry))
         (now (tally .entry)) r (now (rows .exit)) (now (tally .exit)) ⌝ }
 {
-    let what = Criteria { k, stages };
-    index_trusted::question(index, point, what, rows, tally)
+    let what = Criteria {
+        k,
+        stages,
+        weighted,
+    };
+    index_trusted::question(index, point, weights, what, rows, tally)
 }
 
 // Inserts an identifier, which the caller vouches is not live, with its stage, its stamp and its point, without the check.

@@ -10,3 +10,4 @@ pub mod BoundLaws
 pub mod ExampleLaws
 pub mod KeyLaws
 pub mod LoopLaws
+pub mod WeightLaws

@@ -12,8 +12,8 @@ use Rattle.geometry.proofs.IntLaws.{neg-abs}
 use Rattle.geometry.proofs.GapLaws.{gap-ge, gap-point, near, near-in, near-gap}
 use Rattle.geometry.proofs.ConvexLaws.{cost-mono}
 use Rattle.geometry.proofs.PairLaws.{InSide, InSlice}
-use Rattle.geometry.specs.Points.{InRange, isNeg, distance}
-use Rattle.geometry.specs.Features.{Feature, gapTo, costOf, distTo, plain, Ordered, Asks}
+use Rattle.geometry.specs.Points.{isNeg, distance}
+use Rattle.geometry.specs.Features.{Feature, gapTo, costOf, distTo, plain, Ordered}
 use Rattle.geometry.specs.Slices.{onAxis, reachOf, sideBy, sliceBy}
 
 -- a number of magnitude at most h is no nearer than the reach says, and one is as near
@@ -133,8 +133,3 @@ pub plain-length : (q : List ℤ) → length (plain q) ≡ length q
 unfolding plain
 plain-length [] = refl
 plain-length (q ∷ qs) = ap suc (plain-length qs)
-
-pub plain-asks : (W : ℕ) (q : List ℤ) → 1 ≤ W → InRange q → Asks W (plain q)
-unfolding plain
-plain-asks W [] l r = tt
-plain-asks W (q ∷ qs) l r = ((r .0, r .0, l), plain-asks W qs l (r .1))

@@ -41,6 +41,19 @@ unfoldable pub plain : List ℤ → List Feature
 plain [] = []
 plain (c ∷ cs) = record { low = c; high = c; weight = 1 } ∷ plain cs
 
+-- the question for a point with a weight for each coordinate (02, Q-1)
+unfoldable pub weighted : List ℕ → List ℤ → List Feature
+weighted [] cs = []
+weighted (w ∷ ws) [] = []
+weighted (w ∷ ws) (c ∷ cs) = record { low = c; high = c; weight = w } ∷ weighted ws cs
+
+-- "the sum of weight times squared difference" (02, Q-1)
+unfoldable pub weightedDistance : List ℕ → List ℤ → List ℤ → ℕ
+weightedDistance [] qs ps = 0
+weightedDistance (w ∷ ws) [] ps = 0
+weightedDistance (w ∷ ws) (q ∷ qs) [] = 0
+weightedDistance (w ∷ ws) (q ∷ qs) (p ∷ ps) = w * (natAbs (q -ℤ p) * natAbs (q -ℤ p)) + weightedDistance ws qs ps
+
 -- no range is empty
 abbrev pub Ordered : List Feature → Type 0
 Ordered [] = Unit {0}

@@ -7,6 +7,9 @@ pub const MAX_FEATURES: usize = 16;
 
 pub const MAX_COORDINATE: u16 = 1000;
 
+// The greatest weight of a feature.
+pub const MAX_WEIGHT: u16 = 1000;
+
 // The range of a coordinate as a caller has it.
 pub const MIN_SIGNED: i16 = -MAX_SIGNED;
 

@@ -4,8 +4,8 @@ use mathlib.Core.List.{List, [], _∷_}
 use Prim.Native.Nat.{ℕ, zero, suc, _-_, _<_}
 use native.Mathlib.Omega.{arith}
 use native.Mathlib.Nat.{suc-inj}
-use lib.ListN.{length, getD, replicate}
-use Rattle.geometry.specs.Features.{Feature, plain}
+use lib.ListN.{length, getD}
+use Rattle.geometry.specs.Features.{Feature, weighted}
 use Rattle.geometry.specs.Stored.{coordOf, pointOf}
 use Rattle.geometry_slices.specs.Questions.{featuresOf, reachAt, reachesOf, Prepared}
 
@@ -51,8 +51,10 @@ reach-at-place (x ∷ xs) [] m l k = absurd (let z : m < 0 = k in omega arith)
 reach-at-place (x ∷ xs) (y ∷ ys) zero l k = refl
 reach-at-place (x ∷ xs) (y ∷ ys) (suc m) l k = reach-at-place xs ys m (omega arith) (omega arith)
 
--- the unweighted question for a stored point: its low ends are its high ends, and every weight is 1
-pub ones-plain : (q : List ℕ) → featuresOf q q (replicate (length q) 1) ≡ plain (pointOf q)
-unfolding featuresOf plain pointOf
-ones-plain [] = refl
-ones-plain (x ∷ xs) = ap (λ (fs : List Feature). record { low = coordOf x; high = coordOf x; weight = 1 } ∷ fs) (ones-plain xs)
+-- the question for a stored point with weights: its low ends are its high ends
+pub stored-weighted : (q ws : List ℕ) → featuresOf q q ws ≡ weighted ws (pointOf q)
+unfolding featuresOf weighted pointOf
+stored-weighted [] [] = refl
+stored-weighted [] (w ∷ ws) = refl
+stored-weighted (x ∷ xs) [] = refl
+stored-weighted (x ∷ xs) (w ∷ ws) = ap (λ (fs : List Feature). record { low = coordOf x; high = coordOf x; weight = w } ∷ fs) (stored-weighted xs ws)

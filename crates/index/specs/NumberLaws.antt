@@ -4,9 +4,11 @@ use mathlib.Core.Bool.{Bool, true}
 use mathlib.Core.Logic.{inl, inr}
 use mathlib.Core.List.{List, [], _∷_}
 use Prim.Native.Nat.{ℕ}
+use lib.ListN.{length}
 use Rattle.lists.specs.Tests.{false-true, by-cases}
-use Rattle.sound_faults.specs.Decidable.{Either, le?, eq?, both?, permitted?, sound-index?}
-use Rattle.index_query.specs.Asking.{Question}
+use Rattle.sound_faults.specs.Decidable.{Either, le?, eq?, both?, all?, permitted?, sound-index?}
+use Rattle.geometry.specs.Numbers.{maxWeight}
+use Rattle.index_query.specs.Asking.{Weights, unweighed, weighed, Question, AsMany, Light}
 use Rattle.index_refusals.specs.Refusals.{Rule, First, makeRules, insertRules, deleteRules, questionRules, askedRules, checkRules}
 use Rattle.index.specs.Acts.{Act, insert, delete, question, check}
 
@@ -29,13 +31,22 @@ rulesOf (delete i) b = deleteRules b i
 rulesOf (question w n) b = questionRules b w n
 rulesOf check b = checkRules b
 
+-- the weights that a question carries
+many? : (d : ℕ) (ws : Weights) → Either (AsMany d ws)
+many? d unweighed = inl tt
+many? d (weighed ws) = eq? (length ws) d
+
+light? : (ws : Weights) → Either (Light ws)
+light? unweighed = inl tt
+light? (weighed ws) = all? (λ x. le? x maxWeight) ws
+
 asked? : (w : Question) (n : ℕ) → Decided (askedRules w n)
 asked? w n = (both? (le? _ _) (le? _ _), (le? _ _, (both? (le? _ _) (le? _ _), tt)))
 
 decided : (a : Act) (b : List ℕ) → Decided (rulesOf a b)
 decided (insert e p) b = (permitted? _, (sound-index? b, (eq? _ _, (true? _, (le? _ _, (le? _ _, (eq? _ _, (le? _ _, (le? _ _, tt)))))))))
 decided (delete i) b = (permitted? _, (sound-index? b, (le? _ _, (le? _ _, tt))))
-decided (question w n) b = (permitted? _, (sound-index? b, (eq? _ _, (true? _, asked? w n))))
+decided (question w n) b = (permitted? _, (sound-index? b, (both? (eq? _ _) (many? _ (w .weights)), (true? _, (light? (w .weights), asked? w n)))))
 decided check b = (permitted? _, (sound-index? b, tt))
 
 pub some-number : (a : Act) (b : List ℕ) → (n : ℕ) × First (rulesOf a b) n

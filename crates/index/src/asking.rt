@@ -16,36 +16,46 @@ use search_rows::Row;
 pub fn question_outcome(
     index: &[u8],
     point: &[i16],
+    weights: &[u16],
     what: Criteria,
     lent: usize,
     highs: &mut [u64],
     lows: &mut [u64],
 ) -> Answer
     requires { ⌜ Places (now highs) (now lows) ⌝ }
-    ensures { λ r. ⌜ QuestionOutcome (now (index .entry)) (questionOf (now (point .entry)) what) lent
+    ensures { λ r. ⌜ QuestionOutcome (now (index .entry)) (questionOf (now (point .entry)) (now (weights .entry)) what) lent
         (now (highs .exit)) (now (lows .exit)) r ⌝ }
 {
     let code = refuse_index(index);
     if code != 0 {
         return refused(code);
     }
-    index_trusted::question_outcome(index, point, what, lent, highs, lows)
+    index_trusted::question_outcome(index, point, weights, what, lent, highs, lows)
 }
 
 // The question for the nearest records of a point: its rows go to those lent, and the caller's tally counts it.
 pub fn question(
     index: &[u8],
     point: &[i16],
+    weights: &[u16],
     what: Criteria,
     rows: &mut [Row],
     tally: &mut Tally,
 ) -> Answer
-    ensures { λ r. ⌜ Questioned (now (index .entry)) (questionOf (now (point .entry)) what)
+    ensures { λ r. ⌜ Questioned (now (index .entry)) (questionOf (now (point .entry)) (now (weights .entry)) what)
         (now (rows .entry)) (now (tally .entry)) r (now (rows .exit)) (now (tally .exit)) ⌝ }
 {
     let mut highs = [0u64; MAX_ROWS];
     let mut lows = [0u64; MAX_ROWS];
-    let answer = question_outcome(index, point, what, rows.len(), &mut highs, &mut lows);
+    let answer = question_outcome(
+        index,
+        point,
+        weights,
+        what,
+        rows.len(),
+        &mut highs,
+        &mut lows,
+    );
     deliver(rows, tally, answer, &highs, &lows)
 }
 
@@ -53,15 +63,16 @@ pub fn question(
 pub fn ask(
     index: &[u8],
     point: &[i16],
+    weights: &[u16],
     what: Criteria,
     rows: [Row; MAX_ROWS],
     tally: Tally,
 ) -> Returned
-    ensures { λ r. ⌜ Questioned (now (index .entry)) (questionOf (now (point .entry)) what) rows tally (r .answer) (r .rows) (r .tally) ⌝ }
+    ensures { λ r. ⌜ Questioned (now (index .entry)) (questionOf (now (point .entry)) (now (weights .entry)) what) rows tally (r .answer) (r .rows) (r .tally) ⌝ }
 {
     let mut kept = rows;
     let mut count = tally;
-    let answer = question(index, point, what, &mut kept, &mut count);
+    let answer = question(index, point, weights, what, &mut kept, &mut count);
     Returned {
         answer: answer,
         rows: kept,

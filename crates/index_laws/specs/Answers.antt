@@ -4,7 +4,6 @@ use mathlib.Core.Bool.{true}
 use mathlib.Core.Logic.{inl, inr}
 use mathlib.Core.List.{List, _∷_, map}
 use Prim.Native.Nat.{ℕ}
-use lib.ListN.{length}
 use Rattle.geometry.specs.Stored.{inRange}
 use Rattle.pagestore.specs.Store.{viewOf}
 use Rattle.tree_model.specs.Trees.{leavesOf}
@@ -13,9 +12,9 @@ use Rattle.search_rows.specs.Rows.{distance}
 use Rattle.search_model.specs.Questions.{Exchanged, readingOrder, toRead}
 use Rattle.search_model.specs.Visit.{leavesRead}
 use Rattle.search_model.specs.OneStamp.{dueById, OneStamp}
-use Rattle.index_query.specs.Asking.{Question, sought}
+use Rattle.index_query.specs.Asking.{Question, sought, Light, Suited}
 use Rattle.index_query.specs.AskingLaws.{read-ordered, any-stamp-exact, one-stamp-exact, exchange-same}
-use Rattle.index_refusals.specs.Refusals.{First, badFeatures, badCoordinate, questionRules, askedRules}
+use Rattle.index_refusals.specs.Refusals.{First, badFeatures, badCoordinate, badWeight, questionRules, askedRules}
 use Rattle.index_refusals.specs.RefusalLaws.{question-sound, question-carried}
 use Rattle.index_refusals.specs.Outcomes.{foundWith}
 use Rattle.index_query.specs.Answers.{Answers, search-answers}
@@ -48,7 +47,7 @@ module _ (b c : List ℕ) (sb : SoundIndex b) (sc : SoundIndex c) (alike : viewO
   exchange-code m (inl e) = absurd (e .1 (sb .lent))
   exchange-code m (inr (l, inl e)) = absurd (e .1 sb)
   exchange-code m (inr (l, inr (s, rest))) =
-      inr (sc .lent, inr (sc, subst (λ (d : ℕ). First ((badFeatures, length (w .point) ≡ d) ∷ (badCoordinate, inRange (w .point) ≡ true) ∷ askedRules w n) m) (sym alike) rest))
+      inr (sc .lent, inr (sc, subst (λ (d : ℕ). First ((badFeatures, Suited d w) ∷ (badCoordinate, inRange (w .point) ≡ true) ∷ (badWeight, Light (w .weights)) ∷ askedRules w n) m) (sym alike) rest))
 
   -- The leaves of b's set have the same records in c, any other leaf the same record number, first key and last key: rows and
   -- count are the same, and the rows are the k nearest of the records that c holds.

@@ -1,5 +1,5 @@
 -- full-set (02, Q-2: "The full set returns what 01 does"), for the question as an act: with all six marks set, number, rows and count are those of
--- 01's question, which knows no stages. The tie rule is Q-9's; where all live stamps are equal it is 01's too (`plain-answer`).
+-- 01's question, which knows no stages and no weights. The tie rule is Q-9's; where all live stamps are equal it is 01's too (`plain-answer`).
 use mathlib.Core.Path.{_≡_, refl}
 use mathlib.Core.Bool.{true}
 use mathlib.Core.Logic.{inl, inr}
@@ -21,6 +21,13 @@ use Rattle.index_refusals.specs.Refusals.{Rule, First, questionRules, badLength
 use Rattle.index_refusals.specs.RefusalLaws.{question-sound, question-carried, put-in}
 use Rattle.index_refusals.specs.Outcomes.{foundWith}
 
+-- its rules of the number of rows
+abbrev pub rowRules : ℕ → ℕ → List Rule
+rowRules k n =
+    (badK, (1 ≤ k) × (k ≤ maxRows))
+    ∷ (fewRows, k ≤ n)
+    ∷ []
+
 -- 01's table of a question: the k nearest of a point, with n rows lent (sound as 02 has it: with a stored stage above 5 the number is 2)
 abbrev pub plainRules : List ℕ → List ℤ → ℕ → ℕ → List Rule
 plainRules b p k n =
@@ -28,9 +35,11 @@ plainRules b p k n =
     ∷ (unsound, SoundIndex b)
     ∷ (badFeatures, length p ≡ viewOf b .d)
     ∷ (badCoordinate, inRange p ≡ true)
-    ∷ (badK, (1 ≤ k) × (k ≤ maxRows))
-    ∷ (fewRows, k ≤ n)
-    ∷ []
+    ∷ rowRules k n
+
+-- the rule of the set, of the full one
+abbrev fullRule : Rule
+fullRule = (badStageSet, (1 ≤ fullSet) × (fullSet ≤ fullSet))
 
 -- a last rule that holds can be left out
 left-out : (rules : List Rule) (rule : Rule) (m : ℕ) → rule .1 → First (rules ++ (rule ∷ [])) m → First rules m
@@ -43,12 +52,21 @@ module _ (b : List ℕ) (p : List ℤ) (k n : ℕ) where
   abbrev pub ofAll : Question
   ofAll = nearestOf p k fullSet
 
-  -- 16 is never given, and each other number where 01 gives it
+  -- 14 and 16 are never given, and each other number where 01 gives it
   pub full-code : (m : ℕ) → First (questionRules b ofAll n) m → First (plainRules b p k n) m
-  full-code m f = left-out (plainRules b p k n) (badStageSet, (1 ≤ fullSet) × (fullSet ≤ fullSet)) m (lit≤ tt, lit≤ tt) f
+  full-code m (inl e) = inl e
+  full-code m (inr (l, inl e)) = inr (l, inl e)
+  full-code m (inr (l, inr (s, inl e))) = inr (l, inr (s, inl (e .0, λ d. e .1 (d, tt))))
+  full-code m (inr (l, inr (s, inr (d, inl e)))) = inr (l, inr (s, inr (d .0, inl e)))
+  full-code m (inr (l, inr (s, inr (d, inr (r, inl e))))) = absurd (e .1 tt)
+  full-code m (inr (l, inr (s, inr (d, inr (r, inr f))))) = inr (l, inr (s, inr (d .0, inr (r, left-out (rowRules k n) fullRule m (lit≤ tt, lit≤ tt) (f .1)))))
 
   pub plain-code : (m : ℕ) → First (plainRules b p k n) m → First (questionRules b ofAll n) m
-  plain-code m f = put-in (plainRules b p k n) [] (badStageSet, (1 ≤ fullSet) × (fullSet ≤ fullSet)) m (λ h. (lit≤ tt, lit≤ tt)) f
+  plain-code m (inl e) = inl e
+  plain-code m (inr (l, inl e)) = inr (l, inl e)
+  plain-code m (inr (l, inr (s, inl e))) = inr (l, inr (s, inl (e .0, λ d. e .1 (d .0))))
+  plain-code m (inr (l, inr (s, inr (d, inl e)))) = inr (l, inr (s, inr ((d, tt), inl e)))
+  plain-code m (inr (l, inr (s, inr (d, inr (r, f))))) = inr (l, inr (s, inr ((d, tt), inr (r, inr (tt, put-in (rowRules k n) [] fullRule m (λ h. (lit≤ tt, lit≤ tt)) f)))))
 
   -- rows and count: the k nearest of all live records, and the number of leaves in the set that goes with them
   pub full-answer : First (plainRules b p k n) 0 → foundWith 0 b ofAll ≡ plainDue ranking (viewOf b) (sought ofAll)

@@ -7,3 +7,4 @@ pub mod TrustedActs
 pub mod VouchedActs
 pub mod DeletePages
 pub mod Examples
+pub mod Weights

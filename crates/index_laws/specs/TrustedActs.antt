@@ -11,7 +11,7 @@ use Rattle.search_model.specs.Visit.{Answer as Found}
 use Rattle.search_model.specs.Questions.{AgreeBut, unreadPages}
 use Rattle.search_model.proofs.SoundLaws.{tree-level}
 use Rattle.search_model.proofs.UnreadLaws.{agree-field}
-use Rattle.index_query.specs.Asking.{Question, sought}
+use Rattle.index_query.specs.Asking.{Question, sought, AsMany}
 use Rattle.index_query.specs.AskingLaws.{header-read, unread-same}
 use Rattle.index_refusals.specs.Refusals.{First, insertRules, deleteRules, questionRules, checkRules}
 use Rattle.index_refusals.specs.RefusalLaws.{first-one, none-fails, Carried, carried-asked, question-sound, question-carried}
@@ -100,13 +100,13 @@ module _ (b : List ℕ) (w : Question) (n : ℕ) (h : First (questionRules b w n
   unfolding viewOf
   permitted = subst Permitted (sym (agree .lent)) (sound .lent)
 
-  suits : Suits c (w .point)
+  suits : Suits c (w .point) × AsMany (viewOf c .d) (w .weights)
   suits =
       let low : 1 ≤ viewOf b .d = sound .d .0 in
       let high : viewOf b .d ≤ 16 = sound .d .1 in
-      let e : length (w .point) ≡ viewOf b .d = carried .features in
-      (omega arith, omega arith, e ∙ sym features-same)
+      let e : length (w .point) ≡ viewOf b .d = carried .features .0 in
+      ((omega arith, omega arith, e ∙ sym features-same), subst (λ (d : ℕ). AsMany d (w .weights)) (sym features-same) (carried .features .1))
 
   pub trusted-unread : First (trustedQuestion c w n) 0 × (foundWith 0 c w ≡ foundWith 0 b w)
   trusted-unread =
-      (none-fails (trustedQuestion c w n) (permitted, (level-low, (suits, (carried .ranges, carried-asked (viewOf b .d) w n carried)))), unread-same b sound w (carried .features) (carried .some) c agree)
+      (none-fails (trustedQuestion c w n) (permitted, (level-low, (suits, (carried .ranges, (carried .light, carried-asked (viewOf b .d) w n carried))))), unread-same b sound w (carried .features) (carried .some) c agree)

@@ -7,9 +7,7 @@ use lib.ListN.{length, take}
 use Rattle.lists.specs.Basics.{All}
 use Rattle.lists.specs.Sorting.{count, filter, sort}
 use lib.IntN.{ℤ}
-use Rattle.geometry.specs.Points.{distance}
 use Rattle.geometry.specs.Features.{distTo}
-use Rattle.geometry.proofs.SliceLaws.{plain-distance}
 use Rattle.pagestore_page.specs.declared.Record.{Record}
 use Rattle.pagestore.specs.Store.{viewOf}
 use Rattle.tree_model.specs.Trees.{pointIn, live, leavesOf}
@@ -20,8 +18,8 @@ use Rattle.search_model.specs.Asked.{inStages, fullSet, distanceTo}
 use Rattle.search_model.specs.Visit.{Answer as Found, ranking, found}
 use Rattle.search_model.specs.Questions.{liveCandidates, Called, rowsOf, toRead}
 use Rattle.search_model.proofs.ExactLaws.{rows-by-stamp}
-use Rattle.index_query.specs.Asking.{Question, sought, bare, bareOf}
-use Rattle.index_query.specs.AskingLaws.{among-live, full-live, plain-gap, live-rows, called-for, sought-exact}
+use Rattle.index_query.specs.Asking.{Question, sought, distanceBy, Suited, bare, bareOf}
+use Rattle.index_query.specs.AskingLaws.{distance-by, gap-by, among-live, full-live, live-rows, called-for, sought-exact}
 
 -- f answers the question w on index b
 pub record Answers (b : List ℕ) (w : Question) (f : Found) : Type 0 where
@@ -34,9 +32,10 @@ pub record Answers (b : List ℕ) (w : Question) (f : Found) : Type 0 where
   -- looked for are the live records whose stage is in the set (02); with the full set each of them is
   pub among : liveCandidates (viewOf b) (sought w) ≡ filter (λ r. inStages (w .stages) (r .stage)) (live (viewOf b))
   pub full : w .stages ≡ fullSet → liveCandidates (viewOf b) (sought w) ≡ live (viewOf b)
-  -- a record's distance is the squared distance from the point, as is that of any point of the grid
-  pub squared : (r : Record) → distanceTo (sought w) r ≡ distance (w .point) (pointIn (length (w .point)) r)
-  pub grid : (x : List ℤ) → distTo (sought w .features) x ≡ distance (w .point) x
+  -- a record's distance is the squared distance from the point, with weights the sum of weight times squared difference (02, Q-1), as is
+  -- that of any point of the grid
+  pub squared : (r : Record) → distanceTo (sought w) r ≡ distanceBy (w .weights) (w .point) (pointIn (length (w .point)) r)
+  pub grid : (x : List ℤ) → distTo (sought w .features) x ≡ distanceBy (w .weights) (w .point) x
   -- the number of leaves in demand 3's set
   pub leaves : f .leaves ≡ count (toRead (viewOf b) (sought w)) (leavesOf (viewOf b))
   -- these are the leaves holding records whose span has a grid point in range no farther from the point than the last row, or all of
@@ -48,8 +47,8 @@ pub record Answers (b : List ℕ) (w : Question) (f : Found) : Type 0 where
 abbrev pub AnswersIfSound : List ℕ → Question → Found → Type 0
 AnswersIfSound b w f = SoundIndex b → Answers b w f
 
--- what the search finds on a sound index of as many features as the point has coordinates
-pub search-answers : (b : List ℕ) → SoundIndex b → (w : Question) → length (w .point) ≡ viewOf b .d → 1 ≤ w .k → Answers b w (found b (sought w))
+-- what the search finds on a sound index that the question suits
+pub search-answers : (b : List ℕ) → SoundIndex b → (w : Question) → Suited (viewOf b .d) w → 1 ≤ w .k → Answers b w (found b (sought w))
 search-answers b s w d one =
     let e = sought-exact b s w d one in
     record {
@@ -58,8 +57,8 @@ search-answers b s w d one =
       each = live-rows w (viewOf b);
       among = among-live w (viewOf b);
       full = full-live b s w;
-      squared = plain-gap w;
-      grid = plain-distance (w .point);
+      squared = gap-by (viewOf b .d) w d;
+      grid = distance-by (w .weights) (w .point);
       leaves = ap (λ (f : Found). f .leaves) e;
       set = called-for b s w d;
     }

@@ -1,30 +1,32 @@
 -- The search's promises, of a question.
-use mathlib.Core.Path.{_≡_, refl, sym, ap, ap₂, _∙_}
+use mathlib.Core.Path.{_≡_, refl, sym, ap, ap₂, _∙_, subst}
 use mathlib.Core.Bool.{true}
 use mathlib.Core.List.{List, [], _∷_, _++_, map}
 use Prim.Native.Nat.{ℕ, suc, _≤_}
+use lib.IntN.{ℤ}
 use lib.ListN.{length}
 use Rattle.lists.specs.Basics.{All, concatMap}
 use Rattle.lists.specs.Counts.{mult}
 use Rattle.lists.specs.Sorting.{count, filter}
 use Rattle.lists.specs.SortingLaws.{filter-append}
 use Rattle.lists.specs.ConcatMapLaws.{map-append}
-use Rattle.geometry.specs.Points.{distance}
-use Rattle.geometry.specs.Features.{plain}
-use Rattle.geometry.proofs.SliceLaws.{plain-distance, plain-length}
+use Rattle.geometry.specs.Features.{distTo}
+use Rattle.geometry.proofs.SliceLaws.{plain-distance}
+use Rattle.geometry.proofs.WeightLaws.{weighted-distance}
 use Rattle.pagestore_page.specs.declared.Record.{Record}
 use Rattle.pagestore.specs.Store.{View, viewOf}
 use Rattle.tree_model.specs.Trees.{Item, leaves, treeOf, live, leavesOf, pointIn}
 use Rattle.tree_model.specs.Sound.{SoundIndex}
 use Rattle.search_theory.specs.Nearest.{nearest}
 use Rattle.search_rows.specs.Rows.{distance as rowDistance}
+use Rattle.search_model.specs.declared.Choice.{Choice}
 use Rattle.search_model.specs.Asked.{inStages, fullSet, distanceTo, candidate, Askable}
 use Rattle.search_model.specs.Branches.{rowOf, rowsAmong}
 use Rattle.search_model.specs.Visit.{ranking, found, leavesRead}
 use Rattle.search_model.specs.Questions.{rowsFrom, rowsOf, liveCandidates, Exchanged, AgreeBut, Called, readingOrder, toRead, unreadPages}
 use Rattle.search_model.specs.FullSet.{plainDue}
 use Rattle.search_model.specs.OneStamp.{idRanking, dueById, OneStamp, OneStampLive}
-use Rattle.search_model.proofs.AskedLaws.{plain-suits}
+use Rattle.search_model.proofs.AskedLaws.{plain-suits, weighted-suits}
 use Rattle.search_model.proofs.SoundLaws.{leafItems, records-leaves}
 use Rattle.search_model.proofs.ExactLaws.{found-exact, leaves-read}
 use Rattle.search_model.proofs.ExchangeLaws.{exchange}
@@ -32,7 +34,32 @@ use Rattle.search_model.proofs.UnreadLaws.{unread-header, unread-bytes}
 use Rattle.search_model.proofs.SetLaws.{set-points}
 use Rattle.search_model.proofs.FullSetLaws.{live-full, full-set}
 use Rattle.search_model.proofs.OneStampLaws.{found-any-stamp, found-one-stamp, found-plain}
-use Rattle.index_query.specs.Asking.{Question, choiceOf, sought, bare, bareOf}
+use Rattle.index_query.specs.Asking.{Weights, unweighed, weighed, Question, choiceOf, featuresBy, sought, distanceBy, AsMany, Suited, bare, bareOf}
+
+-- ---- WITH WEIGHTS AND WITHOUT
+
+suits-by : (d : ℕ) (ws : Weights) (p : List ℤ) (k : ℕ) (c : Choice) → length p ≡ d → AsMany d ws → Askable d (record { features = featuresBy ws p; k = k; choice = c })
+suits-by d unweighed p k c e a = plain-suits d p k c e
+suits-by d (weighed ws) p k c e a = weighted-suits d ws p k c e a
+
+pub distance-by : (ws : Weights) (q p : List ℤ) → distTo (featuresBy ws q) p ≡ distanceBy ws q p
+distance-by unweighed q p = plain-distance q p
+distance-by (weighed ws) q p = weighted-distance ws q p
+
+module _ (d : ℕ) (w : Question) (s : Suited d w) where
+  pub question-suits : Askable d (sought w)
+  question-suits = suits-by d (w .weights) (w .point) (w .k) (choiceOf w) (s .0) (s .1)
+
+  -- there are as many weights as coordinates
+  pub weights-own : AsMany (length (w .point)) (w .weights)
+  weights-own = subst (λ (n : ℕ). AsMany n (w .weights)) (sym (s .0)) (s .1)
+
+  -- a record's distance: its point's, squared, with weights the sum of weight times squared difference
+  pub gap-by : (r : Record) → distanceTo (sought w) r ≡ distanceBy (w .weights) (w .point) (pointIn (length (w .point)) r)
+  unfolding distanceTo
+  gap-by r =
+      ap (λ (n : ℕ). distTo (sought w .features) (pointIn n r)) (question-suits .same ∙ sym (s .0))
+      ∙ distance-by (w .weights) (w .point) (pointIn (length (w .point)) r)
 
 -- ---- THE ROWS OF THE LIVE RECORDS
 
@@ -41,11 +68,6 @@ module _ (w : Question) where
   pub among-live : (v : View) → liveCandidates v (sought w) ≡ filter (λ r. inStages (w .stages) (r .stage)) (live v)
   unfolding candidate
   among-live v = refl
-
-  -- the squared Euclidean distance: a plain point's
-  pub plain-gap : (r : Record) → distanceTo (sought w) r ≡ distance (w .point) (pointIn (length (w .point)) r)
-  unfolding distanceTo
-  plain-gap r = plain-distance (w .point) (pointIn (length (plain (w .point))) r) ∙ ap (λ (n : ℕ). distance (w .point) (pointIn n r)) (plain-length (w .point))
 
   bare-leaf : (n : ℕ) (rs : List Record) → map bare (map (rowOf (sought w) n) rs) ≡ map (bareOf w) rs
   unfolding rowOf
@@ -72,10 +94,10 @@ full-live b s w e = live-full b s (sought w) e
 
 -- ---- WHAT THE SEARCH FINDS
 
--- on a sound index of as many features as the point has coordinates
-module _ (b : List ℕ) (s : SoundIndex b) (w : Question) (d : length (w .point) ≡ viewOf b .d) where
+-- on a sound index that the question suits
+module _ (b : List ℕ) (s : SoundIndex b) (w : Question) (d : Suited (viewOf b .d) w) where
   suits : Askable (viewOf b .d) (sought w)
-  suits = plain-suits (viewOf b .d) (w .point) (w .k) (choiceOf w) d
+  suits = question-suits (viewOf b .d) w d
 
   pub called-for : All (λ t. (toRead (viewOf b) (sought w) t ≡ true → Called (viewOf b) (sought w) t) × (Called (viewOf b) (sought w) t → toRead (viewOf b) (sought w) t ≡ true)) (leavesOf (viewOf b))
   called-for = set-points b s (sought w) suits

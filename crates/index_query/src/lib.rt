@@ -1,6 +1,9 @@
 // What a caller asks, as the search takes it; its definitions say when a question is answered.
+ghost use mathlib.Core.Path.{_≡_};
+ghost use mathlib.Core.Bool.{true};
 ghost use Prim.Native.Nat.{_≤_};
 ghost use lib.ListN.{length, replicate};
+ghost use Rattle.lists.specs.Basics.{if};
 ghost use Rattle.geometry_slices.specs.Questions.{LaidOut};
 ghost use Rattle.index_query.specs.Asking.{questionOf, Searchable, QueryFor};
 use geometry::MAX_FEATURES;
@@ -13,26 +16,30 @@ use search_model::Choice;
 pub struct Criteria {
     pub k: usize, // how many of its nearest
     pub stages: u8, // of which stages: bit s for stage s
+    pub weighted: bool, // whether weights are carried
 }
 
-// The features of a point whose coordinates are as stored: each of weight 1.
-fn plain_features(q: &[u16]) -> [u16; 64]
-    requires { ⌜ length (now q) ≤ 16 ⌝ }
-    ensures { λ r. ⌜ LaidOut (now (q .entry)) (now (q .entry)) (replicate (length (now (q .entry))) 1) r ⌝ }
+// The features of a point whose coordinates are as stored: each of the weight carried for it, or of weight 1.
+fn features_by(q: &[u16], weights: &[u16], weighted: bool) -> [u16; 64]
+    requires { ⌜ (length (now q) ≤ 16) × (weighted ≡ true → length (now weights) ≡ length (now q)) ⌝ }
+    ensures { λ r. ⌜ LaidOut (now (q .entry)) (now (q .entry)) (if weighted (now (weights .entry)) (replicate (length (now (q .entry))) 1)) r ⌝ }
 {
+    if weighted {
+        return ask(q, q, weights);
+    }
     let ones = [1u16; MAX_FEATURES];
     let n = q.len();
     ask(q, q, &ones[..n])
 }
 
-// The query for a point and what else is asked.
-pub fn query_of(point: &[i16], what: Criteria) -> Query
-    requires { ⌜ Searchable (questionOf (now point) what) ⌝ }
-    ensures { λ r. ⌜ QueryFor (questionOf (now (point .entry)) what) r ⌝ }
+// The query for a point, its weights and what else is asked.
+pub fn query_of(point: &[i16], weights: &[u16], what: Criteria) -> Query
+    requires { ⌜ Searchable (questionOf (now point) (now weights) what) ⌝ }
+    ensures { λ r. ⌜ QueryFor (questionOf (now (point .entry)) (now (weights .entry)) what) r ⌝ }
 {
     let n = point.len();
     let slots = slots_of(point);
-    let features = plain_features(&slots[..n]);
+    let features = features_by(&slots[..n], weights, what.weighted);
     let choice = Choice {
         stages: what.stages,
     };

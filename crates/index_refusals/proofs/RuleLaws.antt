@@ -1,22 +1,24 @@
 -- The first rule that refuses, from the tests of the code.
-use mathlib.Core.Path.{_≡_, refl, _∙_, subst}
-use mathlib.Core.Bool.{Bool, true}
+use mathlib.Core.Path.{_≡_, refl, sym, _∙_, subst}
+use mathlib.Core.Bool.{Bool, true, false}
 use mathlib.Core.Logic.{_≢_, inl, inr}
 use mathlib.Core.List.{List, [], _∷_, _++_}
-use Prim.Native.Nat.{ℕ, _≤_, _<_}
+use Prim.Native.Nat.{ℕ, _+_, _≤_, _<_}
 use native.Mathlib.Omega.{arith}
 use lib.IntN.{ℤ}
-use lib.ListN.{length}
-use Rattle.lists.specs.Tests.{three}
+use lib.ListN.{length, getD}
+use Rattle.lists.specs.Basics.{All}
+use Rattle.lists.specs.Tests.{false-true, decide, three}
 use Rattle.geometry.specs.Stored.{inRange}
 use Rattle.pagestore.specs.Store.{viewOf, fieldAt, features, total}
-use Rattle.index_query.specs.Asking.{Question}
+use Rattle.geometry.specs.Numbers.{maxWeight}
+use Rattle.index_query.specs.Asking.{Weights, weightsIf, Question, AsMany, Light}
 use Rattle.tree_model.specs.Sound.{maxStage}
 use Rattle.index_refusals.specs.declared.Epoch.{Epoch}
-use Rattle.index_refusals.specs.Refusals.{Rule, First, zeroId, badStage, askedRules}
+use Rattle.index_refusals.specs.Refusals.{Rule, First, badFeatures, badCoordinate, badWeight, zeroId, badStage, askedRules}
 use Rattle.index_refusals.specs.RefusalLaws.{Hold, numbered, all-hold, refused-before, refused-after, later}
-use Rattle.lists.specs.Judges.{Decides}
-use Rattle.index_refusals.specs.Trusted.{Suits, trustedPoint, trustedInsert, trustedQuestion, pairRules}
+use Rattle.lists.specs.Judges.{Decides, pass, fault}
+use Rattle.index_refusals.specs.Trusted.{Suits, trustedNumber, trustedPoint, trustedInsert, trustedQuestion, weighingRules, pairRules}
 
 -- ---- THE HEADER'S FIELDS
 
@@ -28,6 +30,10 @@ features-view b = refl
 pub suits-view : (b : List ℕ) (p : List ℤ) (d : ℕ) (t : Bool) → d ≡ fieldAt features b → Decides ((1 ≤ length p) × (length p ≤ 16) × (length p ≡ d)) t → Decides (Suits b p) t
 suits-view b p d t e h = subst (λ (x : ℕ). Decides ((1 ≤ length p) × (length p ≤ 16) × (length p ≡ x)) t) (e ∙ features-view b) h
 
+-- and whether the weights carried are as many
+pub many-view : (b : List ℕ) (ws : Weights) (d : ℕ) (t : Bool) → d ≡ fieldAt features b → Decides (AsMany d ws) t → Decides (AsMany (viewOf b .d) ws) t
+many-view b ws d t e h = subst (λ (x : ℕ). Decides (AsMany x ws) t) (e ∙ features-view b) h
+
 pub total-view : (b : List ℕ) → fieldAt total b ≡ viewOf b .total
 unfolding viewOf
 total-view b = refl
@@ -37,12 +43,41 @@ total-view b = refl
 pub not-below : (m n : ℕ) → ¬ (m < n) → n ≤ m
 not-below m n w = three m n (λ l. absurd (w l)) (λ e. omega (arith, e)) (λ g. omega (arith, g))
 
+-- ---- WEIGHTS
+
+module _ (ws : List ℕ) where
+  -- those carried are as many as the features, by a test
+  pub carried-many : (d : ℕ) (t r : Bool) → t ≡ true → (r ≡ true → length ws ≡ d) → (r ≡ false → length ws ≢ d) → Decides (AsMany d (weightsIf t ws)) r
+  carried-many d true true e f g = pass (f refl)
+  carried-many d true false e f g = fault (g refl)
+  carried-many d false r e f g = false-true e
+
+  pub none-many : (d : ℕ) (t : Bool) → t ≡ false → Decides (AsMany d (weightsIf t ws)) true
+  none-many d true e = false-true (sym e)
+  none-many d false e = pass tt
+
+  pub carried-light : (t r : Bool) → t ≡ true → Decides (All (λ x. x ≤ maxWeight) ws) r → Decides (Light (weightsIf t ws)) r
+  carried-light true r e h = h
+  carried-light false r e h = false-true e
+
+  pub none-light : (t : Bool) → t ≡ false → Decides (Light (weightsIf t ws)) true
+  none-light true e = false-true (sym e)
+  none-light false e = pass tt
+
+  -- one weight more
+  pub light-more : (m : ℕ) → ((i : ℕ) → i < m → getD ws i 0 ≤ maxWeight) → getD ws m 0 ≤ maxWeight → (i : ℕ) → i < m + 1 → getD ws i 0 ≤ maxWeight
+  light-more m h l i k = decide i m (λ e. rw e l) (λ n. h i (omega (arith, n)))
+
 -- ---- RULES OF WHICH NONE REFUSES
 
 pub none-refuses : (rules : List Rule) (n : ℕ) → numbered rules ≡ true → First rules n → n ≡ 0 → Hold rules
 none-refuses rules n w f e = all-hold rules w (subst (First rules) e f)
 
 -- ---- THE POINT
+
+-- the rule of the range by itself
+abbrev pub rangeRule : List ℤ → List Rule
+rangeRule p = (badCoordinate, inRange p ≡ true) ∷ []
 
 module _ (b : List ℕ) (p : List ℤ) (n : ℕ) (f : First (trustedPoint b p) n) where
   module _ (i : ℕ) where
@@ -60,12 +95,33 @@ module _ (b : List ℕ) (p : List ℤ) (n : ℕ) (f : First (trustedPoint b p) n
 
 -- ---- THE QUESTION
 
-module _ (b : List ℕ) (w : Question) (lent n : ℕ) (f : First (trustedPoint b (w .point)) n) where
-  pub question-point : n ≢ 0 → First (trustedQuestion b w lent) n
-  question-point z = refused-before (trustedPoint b (w .point)) (askedRules w lent) n z f
+-- what comes after the number of weights
+abbrev pub rangeRules : List ℤ → Weights → List Rule
+rangeRules p ws = (badCoordinate, inRange p ≡ true) ∷ (badWeight, Light ws) ∷ []
+
+-- 3 is given for the number of coordinates, or else for that of weights
+number-weighs : (b : List ℕ) (p : List ℤ) (ws : Weights) (n : ℕ) → n ≢ 0 → First (trustedNumber b p) n → First (weighingRules b p ws) n
+number-weighs b p ws n w (inl e) = inl e
+number-weighs b p ws n w (inr (h, inl e)) = inr (h, inl e)
+number-weighs b p ws n w (inr (h, inr (l, inl e))) = inr (h, inr (l, inl (e .0, λ s. e .1 (s .0))))
+number-weighs b p ws n w (inr (h, inr (l, inr (s, z)))) = absurd (w z)
+
+module _ (b : List ℕ) (p : List ℤ) (ws : Weights) (n : ℕ) (f : First (trustedNumber b p) n) where
+  pub weighing-number : n ≢ 0 → First (weighingRules b p ws) n
+  weighing-number w = number-weighs b p ws n w f
+
+  pub weighing-many : n ≡ 0 → ¬ (AsMany (viewOf b .d) ws) → First (weighingRules b p ws) badFeatures
+  weighing-many e w = let h = none-refuses (trustedNumber b p) n refl f e in inr (h .0, inr (h .1 .0, inl (refl, λ s. w (s .1))))
+
+  pub weighing-further : n ≡ 0 → AsMany (viewOf b .d) ws → (m : ℕ) → First (rangeRules p ws) m → First (weighingRules b p ws) m
+  weighing-further e a m g = let h = none-refuses (trustedNumber b p) n refl f e in inr (h .0, inr (h .1 .0, inr ((h .1 .1 .0, a), g)))
+
+module _ (b : List ℕ) (w : Question) (lent n : ℕ) (f : First (weighingRules b (w .point) (w .weights)) n) where
+  pub question-weighing : n ≢ 0 → First (trustedQuestion b w lent) n
+  question-weighing z = refused-before (weighingRules b (w .point) (w .weights)) (askedRules w lent) n z f
 
   pub question-further : n ≡ 0 → (m : ℕ) → First (askedRules w lent) m → First (trustedQuestion b w lent) m
-  question-further e m g = refused-after (trustedPoint b (w .point)) (askedRules w lent) m (none-refuses (trustedPoint b (w .point)) n refl f e) g
+  question-further e m g = refused-after (weighingRules b (w .point) (w .weights)) (askedRules w lent) m (none-refuses (weighingRules b (w .point) (w .weights)) n refl f e) g
 
 -- ---- RULES THAT OTHERS FOLLOW
 

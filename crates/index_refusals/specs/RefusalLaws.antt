@@ -8,7 +8,6 @@ use Prim.Native.Nat.{ℕ, _≤_, _<_}
 use native.Mathlib.Omega.{arith}
 use lib.Dec.{leb}
 use lib.IntN.{ℤ}
-use lib.ListN.{length}
 use borrow.Author.Tests.{leb-true}
 use Rattle.lists.specs.Basics.{if}
 use Rattle.lists.specs.Counts.{mult, mult-more, absent}
@@ -19,7 +18,7 @@ use Rattle.tree_model.specs.Sound.{RecordOk, SoundIndex}
 use Rattle.tree_laws.specs.LookupPromises.{find-ident}
 use Rattle.tree_laws.specs.KeyedPromises.{found-all}
 use Rattle.search_model.specs.Asked.{fullSet}
-use Rattle.index_query.specs.Asking.{Question, maxRows}
+use Rattle.index_query.specs.Asking.{Question, Light, Suited, maxRows}
 use Rattle.index_refusals.specs.declared.Epoch.{Epoch}
 use Rattle.index_refusals.specs.Refusals.{Rule, First, numbers, liveTimes, makeRules, insertRules, deleteRules, questionRules, askedRules, checkRules}
 
@@ -32,12 +31,12 @@ first-one (rule ∷ rules) m n (inr e) (inr f) = first-one rules m n (e .1) (f .
 
 -- ---- THE NUMBERS
 
--- the order of each act (01, "Order", without 12: Q-7; 15 after an insert's 5, 16 after a question's 11: Q-2)
+-- the order of each act (01, "Order", without 12: Q-7; 14 after a question's 4: Q-1; 15 after an insert's 5, 16 after a question's 11: Q-2)
 pub orders : (bytes d : ℕ) (b : List ℕ) (e : Epoch) (i : ℕ) (p : List ℤ) (w : Question) (n : ℕ)
     → (numbers (makeRules bytes d) ≡ 1 ∷ 3 ∷ [])
     × (numbers (insertRules b e p) ≡ 1 ∷ 2 ∷ 3 ∷ 4 ∷ 5 ∷ 15 ∷ 6 ∷ 8 ∷ 9 ∷ [])
     × (numbers (deleteRules b i) ≡ 1 ∷ 2 ∷ 5 ∷ 7 ∷ [])
-    × (numbers (questionRules b w n) ≡ 1 ∷ 2 ∷ 3 ∷ 4 ∷ 10 ∷ 11 ∷ 16 ∷ [])
+    × (numbers (questionRules b w n) ≡ 1 ∷ 2 ∷ 3 ∷ 4 ∷ 14 ∷ 10 ∷ 11 ∷ 16 ∷ [])
     × (numbers (checkRules b) ≡ 1 ∷ 2 ∷ [])
 orders bytes d b e i p w n = (refl, refl, refl, refl, refl)
 
@@ -107,15 +106,16 @@ delete-passes b i s h = none-fails (deleteRules b i) (s .lent, (s, (live-some b 
 
 -- with n rows lent, on an index of d features
 pub record Carried (d : ℕ) (w : Question) (n : ℕ) : Type 0 where
-  pub features : length (w .point) ≡ d
+  pub features : Suited d w
   pub ranges : inRange (w .point) ≡ true
+  pub light : Light (w .weights)
   pub some : 1 ≤ w .k
   pub most : w .k ≤ maxRows
   pub lent : w .k ≤ n
   pub set : (1 ≤ w .stages) × (w .stages ≤ fullSet)
 
-pub asked-carried : (d : ℕ) (w : Question) (n : ℕ) → length (w .point) ≡ d → inRange (w .point) ≡ true → Hold (askedRules w n) → Carried d w n
-asked-carried d w n e r h = record { features = e; ranges = r; some = h .0 .0; most = h .0 .1; lent = h .1 .0; set = h .1 .1 .0 }
+pub asked-carried : (d : ℕ) (w : Question) (n : ℕ) → Suited d w → inRange (w .point) ≡ true → Light (w .weights) → Hold (askedRules w n) → Carried d w n
+asked-carried d w n e r l h = record { features = e; ranges = r; light = l; some = h .0 .0; most = h .0 .1; lent = h .1 .0; set = h .1 .1 .0 }
 
 -- and conversely
 pub carried-asked : (d : ℕ) (w : Question) (n : ℕ) → Carried d w n → Hold (askedRules w n)
@@ -126,4 +126,4 @@ module _ (b : List ℕ) (w : Question) (n : ℕ) (h : First (questionRules b w n
   question-sound = all-hold (questionRules b w n) refl h .1 .0
 
   pub question-carried : Carried (viewOf b .d) w n
-  question-carried = let a = all-hold (questionRules b w n) refl h in asked-carried (viewOf b .d) w n (a .1 .1 .0) (a .1 .1 .1 .0) (a .1 .1 .1 .1)
+  question-carried = let a = all-hold (questionRules b w n) refl h in asked-carried (viewOf b .d) w n (a .1 .1 .0) (a .1 .1 .1 .0) (a .1 .1 .1 .1 .0) (a .1 .1 .1 .1 .1)

@@ -16,7 +16,7 @@ use Rattle.tree_model.specs.Trees.{identOf, live}
 use Rattle.tree_model.specs.Sound.{Permitted, SoundIndex, maxPoints, maxStage}
 use Rattle.tree_core.specs.Insertion.{pagesWanted}
 use Rattle.search_model.specs.Asked.{fullSet}
-use Rattle.index_query.specs.Asking.{Question, maxRows}
+use Rattle.index_query.specs.Asking.{Question, Light, Suited, maxRows}
 use Rattle.index_refusals.specs.declared.Epoch.{Epoch}
 
 -- a number with its condition
@@ -76,6 +76,9 @@ badK = 10
 abbrev pub fewRows : ℕ
 fewRows = 11
 
+abbrev pub badWeight : ℕ
+badWeight = 14
+
 abbrev pub badStage : ℕ
 badStage = 15
 
@@ -111,7 +114,7 @@ deleteRules b i =
     ∷ (notLive, 0 < liveTimes b i)
     ∷ []
 
--- those of a question that look at no index and not at its point
+-- those of a question that look at no index and not at its point or its weights
 abbrev pub askedRules : Question → ℕ → List Rule
 askedRules w n =
     (badK, (1 ≤ w .k) × (w .k ≤ maxRows))
@@ -123,8 +126,9 @@ abbrev pub questionRules : List ℕ → Question → ℕ → List Rule
 questionRules b w n =
     (badLength, Permitted (length b))
     ∷ (unsound, SoundIndex b)
-    ∷ (badFeatures, length (w .point) ≡ viewOf b .d)
+    ∷ (badFeatures, Suited (viewOf b .d) w)
     ∷ (badCoordinate, inRange (w .point) ≡ true)
+    ∷ (badWeight, Light (w .weights))
     ∷ askedRules w n
 
 abbrev pub checkRules : List ℕ → List Rule

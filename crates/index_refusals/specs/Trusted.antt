@@ -16,9 +16,9 @@ use Rattle.pagestore.specs.Store.{viewOf, fieldAt, level, freeAt}
 use Rattle.tree_model.specs.Sound.{Permitted, maxPoints, maxStage}
 use Rattle.tree_core.specs.Insertion.{pagesWanted}
 use Rattle.tree_core.specs.Lookup.{findIn}
-use Rattle.index_query.specs.Asking.{Question}
+use Rattle.index_query.specs.Asking.{Weights, Question, AsMany, Light}
 use Rattle.index_refusals.specs.declared.Epoch.{Epoch}
-use Rattle.index_refusals.specs.Refusals.{Rule, recordOf, askedRules, badLength, unsound, badFeatures, badCoordinate, zeroId, badStage, alreadyLive, notLive, full, noPages}
+use Rattle.index_refusals.specs.Refusals.{Rule, recordOf, askedRules, badLength, unsound, badFeatures, badCoordinate, badWeight, zeroId, badStage, alreadyLive, notLive, full, noPages}
 use Rattle.search_model.specs.Numbers.{maxLevel}
 
 -- the point p has as many coordinates as the index b has features: 1 to 16
@@ -50,11 +50,30 @@ abbrev pub trustedQuestion : List ℕ → Question → ℕ → List Rule
 trustedQuestion b w n =
     (badLength, Permitted (length b))
     ∷ (unsound, fieldAt level b ≤ maxLevel)
-    ∷ (badFeatures, Suits b (w .point))
+    ∷ (badFeatures, Suits b (w .point) × AsMany (viewOf b .d) (w .weights))
     ∷ (badCoordinate, inRange (w .point) ≡ true)
+    ∷ (badWeight, Light (w .weights))
     ∷ askedRules w n
 
--- those with which insert and question both begin
+-- those of them that speak of the index, the point and its weights
+abbrev pub weighingRules : List ℕ → List ℤ → Weights → List Rule
+weighingRules b p ws =
+    (badLength, Permitted (length b))
+    ∷ (unsound, fieldAt level b ≤ maxLevel)
+    ∷ (badFeatures, Suits b p × AsMany (viewOf b .d) ws)
+    ∷ (badCoordinate, inRange p ≡ true)
+    ∷ (badWeight, Light ws)
+    ∷ []
+
+-- those with which insert and question both begin, by the number of coordinates
+abbrev pub trustedNumber : List ℕ → List ℤ → List Rule
+trustedNumber b p =
+    (badLength, Permitted (length b))
+    ∷ (unsound, fieldAt level b ≤ maxLevel)
+    ∷ (badFeatures, Suits b p)
+    ∷ []
+
+-- those of an insert's point
 abbrev pub trustedPoint : List ℕ → List ℤ → List Rule
 trustedPoint b p =
     (badLength, Permitted (length b))

@@ -16,7 +16,7 @@ use Rattle.tree_laws.specs.LookupPromises.{find-ident, find-none}
 use Rattle.search_model.proofs.SoundLaws.{tree-level}
 use Rattle.index_query.specs.Asking.{Question}
 use Rattle.index_refusals.specs.declared.Epoch.{Epoch}
-use Rattle.index_refusals.specs.Refusals.{Rule, First, numbers, liveTimes, insertRules, deleteRules, questionRules, askedRules}
+use Rattle.index_refusals.specs.Refusals.{Rule, First, numbers, liveTimes, insertRules, deleteRules, questionRules}
 use Rattle.index_refusals.specs.RefusalLaws.{all-hold, later, Carried, asked-carried}
 use Rattle.index_refusals.specs.Trusted.{Suits, trustedInsert, trustedDelete, trustedQuestion}
 use Rattle.search_model.specs.Numbers.{maxLevel}
@@ -112,11 +112,11 @@ module _ (b : List ℕ) (s : SoundIndex b) where
         inr (
           s,
           first-alike (later (later (trustedQuestion b w m))) (later (later (questionRules b w m)))
-              (refl, λ h. h .2, suits (w .point), λ h. (refl, λ h. h, λ h. h, λ h. alike-self (askedRules w m))) n (f .1),
+              (refl, λ h. (h .0 .2, h .1), λ h. (suits (w .point) (h .0), h .1), λ h. alike-self (later (later (later (questionRules b w m))))) n (f .1),
         ),
       )
 
 -- ---- A QUESTION THAT IS NOT REFUSED
 
 pub trusted-carried : (b : List ℕ) (w : Question) (n : ℕ) → First (trustedQuestion b w n) 0 → Carried (viewOf b .d) w n
-trusted-carried b w n h = let a = all-hold (trustedQuestion b w n) refl h in asked-carried (viewOf b .d) w n (a .1 .1 .0 .2) (a .1 .1 .1 .0) (a .1 .1 .1 .1)
+trusted-carried b w n h = let a = all-hold (trustedQuestion b w n) refl h in asked-carried (viewOf b .d) w n (a .1 .1 .0 .0 .2, a .1 .1 .0 .1) (a .1 .1 .1 .0) (a .1 .1 .1 .1 .0) (a .1 .1 .1 .1 .1)

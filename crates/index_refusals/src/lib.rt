@@ -7,11 +7,14 @@ ghost use lib.ListN.{length};
 ghost use Rattle.geometry.specs.Stored.{inRange};
 ghost use Rattle.pagestore.specs.Store.{freeAt};
 ghost use Rattle.tree_model.specs.Sound.{Permitted};
-ghost use Rattle.index_query.specs.Asking.{questionOf};
+ghost use Rattle.lists.specs.Basics.{All};
+ghost use Rattle.geometry.specs.Numbers.{maxWeight};
+ghost use Rattle.index_query.specs.Asking.{weightsIf, AsMany, Light, questionOf};
 ghost use Rattle.index_refusals.specs.Refusals.{First, makeRules, recordOf};
 ghost use Rattle.lists.specs.Judges.{Decides};
-ghost use Rattle.index_refusals.specs.Trusted.{trustedPoint, pairRules, epochRules, roomRules, trustedInsert, trustedQuestion};
+ghost use Rattle.index_refusals.specs.Trusted.{trustedNumber, trustedPoint, weighingRules, pairRules, epochRules, roomRules, trustedInsert, trustedQuestion};
 use geometry::MAX_FEATURES;
+use geometry::MAX_WEIGHT;
 use geometry::points::slots_of;
 use index_query::Criteria;
 use pagestore::MAX_PAGES;
@@ -38,7 +41,7 @@ pub const BAD_LENGTH: u32 = 1; // the length is not a permitted number of whole 
 
 pub const UNSOUND: u32 = 2; // the index is not sound
 
-pub const BAD_FEATURES: u32 = 3; // d, or the number of coordinates, is wrong
+pub const BAD_FEATURES: u32 = 3; // d, or the number of coordinates or of weights, is wrong
 
 pub const BAD_COORDINATE: u32 = 4; // a coordinate is out of range
 
@@ -55,6 +58,8 @@ pub const NO_PAGES: u32 = 9; // the insert wants more pages than are unused or f
 pub const BAD_K: u32 = 10; // k is out of range
 
 pub const FEW_ROWS: u32 = 11; // fewer than k rows are lent
+
+pub const BAD_WEIGHT: u32 = 14; // a weight is above 1,000
 
 pub const BAD_STAGE: u32 = 15; // the stage is above 5
 
@@ -114,9 +119,9 @@ fn suits(coordinates: usize, features: u8) -> bool
     coordinates == features as usize
 }
 
-// The first of 1 to 4 that applies to a point.
-fn refuse_point(index: &[u8], point: &[i16]) -> u32
-    ensures { λ r. ⌜ First (trustedPoint (now (index .entry)) (now (point .entry))) r ⌝ }
+// The first of 1 to 3 that applies to a point, by the number of its coordinates.
+fn refuse_number(index: &[u8], point: &[i16]) -> u32
+    ensures { λ r. ⌜ First (trustedNumber (now (index .entry)) (now (point .entry))) r ⌝ }
 {
     if !permitted(index.len()) {
         return BAD_LENGTH;
@@ -127,17 +132,88 @@ fn refuse_point(index: &[u8], point: &[i16]) -> u32
     if !suits(point.len(), features_of(index)) {
         return BAD_FEATURES;
     }
+    0
+}
+
+// The first of 1 to 4 that applies to a point.
+fn refuse_point(index: &[u8], point: &[i16]) -> u32
+    ensures { λ r. ⌜ First (trustedPoint (now (index .entry)) (now (point .entry))) r ⌝ }
+{
+    let coded = refuse_number(index, point);
+    if coded != 0 {
+        return coded;
+    }
     if !geometry::points::in_range(point) {
         return BAD_COORDINATE;
     }
     0
 }
 
-// The number of a question with some rows lent.
-pub fn refuse_question(index: &[u8], point: &[i16], what: Criteria, lent: usize) -> u32
-    ensures { λ r. ⌜ First (trustedQuestion (now (index .entry)) (questionOf (now (point .entry)) what) lent) r ⌝ }
+// Whether there are as many weights as features, where any are carried.
+fn as_many(weighted: bool, weights: &[u16], features: u8) -> bool
+    ensures { λ r. ⌜ Decides (AsMany features (weightsIf weighted (now (weights .entry)))) r ⌝ }
 {
-    let coded = refuse_point(index, point);
+    if weighted {
+        return weights.len() == features as usize;
+    }
+    true
+}
+
+// Whether no weight is above 1,000.
+fn are_light(weights: &[u16]) -> bool
+    ensures { λ r. ⌜ Decides (All (λ x. x ≤ maxWeight) (now (weights .entry))) r ⌝ }
+{
+    let mut m = 0;
+    while m < weights.len() {
+        if MAX_WEIGHT < weights[m] {
+            return false;
+        }
+        m += 1;
+    }
+    true
+}
+
+// The same, where any are carried.
+fn light(weighted: bool, weights: &[u16]) -> bool
+    ensures { λ r. ⌜ Decides (Light (weightsIf weighted (now (weights .entry)))) r ⌝ }
+{
+    if weighted {
+        return are_light(weights);
+    }
+    true
+}
+
+// The first of 1 to 4 and 14 that applies to a point and the weights carried.
+fn refuse_weighing(index: &[u8], point: &[i16], weights: &[u16], weighted: bool) -> u32
+    ensures { λ r. ⌜ First (weighingRules (now (index .entry)) (now (point .entry)) (weightsIf weighted (now (weights .entry)))) r ⌝ }
+{
+    let coded = refuse_number(index, point);
+    if coded != 0 {
+        return coded;
+    }
+    if !as_many(weighted, weights, features_of(index)) {
+        return BAD_FEATURES;
+    }
+    if !geometry::points::in_range(point) {
+        return BAD_COORDINATE;
+    }
+    if !light(weighted, weights) {
+        return BAD_WEIGHT;
+    }
+    0
+}
+
+// The number of a question with some rows lent.
+pub fn refuse_question(
+    index: &[u8],
+    point: &[i16],
+    weights: &[u16],
+    what: Criteria,
+    lent: usize,
+) -> u32
+    ensures { λ r. ⌜ First (trustedQuestion (now (index .entry)) (questionOf (now (point .entry)) (now (weights .entry)) what) lent) r ⌝ }
+{
+    let coded = refuse_weighing(index, point, weights, what.weighted);
     if coded != 0 {
         return coded;
     }

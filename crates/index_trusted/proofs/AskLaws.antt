@@ -5,6 +5,7 @@ use mathlib.Core.List.{List}
 use Prim.Native.Nat.{ℕ, zero, suc, _≤_}
 use native.Mathlib.Omega.{arith}
 use lib.ListN.{length}
+use Rattle.pagestore.specs.Store.{viewOf}
 use Rattle.search_rows.specs.Held.{rowsIn}
 use Rattle.index_answer.specs.FillingLaws.{rows-held}
 use Rattle.search.specs.declared.Query.{Query}
@@ -14,6 +15,7 @@ use Rattle.search.specs.Steps.{asks, Searches, Searched}
 use Rattle.search_model.specs.Visit.{Answer as Found, found}
 use Rattle.index_answer.specs.declared.Answer.{Answer}
 use Rattle.index_query.specs.Asking.{Question, Searchable, QueryFor, sought}
+use Rattle.index_query.specs.AskingLaws.{weights-own}
 use Rattle.index_query.specs.Answers.{AnswersIfSound, search-answers}
 use Rattle.index_refusals.specs.Refusals.{Rule, First}
 use Rattle.index_refusals.specs.Trusted.{trustedQuestion}
@@ -75,7 +77,7 @@ module _ (b : List ℕ) (w : Question) (lent n : ℕ) (f : First (trustedQuestio
   may-search =
       let h = none-refuses (trustedQuestion b w lent) n refl f e in
       let c = trusted-carried b w lent (subst (First (trustedQuestion b w lent)) e f) in
-      record { features = h .1 .1 .0 .0; most = h .1 .1 .0 .1; ranges = c .ranges; some = c .some; few = c .most }
+      record { features = h .1 .1 .0 .0 .0; most = h .1 .1 .0 .0 .1; ranges = c .ranges; weights = weights-own (viewOf b .d) w (c .features); light = c .light; some = c .some; few = c .most }
 
   -- and what is found on a sound index
   pub trusted-answers : AnswersIfSound b w (found b (sought w))

@@ -19,7 +19,7 @@ use denote.RattleType.{RattleType}
 use denote.Laws.{Is}
 use denote.Memory.{pointee}
 use denote.Plain.{uint-vals, uint-tells, uint-lawful}
-use denote.Builtin.{u8, i16, u64}
+use denote.Builtin.{u8, u16, i16, u64}
 use denote.Array.{Array, arrayVal, array-tells, array-lawful}
 use denote.Ref.{now}
 use denote.Slice.{sliceTy, Room}
@@ -62,7 +62,7 @@ abbrev pub B : RattleType
 B = Array u64 64
 
 abbrev pub stayed : Stays (question.ended .signature .params) (question.ended .kept)
-stayed = (stay-none-slice (0 ∷ []) tt (plain (λ _. u8)) yes, (stay-none-slice (1 ∷ []) tt (plain (λ _. i16)) yes, (stay-none (λ _. U.the-row) yes, (gave-slice (2 ∷ []) tt (plain (λ _. R)), (gave-ref (3 ∷ []) tt (plain (λ _. Y)), tt)))))
+stayed = (stay-none-slice (0 ∷ []) tt (plain (λ _. u8)) yes, (stay-none-slice (1 ∷ []) tt (plain (λ _. i16)) yes, (stay-none-slice (2 ∷ []) tt (plain (λ _. u16)) yes, (stay-none (λ _. U.the-row) yes, (gave-slice (3 ∷ []) tt (plain (λ _. R)), (gave-ref (4 ∷ []) tt (plain (λ _. Y)), tt))))))
 
 -- the machine values of what is asked, of an answer and of an array
 abbrev pub kv : Criteria → Val
@@ -81,11 +81,14 @@ bytesT = sliceTy (tyRef (named 0) imm (tyInt w8))
 abbrev pub pointT : Ty
 pointT = sliceTy (tyRef (named 1) imm (tyInt w16))
 
+abbrev pub weightsT : Ty
+weightsT = sliceTy (tyRef (named 2) imm (tyInt w16))
+
 abbrev pub rowsT : Ty
-rowsT = sliceTy (tyRef (named 2) mut (pointee (R .written)))
+rowsT = sliceTy (tyRef (named 3) mut (pointee (R .written)))
 
 abbrev pub tallyT : Ty
-tallyT = tyRef (named 3) mut (pointee (Y .written))
+tallyT = tyRef (named 4) mut (pointee (Y .written))
 
 abbrev pub rowsT′ : Ty
 rowsT′ = sliceTy (tyRef erased mut (pointee (R .written)))
@@ -118,33 +121,33 @@ module _ (name : Name) where
 
   abbrev pub t-9 : Body
   t-9 =
-      seq (assign (place 14 []) (addrOf (place 4 (field 0 ∷ deref Row″.mir ∷ []))))
-      (seq (assign (place 15 []) (aggregate (copy (place 14 []) ∷ copy (place 4 (field 1 ∷ [])) ∷ [])))
-      (seq (assign (place 16 []) (addrOf (place 5 (deref Tally″.mir ∷ []))))
-      (seq (assign (place 17 []) (addrOf (place 6 [])))
-      (seq (assign (place 18 []) (aggregate (copy (place 17 []) ∷ int w64 64 ∷ [])))
-      (seq (assign (place 19 []) (addrOf (place 7 [])))
-      (seq (assign (place 20 []) (aggregate (copy (place 19 []) ∷ int w64 64 ∷ [])))
-      (seq (call #index-answer·deliver (copy (place 15 []) ∷ copy (place 16 []) ∷ copy (place 8 []) ∷ copy (place 18 []) ∷ copy (place 20 []) ∷ []) (place 0 [])) t-17)))))))
+      seq (assign (place 15 []) (addrOf (place 5 (field 0 ∷ deref Row″.mir ∷ []))))
+      (seq (assign (place 16 []) (aggregate (copy (place 15 []) ∷ copy (place 5 (field 1 ∷ [])) ∷ [])))
+      (seq (assign (place 17 []) (addrOf (place 6 (deref Tally″.mir ∷ []))))
+      (seq (assign (place 18 []) (addrOf (place 7 [])))
+      (seq (assign (place 19 []) (aggregate (copy (place 18 []) ∷ int w64 64 ∷ [])))
+      (seq (assign (place 20 []) (addrOf (place 8 [])))
+      (seq (assign (place 21 []) (aggregate (copy (place 20 []) ∷ int w64 64 ∷ [])))
+      (seq (call #index-answer·deliver (copy (place 16 []) ∷ copy (place 17 []) ∷ copy (place 9 []) ∷ copy (place 19 []) ∷ copy (place 21 []) ∷ []) (place 0 [])) t-17)))))))
 
   abbrev pub t-3 : Body
   t-3 =
-      seq (assign (place 9 []) (rvOpd (copy (place 4 (field 1 ∷ [])))))
-      (seq (assign (place 10 []) (addrOf (place 6 [])))
-      (seq (assign (place 11 []) (aggregate (copy (place 10 []) ∷ int w64 64 ∷ [])))
-      (seq (assign (place 12 []) (addrOf (place 7 [])))
-      (seq (assign (place 13 []) (aggregate (copy (place 12 []) ∷ int w64 64 ∷ [])))
-      (seq (call name (copy (place 1 []) ∷ copy (place 2 []) ∷ copy (place 3 []) ∷ copy (place 9 []) ∷ copy (place 11 []) ∷ copy (place 13 []) ∷ []) (place 8 [])) t-9)))))
+      seq (assign (place 10 []) (rvOpd (copy (place 5 (field 1 ∷ [])))))
+      (seq (assign (place 11 []) (addrOf (place 7 [])))
+      (seq (assign (place 12 []) (aggregate (copy (place 11 []) ∷ int w64 64 ∷ [])))
+      (seq (assign (place 13 []) (addrOf (place 8 [])))
+      (seq (assign (place 14 []) (aggregate (copy (place 13 []) ∷ int w64 64 ∷ [])))
+      (seq (call name (copy (place 1 []) ∷ copy (place 2 []) ∷ copy (place 3 []) ∷ copy (place 4 []) ∷ copy (place 10 []) ∷ copy (place 12 []) ∷ copy (place 14 []) ∷ []) (place 9 [])) t-9)))))
 
   abbrev pub t-1 : Body
-  t-1 = seq (assign (place 6 []) (repeat (int w64 0) 64)) (seq (assign (place 7 []) (repeat (int w64 0) 64)) t-3)
+  t-1 = seq (assign (place 7 []) (repeat (int w64 0) 64)) (seq (assign (place 8 []) (repeat (int w64 0) 64)) t-3)
 
   abbrev pub function : Fn
   function = record {
-    lifetimes = 4;
+    lifetimes = 5;
     outlives = [];
-    params = 5;
-    locals = local N′.mir valueLocal ∷ local bytesT valueLocal ∷ local pointT valueLocal ∷ local U′.mir valueLocal ∷ local rowsT valueLocal ∷ local tallyT valueLocal ∷ local arrayT memorySlot ∷ local arrayT memorySlot
+    params = 6;
+    locals = local N′.mir valueLocal ∷ local bytesT valueLocal ∷ local pointT valueLocal ∷ local weightsT valueLocal ∷ local U′.mir valueLocal ∷ local rowsT valueLocal ∷ local tallyT valueLocal ∷ local arrayT memorySlot ∷ local arrayT memorySlot
         ∷ local N′.mir valueLocal ∷ local (tyInt w64) valueLocal ∷ local lentT valueLocal ∷ local lentsT valueLocal ∷ local lentT valueLocal ∷ local lentsT valueLocal ∷ local rowT′ valueLocal ∷ local rowsT′ valueLocal
         ∷ local tallyT′ valueLocal ∷ local sharedT valueLocal ∷ local sharedsT valueLocal ∷ local sharedT valueLocal ∷ local sharedsT valueLocal ∷ [];
     body = t-1;
@@ -172,7 +175,7 @@ module _ (Ends : List ℕ → Question → List Row → Tally → Answer → Lis
   clauses κs a = record {
     ghost = Unit {0};
     requires = λ g. emp 𝓤;
-    ensures = λ g r z. fact 𝓤 (Ends (now (a .0)) (questionOf (now (a .1 .0)) (a .1 .1 .0)) (now (a .1 .1 .1 .0)) (now (a .1 .1 .1 .1 .0)) r (now (z .1 .1 .1 .0)) (now (z .1 .1 .1 .1 .0)));
+    ensures = λ g r z. fact 𝓤 (Ends (now (a .0)) (questionOf (now (a .1 .0)) (now (a .1 .1 .0)) (a .1 .1 .1 .0)) (now (a .1 .1 .1 .1 .0)) (now (a .1 .1 .1 .1 .1 .0)) r (now (z .1 .1 .1 .1 .0)) (now (z .1 .1 .1 .1 .1 .0)));
   }
 
 -- of the callee that finds the outcome: what it says of its answer and of the arrays
@@ -180,8 +183,8 @@ module _ (Asks : List ℕ → Question → ℕ → List ℕ → List ℕ → Ans
   abbrev pub core-clauses : Clauses 𝓤 core.ended
   core-clauses κs a = record {
     ghost = Unit {0};
-    requires = λ g. fact 𝓤 (Places (now (a .1 .1 .1 .1 .0)) (now (a .1 .1 .1 .1 .1 .0)));
-    ensures = λ g o z. fact 𝓤 (Asks (now (a .0)) (questionOf (now (a .1 .0)) (a .1 .1 .0)) (a .1 .1 .1 .0) (now (z .1 .1 .1 .1 .0)) (now (z .1 .1 .1 .1 .1 .0)) o);
+    requires = λ g. fact 𝓤 (Places (now (a .1 .1 .1 .1 .1 .0)) (now (a .1 .1 .1 .1 .1 .1 .0)));
+    ensures = λ g o z. fact 𝓤 (Asks (now (a .0)) (questionOf (now (a .1 .0)) (now (a .1 .1 .0)) (a .1 .1 .1 .0)) (a .1 .1 .1 .1 .0) (now (z .1 .1 .1 .1 .1 .0)) (now (z .1 .1 .1 .1 .1 .1 .0)) o);
   }
 
   abbrev pub Core : (H : Heap 𝓤) → Atoms 𝓤 → Contract 𝓤

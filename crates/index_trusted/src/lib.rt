@@ -73,14 +73,15 @@ pub fn refused(code: u32) -> Answer
 fn answered(
     index: &[u8],
     point: &[i16],
+    weights: &[u16],
     what: Criteria,
     highs: &mut [u64],
     lows: &mut [u64],
 ) -> Answer
-    requires { ⌜ Searchable (questionOf (now point) what) × Places (now highs) (now lows) ⌝ }
-    ensures { λ r. ⌜ Answered (now (index .entry)) (questionOf (now (point .entry)) what) (now (highs .exit)) (now (lows .exit)) r ⌝ }
+    requires { ⌜ Searchable (questionOf (now point) (now weights) what) × Places (now highs) (now lows) ⌝ }
+    ensures { λ r. ⌜ Answered (now (index .entry)) (questionOf (now (point .entry)) (now (weights .entry)) what) (now (highs .exit)) (now (lows .exit)) r ⌝ }
 {
-    let seen = search(index, query_of(point, what), highs, lows);
+    let seen = search(index, query_of(point, weights, what), highs, lows);
     Answer {
         code: 0,
         count: seen.rows,
@@ -92,35 +93,45 @@ fn answered(
 pub fn question_outcome(
     index: &[u8],
     point: &[i16],
+    weights: &[u16],
     what: Criteria,
     lent: usize,
     highs: &mut [u64],
     lows: &mut [u64],
 ) -> Answer
     requires { ⌜ Places (now highs) (now lows) ⌝ }
-    ensures { λ r. ⌜ TrustedOutcome (now (index .entry)) (questionOf (now (point .entry)) what) lent
+    ensures { λ r. ⌜ TrustedOutcome (now (index .entry)) (questionOf (now (point .entry)) (now (weights .entry)) what) lent
         (now (highs .exit)) (now (lows .exit)) r ⌝ }
 {
-    let code = refuse_question(index, point, what, lent);
+    let code = refuse_question(index, point, weights, what, lent);
     if code != 0 {
         return refused(code);
     }
-    answered(index, point, what, highs, lows)
+    answered(index, point, weights, what, highs, lows)
 }
 
 // A question whose rows go to those lent, and which the caller's tally counts.
 pub fn question(
     index: &[u8],
     point: &[i16],
+    weights: &[u16],
     what: Criteria,
     rows: &mut [Row],
     tally: &mut Tally,
 ) -> Answer
-    ensures { λ r. ⌜ TrustedQuestioned (now (index .entry)) (questionOf (now (point .entry)) what)
+    ensures { λ r. ⌜ TrustedQuestioned (now (index .entry)) (questionOf (now (point .entry)) (now (weights .entry)) what)
         (now (rows .entry)) (now (tally .entry)) r (now (rows .exit)) (now (tally .exit)) ⌝ }
 {
     let mut highs = [0u64; MAX_ROWS];
     let mut lows = [0u64; MAX_ROWS];
-    let answer = question_outcome(index, point, what, rows.len(), &mut highs, &mut lows);
+    let answer = question_outcome(
+        index,
+        point,
+        weights,
+        what,
+        rows.len(),
+        &mut highs,
+        &mut lows,
+    );
     deliver(rows, tally, answer, &highs, &lows)
 }

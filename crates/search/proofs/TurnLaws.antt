@@ -74,10 +74,10 @@ unfolding sort insertBy
 one-held [] x h = absurd (omega arith)
 one-held (y ∷ ys) x h = refl
 
-pub visiting-start : (index asked near whole : List ℕ) (k : ℕ) (choice : Choice) (slots highs lows : List ℕ) (key m : ℕ) → Visits index asked near whole k slots highs lows → key ≡ keyOf (rootBranch index) → m ≡ pagesIn index
+pub visiting-start : (index asked near whole : List ℕ) (unweighted : Bool) (k : ℕ) (choice : Choice) (slots highs lows : List ℕ) (key m : ℕ) → Visits index asked near whole unweighted k slots highs lows → key ≡ keyOf (rootBranch index) → m ≡ pagesIn index
     → Visiting index asked near whole k choice (set slots 0 key) highs lows (set slots 0 key) highs lows 1 0 0 (2 * m)
 unfolding visited
-visiting-start index asked near whole k choice slots highs lows key m v e g =
+visiting-start index asked near whole unweighted k choice slots highs lows key m v e g =
     let q = asking asked k choice in
     let s : 1 ≤ length slots = omega (arith, v .room, room-some index) in
     let o : held 1 (set slots 0 key) ≡ key ∷ [] = one-held slots key s in

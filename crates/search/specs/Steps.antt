@@ -17,10 +17,12 @@ use Rattle.search_model.specs.Asked.{Seekable, Asked, Askable, asking}
 use Rattle.search_model.specs.Visit.{fullRoom, Answer, answerOf, room, visited, readsNone, found}
 use Rattle.search_model.specs.Questions.{answerDue, unreadPages, AgreeBut}
 use Rattle.geometry.specs.Numbers.{maxFeatures}
+use Rattle.geometry_slices.specs.Questions.{Unweighted}
 
 -- what a visit is lent: room for branches and for k rows
-pub record Visits (index asked near whole : List ℕ) (k : ℕ) (slots highs lows : List ℕ) : Type 0 where
+pub record Visits (index asked near whole : List ℕ) (unweighted : Bool) (k : ℕ) (slots highs lows : List ℕ) : Type 0 where
   pub tables : Tabled asked near whole
+  pub flag : unweighted ≡ true → Unweighted asked
   pub low : fieldAt level index ≤ maxLevel
   pub one : 1 ≤ k
   pub room : length slots ≡ room index

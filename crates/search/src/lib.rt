@@ -12,6 +12,7 @@ use geometry_slices::ASKED_PLACES;
 use geometry_slices::NEAR_PLACES;
 use geometry_slices::REACHES_FROM;
 use geometry_slices::WHOLE_PLACES;
+use geometry_slices::asked::is_unweighted;
 use pagestore::total_records;
 use search_model::Choice;
 use search_model::FEW_RECORDS;
@@ -56,7 +57,19 @@ fn search_with(
     let mut near = [0u16; NEAR_PLACES];
     let mut whole = [0u64; WHOLE_PLACES];
     prepare(asked, &mut near, &mut whole);
-    best_first(index, asked, &near, &whole, k, choice, slots, highs, lows)
+    let unweighted = is_unweighted(asked);
+    best_first(
+        index,
+        asked,
+        &near,
+        &whole,
+        unweighted,
+        k,
+        choice,
+        slots,
+        highs,
+        lows,
+    )
 }
 
 // The search of any index. One of few records gets little room: clearing more would take most of its search's time.

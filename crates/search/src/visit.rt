@@ -93,13 +93,14 @@ pub fn best_first(
     asked: &[u16],
     near: &[u16],
     whole: &[u64],
+    unweighted: bool,
     k: usize,
     choice: Choice,
     slots: &mut [u64],
     highs: &mut [u64],
     lows: &mut [u64],
 ) -> Seen
-    requires { ⌜ Visits (now index) (now asked) (now near) (now whole) k (now slots) (now highs) (now lows) ⌝ }
+    requires { ⌜ Visits (now index) (now asked) (now near) (now whole) unweighted k (now slots) (now highs) (now lows) ⌝ }
     ensures { λ r. ⌜ Visited (now (index .entry)) (asking (now (asked .entry)) k choice)
         (now (highs .exit)) (now (lows .exit)) r ⌝ }
 {
@@ -116,7 +117,18 @@ pub fn best_first(
         let page = page_in(key);
         let place = place_in(key);
         if level == 0 {
-            rows = visit_leaf(index, page, asked, place, highs, lows, rows, k, choice);
+            rows = visit_leaf(
+                index,
+                page,
+                asked,
+                unweighted,
+                place,
+                highs,
+                lows,
+                rows,
+                k,
+                choice,
+            );
             leaves += 1;
         } else {
             n = open_page(slots, n, index, asked, near, whole, level - 1, place, page);

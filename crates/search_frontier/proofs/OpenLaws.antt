@@ -9,12 +9,12 @@ use lib.ListN.{length, drop, getD}
 use Rattle.lists.specs.Sorting.{insertAll}
 use Rattle.geometry.specs.declared.Key.{Key}
 use Rattle.geometry.specs.declared.Pair.{Pair}
-use Rattle.geometry.specs.Features.{plain}
+use Rattle.geometry.specs.Features.{weighted}
 use Rattle.geometry.specs.Slices.{boundOf}
 use Rattle.geometry_slices.specs.Questions.{askedOf}
 use Rattle.geometry.specs.Stored.{pointOf}
 use Rattle.geometry.proofs.StoredLaws.{length-point}
-use Rattle.geometry.proofs.SliceLaws.{plain-length, plain-asks}
+use Rattle.geometry.proofs.WeightLaws.{weighted-length, weighted-asks}
 use Rattle.geometry.proofs.BoundLaws.{bound-small}
 use Rattle.pagestore_page.specs.declared.Entry.{Entry}
 use Rattle.pagestore_page.specs.declared.Inner.{Inner}
@@ -25,7 +25,7 @@ use Rattle.search_model.specs.declared.Choice.{Choice}
 use Rattle.search_model.specs.Asked.{spanBound, asking}
 use Rattle.search_model.specs.Branches.{Branch, lastPlace, before, pageIn, branchOf, branches}
 use Rattle.search_frontier.specs.Keys.{keyOf, branchIn, mostBound, frontier}
-use Rattle.search_model.specs.Asked.{lowEnds, Seekable}
+use Rattle.search_model.specs.Asked.{lowEnds, weightsIn, Seekable}
 use Rattle.search_frontier.specs.Opening.{Tabled, SpanBound, EntryKey, Opens, Opened}
 use Rattle.search_model.proofs.RecordLaws.{in-range}
 use Rattle.tree.proofs.CountLaws.{items-length, items-next, items-end, inner-slots}
@@ -35,9 +35,10 @@ use Rattle.search_frontier.proofs.KeyLaws.{key-back, branches-ins}
 -- a bound is not above the greatest
 pub span-small : (asked : List ℕ) (i h i' h' : ℕ) → Seekable asked → boundOf (askedOf asked) i h i' h' ≤ mostBound
 span-small asked i h i' h' a =
-    let p = pointOf (lowEnds asked) in
+    let ws = weightsIn asked in let p = pointOf (lowEnds asked) in
+    let long : length (weighted ws p) ≡ length (lowEnds asked) = weighted-length ws p (a .point .number ∙ sym (length-point (lowEnds asked))) ∙ length-point (lowEnds asked) in
     rw (a .is)
-    (omega (arith, bound-small 1 (plain p) i h i' h' (plain-asks 1 p (omega arith) (in-range (a .point .ranges))), plain-length p, length-point (lowEnds asked), a .point .most))
+    (omega (arith, bound-small 1000 (weighted ws p) i h i' h' (weighted-asks 1000 ws p (a .point .light) (in-range (a .point .ranges))), long, a .point .most))
 
 pub span-is : (asked : List ℕ) (c : ℕ) (f l : Key) (a b : Pair) (r : ℕ) → Seekable asked → (a .pyramid .0 ≡ f .pyramid .0) × (a .height .0 ≡ f .height .0) → (b .pyramid .0 ≡ l .pyramid .0) × (b .height .0 ≡ l .height .0)
     → r ≡ boundOf (askedOf asked) (a .pyramid .0) (a .height .0) (b .pyramid .0) (b .height .0) → SpanBound asked (record { child = c; first = f; last = l }) r

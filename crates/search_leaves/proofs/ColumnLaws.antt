@@ -5,7 +5,7 @@ use mathlib.Core.Logic.{_≢_}
 use mathlib.Core.List.{List, [], _∷_}
 use Prim.Native.Nat.{ℕ, zero, suc, _+_, _-_, _*_, _≤_, _<_}
 use native.Mathlib.Omega.{arith}
-use native.Mathlib.Nat.{mul-le-mul, le-refl}
+use native.Mathlib.Nat.{mul-le-mul, mul-suc, le-refl}
 use native.Mathlib.Numerals.{add-one}
 use lib.Dec.{ltb}
 use lib.ListN.{length, getD, take, set, replicate, length-set, getD-replicate}
@@ -17,13 +17,16 @@ use Rattle.lists.specs.Sorting.{count}
 use Rattle.lists.specs.SortingLaws.{count-append}
 use Rattle.lists.specs.Tests.{decide, by-cases}
 use Rattle.geometry.specs.Points.{distance}
+use Rattle.geometry.specs.Numbers.{maxWeight}
+use Rattle.geometry.specs.Features.{weightedDistance}
+use Rattle.geometry.proofs.WeightLaws.{weighted-more, weighted-end}
 use Rattle.geometry.specs.Stored.{pointOf}
 use Rattle.geometry.proofs.LoopLaws.{dist-more, dist-end}
 use Rattle.pagestore_page.specs.LayoutLaws.{leaf-fits, leaf-slots}
 use Rattle.pagestore_page.specs.Layout.{noRecord}
 use Rattle.search_model.specs.Asked.{AskedPoint}
-use Rattle.search_rows.specs.Rows.{distanceIn}
-use Rattle.search_leaves.specs.Columns.{coordsAt, costFrom, gapSquare, mostCost, Sized, Sums, costSpan, quartersLeft, Quarters, notPast, BehindPast}
+use Rattle.search_rows.specs.Rows.{distances, distanceIn}
+use Rattle.search_leaves.specs.Columns.{coordsAt, costFrom, weightedFrom, gapSquare, mostCost, mostWeighted, Sized, SumsBy, Sums, WeightedSums, costSpan, quartersLeft, Quarters, notPast, BehindPast}
 
 -- the square of a gap below 2,048
 pub square-most : (x y : ℕ) → x < 2048 → y < 2048 → gapSquare x y ≤ mostCost
@@ -79,20 +82,20 @@ unfolding costFrom
 cost-end page q r = dist-end q (coordsAt page r) (length q) (le-refl (length q))
 
 -- something has been added to the sums below i, nothing to those from i on: before, after: what is left to add for each record; lo, hi: so many coordinates
--- have been added
-pub record Adding (before after whole : ℕ → ℕ) (lo hi n i : ℕ) (sums : List ℕ) : Type 0 where
+-- have been added; most: the most that one costs
+pub record Adding (most : ℕ) (before after whole : ℕ → ℕ) (lo hi n i : ℕ) (sums : List ℕ) : Type 0 where
   pub slots : length sums ≡ 16
-  pub done : (r : ℕ) → r < i → (getD sums r 0 + after r ≡ whole r) × (getD sums r 0 ≤ mostCost * hi)
-  pub todo : (r : ℕ) → i ≤ r → r < n → (getD sums r 0 + before r ≡ whole r) × (getD sums r 0 ≤ mostCost * lo)
+  pub done : (r : ℕ) → r < i → (getD sums r 0 + after r ≡ whole r) × (getD sums r 0 ≤ most * hi)
+  pub todo : (r : ℕ) → i ≤ r → r < n → (getD sums r 0 + before r ≡ whole r) × (getD sums r 0 ≤ most * lo)
 
-module _ (before after whole : ℕ → ℕ) (lo hi n : ℕ) where
-  pub adding-start : (sums : List ℕ) → length sums ≡ 16 → ((r : ℕ) → r < n → getD sums r 0 + before r ≡ whole r) → ((r : ℕ) → r < n → getD sums r 0 ≤ mostCost * lo)
-      → Adding before after whole lo hi n 0 sums
+module _ (most : ℕ) (before after whole : ℕ → ℕ) (lo hi n : ℕ) where
+  pub adding-start : (sums : List ℕ) → length sums ≡ 16 → ((r : ℕ) → r < n → getD sums r 0 + before r ≡ whole r) → ((r : ℕ) → r < n → getD sums r 0 ≤ most * lo)
+      → Adding most before after whole lo hi n 0 sums
   adding-start sums l e f = record { slots = l; done = λ r h. absurd (omega arith); todo = λ r l h. (e r h, f r h) }
 
   -- c is added to the sum at i
-  pub adding-next : (i c : ℕ) (sums : List ℕ) → i < n → n ≤ 16 → before i ≡ c + after i → c + mostCost * lo ≤ mostCost * hi → Adding before after whole lo hi n i sums
-      → Adding before after whole lo hi n (i + 1) (set sums i (getD sums i 0 + c))
+  pub adding-next : (i c : ℕ) (sums : List ℕ) → i < n → n ≤ 16 → before i ≡ c + after i → c + most * lo ≤ most * hi → Adding most before after whole lo hi n i sums
+      → Adding most before after whole lo hi n (i + 1) (set sums i (getD sums i 0 + c))
   adding-next i c sums h f e l a =
       record {
         slots = length-set sums i (getD sums i 0 + c) ∙ a .slots;
@@ -100,46 +103,54 @@ module _ (before after whole : ℕ → ℕ) (lo hi n : ℕ) where
         todo = λ r g t. rw (getD-set-other sums i r (getD sums i 0 + c) 0 (omega arith)) (a .todo r (omega arith) t);
       }
     where
-      here : (r : ℕ) → r ≡ i → (getD (set sums i (getD sums i 0 + c)) r 0 + after r ≡ whole r) × (getD (set sums i (getD sums i 0 + c)) r 0 ≤ mostCost * hi)
+      here : (r : ℕ) → r ≡ i → (getD (set sums i (getD sums i 0 + c)) r 0 + after r ≡ whole r) × (getD (set sums i (getD sums i 0 + c)) r 0 ≤ most * hi)
       here r z =
           let s = a .slots in
           let w = a .todo i (le-refl i) h in
           rw (z, getD-set-same sums i (getD sums i 0 + c) 0 (omega arith)) (omega (arith, w .0), omega (arith, w .1))
 
-      there : (r : ℕ) → r < i + 1 → (r ≡ i → ⊥) → (getD (set sums i (getD sums i 0 + c)) r 0 + after r ≡ whole r) × (getD (set sums i (getD sums i 0 + c)) r 0 ≤ mostCost * hi)
+      there : (r : ℕ) → r < i + 1 → (r ≡ i → ⊥) → (getD (set sums i (getD sums i 0 + c)) r 0 + after r ≡ whole r) × (getD (set sums i (getD sums i 0 + c)) r 0 ≤ most * hi)
       there r g z = rw (getD-set-other sums i r (getD sums i 0 + c) 0 (omega arith)) (a .done r (omega (arith, z)))
 
-  -- no sum is near the end of its 32 bits
-  pub adding-fits : (i : ℕ) (sums : List ℕ) → Adding before after whole lo hi n i sums → i < n → lo ≤ 16 → getD sums i 0 ≤ 67043344
-  adding-fits i sums a h l = let w = a .todo i (le-refl i) h .1 in omega arith
+  -- what the sum at i is at most
+  pub adding-most : (i : ℕ) (sums : List ℕ) → Adding most before after whole lo hi n i sums → i < n → getD sums i 0 ≤ most * lo
+  adding-most i sums a h = a .todo i (le-refl i) h .1
 
--- a column, and four of them
-pub column-start : (page q : List ℕ) (m n : ℕ) (sums : List ℕ) → Sums page q m n sums → Adding (costFrom page q m) (costFrom page q (m + 1)) (costFrom page q 0) m (m + 1) n 0 sums
-column-start page q m n sums s = adding-start (costFrom page q m) (costFrom page q (m + 1)) (costFrom page q 0) m (m + 1) n sums (s .slots) (s .each) (s .low)
+-- a column
+module _ (left : ℕ → ℕ → ℕ) (most : ℕ) (page q : List ℕ) (m n : ℕ) where
+  abbrev pub AddingColumn : ℕ → List ℕ → Type 0
+  AddingColumn i sums = Adding most (left m) (left (m + 1)) (left 0) m (m + 1) n i sums
 
-pub column-end : (page q : List ℕ) (m n i : ℕ) (sums : List ℕ) → n ≤ i → Sized page q n → m < length q → Adding (costFrom page q m) (costFrom page q (m + 1)) (costFrom page q 0) m (m + 1) n i sums
-    → Sums page q (m + 1) n sums
-column-end page q m n i sums h s w a =
-    record { sized = s; within = omega arith; slots = a .slots; each = λ r g. a .done r (omega arith) .0; low = λ r g. a .done r (omega arith) .1 }
+  pub column-start : (sums : List ℕ) → SumsBy left most page q m n sums → AddingColumn 0 sums
+  column-start sums s = adding-start most (left m) (left (m + 1)) (left 0) m (m + 1) n sums (s .slots) (s .each) (s .low)
 
+  -- c is added for record i
+  pub column-next : (i c : ℕ) (sums : List ℕ) → i < n → n ≤ 16 → left m i ≡ c + left (m + 1) i → c ≤ most → AddingColumn i sums → AddingColumn (i + 1) (set sums i (getD sums i 0 + c))
+  column-next i c sums h f e l a = let more : most * (m + 1) ≡ most * m + most = ap (λ (x : ℕ). most * x) (add-one m) ∙ mul-suc most m in adding-next most (left m) (left (m + 1)) (left 0) m (m + 1) n i c sums h f e (omega arith) a
+
+  pub column-end : (i : ℕ) (sums : List ℕ) → n ≤ i → Sized page q n → m < length q → AddingColumn i sums → SumsBy left most page q (m + 1) n sums
+  column-end i sums h s w a =
+      record { sized = s; within = omega arith; slots = a .slots; each = λ r g. a .done r (omega arith) .0; low = λ r g. a .done r (omega arith) .1 }
+
+-- four of them
 module _ (page q : List ℕ) (s m n : ℕ) where
   abbrev pub AddingFour : ℕ → List ℕ → Type 0
-  AddingFour i sums = Adding (quartersLeft page q s m) (quartersLeft page q s (m + 1)) (costFrom page q 0) (4 * m) (4 * (m + 1)) n i sums
+  AddingFour i sums = Adding mostCost (quartersLeft page q s m) (quartersLeft page q s (m + 1)) (costFrom page q 0) (4 * m) (4 * (m + 1)) n i sums
 
   pub four-start : (sums : List ℕ) → Quarters page q s m n sums → AddingFour 0 sums
-  four-start sums w = adding-start (quartersLeft page q s m) (quartersLeft page q s (m + 1)) (costFrom page q 0) (4 * m) (4 * (m + 1)) n sums (w .slots) (w .each) (w .low)
+  four-start sums w = adding-start mostCost (quartersLeft page q s m) (quartersLeft page q s (m + 1)) (costFrom page q 0) (4 * m) (4 * (m + 1)) n sums (w .slots) (w .each) (w .low)
 
   -- c is added for record i
   pub four-next : (i c : ℕ) (sums : List ℕ) → i < n → n ≤ 16 → quartersLeft page q s m i ≡ c + quartersLeft page q s (m + 1) i → c ≤ mostCost * 4
       → AddingFour i sums → AddingFour (i + 1) (set sums i (getD sums i 0 + c))
   four-next i c sums h f e l a =
       let before = quartersLeft page q s m in let after = quartersLeft page q s (m + 1) in
-      adding-next before after (costFrom page q 0) (4 * m) (4 * (m + 1)) n i c sums h f e (omega arith) a
+      adding-next mostCost before after (costFrom page q 0) (4 * m) (4 * (m + 1)) n i c sums h f e (omega arith) a
 
   pub four-fits : (i : ℕ) (sums : List ℕ) → AddingFour i sums → i < n → 4 * m ≤ 16 → getD sums i 0 ≤ 67043344
   four-fits i sums a h l =
       let before = quartersLeft page q s m in let after = quartersLeft page q s (m + 1) in
-      adding-fits before after (costFrom page q 0) (4 * m) (4 * (m + 1)) n i sums a h l
+      let w = adding-most mostCost before after (costFrom page q 0) (4 * m) (4 * (m + 1)) n i sums a h in omega arith
 
   pub four-end : (i : ℕ) (sums : List ℕ) → n ≤ i → Sized page q n → 4 * s ≤ length q → m < s → AddingFour i sums → Quarters page q s (m + 1) n sums
   four-end i sums h z w l a =
@@ -183,8 +194,8 @@ quarters-end page q s m n sums h w =
     }
 
 -- before the first column
-pub sums-start : (page q : List ℕ) (n : ℕ) → length page ≡ 1024 → AskedPoint q → n ≤ 16 → Sums page q 0 n (replicate 16 0)
-sums-start page q n l a f = record {
+pub sums-start : (left : ℕ → ℕ → ℕ) (most : ℕ) (page ws q : List ℕ) (n : ℕ) → length page ≡ 1024 → AskedPoint ws q → n ≤ 16 → SumsBy left most page q 0 n (replicate 16 0)
+sums-start left most page ws q n l a f = record {
   sized = record { bytes = l; most = a .most; ranges = all-map (λ c (h : c ≤ 2000). omega arith) (a .ranges); few = f };
   within = omega arith;
   slots = refl;
@@ -196,6 +207,33 @@ sums-start page q n l a f = record {
 pub sums-end : (page q : List ℕ) (n : ℕ) (sums : List ℕ) → Sums page q (length q) n sums → (r : ℕ) → r < n → getD sums r 0 ≡ distance (pointOf q) (pointOf (coordsAt page r))
 unfolding costFrom
 sums-end page q n sums s r h = let e = s .each r h in let z = cost-end page q r in omega arith
+
+-- ---- WITH WEIGHTS
+
+module _ (page ws q : List ℕ) where
+  -- one coordinate more
+  pub weighted-cost-more : (m r : ℕ) → length ws ≡ length q → m < length q → length q ≤ 16 → r < 16
+      → weightedFrom page ws q m r ≡ getD ws m 0 * gapSquare (getD q m 0) (getD (coordsAt page r) m 0) + weightedFrom page ws q (m + 1) r
+  unfolding weightedFrom gapSquare
+  weighted-cost-more m r e h l g = weighted-more ws q (coordsAt page r) m (omega arith) h (omega (arith, coords-slots page r g))
+
+  weighted-cost-end : (r : ℕ) → length ws ≡ length q → weightedFrom page ws q (length q) r ≡ 0
+  unfolding weightedFrom
+  weighted-cost-end r e = weighted-end ws q (coordsAt page r) (length q) (omega arith)
+
+  -- after the last column: the weighted distances
+  pub weighted-sums-end : (n : ℕ) (sums : List ℕ) → WeightedSums page ws q (length q) n sums → (r : ℕ) → r < n → getD sums r 0 ≡ weightedDistance ws (pointOf q) (pointOf (coordsAt page r))
+  unfolding weightedFrom
+  weighted-sums-end n sums s r h = let e = s .by .each r h in let z = weighted-cost-end r (s .number) in omega arith
+
+  -- which the words of a row have room for
+  pub weighted-sums-small : (n : ℕ) (sums : List ℕ) → WeightedSums page ws q (length q) n sums → (r : ℕ) → r < n → getD sums r 0 < distances
+  weighted-sums-small n sums s r h =
+      let top : mostWeighted * length q ≤ mostWeighted * 16 = mul-le-mul (le-refl mostWeighted) (s .by .sized .most) in omega (arith, s .by .low r h)
+
+-- a weight of a coordinate
+pub weight-light : (page ws q : List ℕ) (m n : ℕ) (sums : List ℕ) → WeightedSums page ws q m n sums → m < length q → getD ws m 0 ≤ maxWeight
+weight-light page ws q m n sums s h = all-at (s .light) m 0 (omega (arith, s .number))
 
 -- ---- NONE NEAR ENOUGH
 

@@ -6,16 +6,16 @@ use lib.IntN.{ℤ}
 use Prim.Native.Nat.{ℕ, zero, suc, _+_, _*_, _-_, _≤_, _<_, min}
 use native.Mathlib.Omega.{arith}
 use native.Mathlib.Nat.{le-refl, mul-le-mul}
-use lib.ListN.{length, take, drop, getD, length-take}
+use lib.ListN.{length, take, drop, getD, replicate, length-take, length-replicate}
 use lib.Seq.{take-all}
 use Rattle.lists.specs.Sorting.{filter, count}
 use Rattle.lists.specs.SortingLaws.{filter-first, filter-past, offer-take, offerAll-take, insAll-ins}
 use Rattle.lists.specs.Sorting as sorting
 use Rattle.lists.specs.Tests.{by-cases}
 use Rattle.geometry.specs.Points.{distance}
-use Rattle.geometry.specs.Features.{plain}
+use Rattle.geometry.specs.Features.{weighted, weightedDistance}
 use Rattle.geometry.specs.Stored.{pointOf}
-use Rattle.geometry.proofs.SliceLaws.{plain-distance, plain-length}
+use Rattle.geometry.proofs.WeightLaws.{weighted-distance, weighted-length, ones-distance}
 use Rattle.geometry.proofs.StoredLaws.{length-point, point-take}
 use Rattle.pagestore_page.specs.declared.Record.{Record}
 use Rattle.pagestore_page.specs.declared.Leaf.{Leaf}
@@ -34,28 +34,37 @@ use Rattle.search_model.specs.declared.Choice.{Choice}
 use Rattle.search_model.specs.Asked.{Asked, distanceTo, candidate, asking, askingPoint}
 use Rattle.search_model.specs.Branches.{rowOf, rowsAmong}
 use Rattle.search_leaves.specs.Columns.{recordIn, rowAt, mostCost, Sums, notPast, BehindPast}
-use Rattle.search_model.specs.Asked.{lowEnds, Seekable}
-use Rattle.search_leaves.specs.Offering.{OfferedAll, OfferedRecord}
+use Rattle.search_model.specs.Asked.{lowEnds, weightsIn, Seekable}
+use Rattle.search_leaves.specs.Offering.{OfferedAll, OfferedRecord, ones}
 use Rattle.search_leaves.proofs.ColumnLaws.{sums-end, none-within}
 
 -- ---- OFFERING
 
 -- only as many coordinates count as the asked point has
-first-coords : (q p : List ℤ) → distance q (take (length q) p) ≡ distance q p
-unfolding distance
-first-coords [] p = refl
-first-coords (x ∷ q) [] = refl
-first-coords (x ∷ q) (y ∷ p) = rw (first-coords q p)
+first-coords : (ws : List ℕ) (q p : List ℤ) → weightedDistance ws q (take (length q) p) ≡ weightedDistance ws q p
+unfolding weightedDistance
+first-coords [] q p = refl
+first-coords (w ∷ ws) [] p = refl
+first-coords (w ∷ ws) (x ∷ q) [] = refl
+first-coords (w ∷ ws) (x ∷ q) (y ∷ p) = rw (first-coords ws q p)
 
--- the distance from a point, whose coordinates are as stored
-pub point-distance : (q : List ℕ) (k : ℕ) (c : Choice) (x : Record) (D : ℕ) → D ≡ distance (pointOf q) (pointOf (x .coords)) → D ≡ distanceTo (askingPoint q k c) x
+-- the distance from a point and its weights, whose coordinates are as stored
+pub point-distance : (ws q : List ℕ) (k : ℕ) (c : Choice) (x : Record) (D : ℕ) → length ws ≡ length q → D ≡ weightedDistance ws (pointOf q) (pointOf (x .coords)) → D ≡ distanceTo (askingPoint ws q k c) x
 unfolding distanceTo
-point-distance q k c x D e =
-    let n : length (plain (pointOf q)) ≡ length q = plain-length (pointOf q) ∙ length-point q in
-    e ∙ sym (plain-distance (pointOf q) (pointIn (length (plain (pointOf q))) x)
-    ∙ ap (λ (m : ℕ). distance (pointOf q) (pointIn m x)) n
-    ∙ ap (λ (p : List ℤ). distance (pointOf q) p) (point-take (length q) (x .coords)) ∙ ap (λ (m : ℕ). distance (pointOf q) (take m (pointOf (x .coords)))) (sym (length-point q))
-    ∙ first-coords (pointOf q) (pointOf (x .coords)))
+point-distance ws q k c x D l e =
+    let fs = weighted ws (pointOf q) in
+    let n : length fs ≡ length q = weighted-length ws (pointOf q) (l ∙ sym (length-point q)) ∙ length-point q in
+    e ∙ sym (weighted-distance ws (pointOf q) (pointIn (length fs) x)
+    ∙ ap (λ (m : ℕ). weightedDistance ws (pointOf q) (pointIn m x)) n
+    ∙ ap (λ (p : List ℤ). weightedDistance ws (pointOf q) p) (point-take (length q) (x .coords)) ∙ ap (λ (m : ℕ). weightedDistance ws (pointOf q) (take m (pointOf (x .coords)))) (sym (length-point q))
+    ∙ first-coords ws (pointOf q) (pointOf (x .coords)))
+
+-- and from one without weights
+pub plain-point-distance : (q : List ℕ) (k : ℕ) (c : Choice) (x : Record) (D : ℕ) → D ≡ distance (pointOf q) (pointOf (x .coords)) → D ≡ distanceTo (askingPoint (ones q) q k c) x
+plain-point-distance q k c x D e =
+    let same : ones q ≡ replicate (length (pointOf q)) 1 = ap (λ (n : ℕ). replicate n 1) (sym (length-point q)) in
+    point-distance (ones q) q k c x D (length-replicate {A = ℕ} (length q) 1)
+    (e ∙ sym (ones-distance (pointOf q) (pointOf (x .coords))) ∙ ap (λ (ws : List ℕ). weightedDistance ws (pointOf q) (pointOf (x .coords))) (sym same))
 
 -- a row offered last
 offer-last : (k : ℕ) (x : Row) (xs s : List Row) → length s ≤ k
@@ -162,28 +171,28 @@ module _ (page q : List ℕ) (position k : ℕ) (choice : Choice) (n full limit 
       let top : mostCost * length q ≤ mostCost * 16 = mul-le-mul (le-refl mostCost) m in
       past (getD sums i 0) (omega arith) (none-within limit full sums none i h (omega arith))
 
-  unmoved : (i : ℕ) → i < full → rowsIn highs lows n ≡ sorting.offerAll rowOrder k (rowsAmong (askingPoint q k choice) position (recordIn page i ∷ [])) (rowsIn highs lows n)
+  unmoved : (i : ℕ) → i < full → rowsIn highs lows n ≡ sorting.offerAll rowOrder k (rowsAmong (askingPoint (ones q) q k choice) position (recordIn page i ∷ [])) (rowsIn highs lows n)
   unmoved i h =
-      record-behind page i (getD sums i 0) position highs lows n k choice held (far i h) .rows (askingPoint q k choice) refl
-      (point-distance q k choice (recordIn page i) (getD sums i 0) (sums-end page q full sums s i h))
+      record-behind page i (getD sums i 0) position highs lows n k choice held (far i h) .rows (askingPoint (ones q) q k choice) refl
+      (plain-point-distance q k choice (recordIn page i) (getD sums i 0) (sums-end page q full sums s i h))
 
-  pub none-offered : OfferedAll highs lows n k (rowsAmong (askingPoint q k choice) position (recordsIn (leafOf page))) n highs lows
+  pub none-offered : OfferedAll highs lows n k (rowsAmong (askingPoint (ones q) q k choice) position (recordsIn (leafOf page))) n highs lows
   none-offered =
       let c = min (leafOf page .count) 16 in
       record {
         held = held;
-        rows = sym (offers-none page (askingPoint q k choice) position k (leafOf page) refl c refl (rowsIn highs lows n) (held-few highs lows n k held) (λ i h. unmoved i (omega arith)) c 0 (omega arith))
-            ∙ offers-all page (askingPoint q k choice) position k (leafOf page) refl c refl (rowsIn highs lows n);
+        rows = sym (offers-none page (askingPoint (ones q) q k choice) position k (leafOf page) refl c refl (rowsIn highs lows n) (held-few highs lows n k held) (λ i h. unmoved i (omega arith)) c 0 (omega arith))
+            ∙ offers-all page (askingPoint (ones q) q k choice) position k (leafOf page) refl c refl (rowsIn highs lows n);
       }
 
 -- ---- A PAGE OF THE INDEX
 
--- the part of the index at a page holds its leaf, and the low ends of a question for a point are the point
-pub offered-part : (b : List ℕ) (p : ℕ) (asked : List ℕ) (position : ℕ) (highs lows : List ℕ) (n k : ℕ) (c : Choice) (r : ℕ) (highs' lows' : List ℕ) → inRange b p ≡ true → Seekable asked
-    → OfferedAll highs lows n k (rowsAmong (askingPoint (lowEnds asked) k c) position (recordsIn (leafOf (take (p * 1024 + 1024 - p * 1024) (drop (p * 1024) b))))) r highs' lows'
+-- the part of the index at a page holds its leaf, and the low ends and weights of a question are the point's
+pub offered-part : (b : List ℕ) (p : ℕ) (asked ws : List ℕ) (position : ℕ) (highs lows : List ℕ) (n k : ℕ) (c : Choice) (r : ℕ) (highs' lows' : List ℕ) → inRange b p ≡ true → Seekable asked → ws ≡ weightsIn asked
+    → OfferedAll highs lows n k (rowsAmong (askingPoint ws (lowEnds asked) k c) position (recordsIn (leafOf (take (p * 1024 + 1024 - p * 1024) (drop (p * 1024) b))))) r highs' lows'
     → OfferedAll highs lows n k (rowsAmong (asking asked k c) position (recordsIn (leafAt b p))) r highs' lows'
-offered-part b p asked position highs lows n k c r highs' lows' e s h =
-    rw (s .is) (rw (leaf-part b p (p * 1024 + 1024 - p * 1024) (omega arith) e) at h)
+offered-part b p asked ws position highs lows n k c r highs' lows' e s w h =
+    rw (s .is, ← w) (rw (leaf-part b p (p * 1024 + 1024 - p * 1024) (omega arith) e) at h)
 
 -- and out of range there are no records
 pub offered-outside : (b : List ℕ) (p : ℕ) (q : Asked) (position : ℕ) (highs lows : List ℕ) (n k : ℕ) → inRange b p ≡ false → Held highs lows n k

@@ -3,15 +3,15 @@ use mathlib.Core.Path.{_≡_}
 use mathlib.Core.Bool.{Bool}
 use mathlib.Core.List.{List, [], _∷_}
 use Prim.Native.Nat.{ℕ, _<_}
-use lib.ListN.{length}
+use lib.ListN.{length, replicate}
 use Rattle.lists.specs.Sorting as sorting
 use Rattle.pagestore_page.specs.Layout.{leafOf, maxItems, pageSize}
 use Rattle.pagestore.specs.Store.{leafAt, recordsIn}
 use Rattle.search_rows.specs.declared.Row.{Row}
-use Rattle.search_rows.specs.Rows.{rowOrder, FitsWords}
+use Rattle.search_rows.specs.Rows.{positions, rowOrder, FitsWords}
 use Rattle.search_rows.specs.Held.{rowsIn, Held}
 use Rattle.search_model.specs.declared.Choice.{Choice}
-use Rattle.search_model.specs.Asked.{Asked, distanceTo, candidate, asking, askingPoint}
+use Rattle.search_model.specs.Asked.{Asked, distanceTo, candidate, asking, askingPoint, AskedPoint}
 use Rattle.search_model.specs.Branches.{rowsAmong}
 use Rattle.search_leaves.specs.Columns.{recordIn, rowAt}
 
@@ -20,10 +20,21 @@ pub record OfferedAll (highs lows : List ℕ) (n k : ℕ) (xs : List Row) (r : �
   pub held : Held highs' lows' r k
   pub rows : rowsIn highs' lows' r ≡ sorting.offerAll rowOrder k xs (rowsIn highs lows n)
 
--- those of the candidates in a leaf page, for a point
-abbrev pub OfferedPart : List ℕ → List ℕ → ℕ → List ℕ → List ℕ → ℕ → ℕ → Choice → ℕ → List ℕ → List ℕ → Type 0
-OfferedPart page q position highs lows n k c r highs' lows' =
-    OfferedAll highs lows n k (rowsAmong (askingPoint q k c) position (recordsIn (leafOf page))) r highs' lows'
+-- those of the candidates in a leaf page, for a point and its weights
+abbrev pub OfferedPart : List ℕ → List ℕ → List ℕ → ℕ → List ℕ → List ℕ → ℕ → ℕ → Choice → ℕ → List ℕ → List ℕ → Type 0
+OfferedPart page ws q position highs lows n k c r highs' lows' =
+    OfferedAll highs lows n k (rowsAmong (askingPoint ws q k c) position (recordsIn (leafOf page))) r highs' lows'
+
+-- what offering them asks for
+pub record LeafOffers (page ws q : List ℕ) (position : ℕ) (highs lows : List ℕ) (n k : ℕ) : Type 0 where
+  pub bytes : length page ≡ pageSize
+  pub point : AskedPoint ws q
+  pub placed : position < positions
+  pub held : Held highs lows n k
+
+-- every weight is 1
+abbrev pub ones : List ℕ → List ℕ
+ones q = replicate (length q) 1
 
 -- and in the leaf at a page of the index
 abbrev pub OfferedLeaf : List ℕ → ℕ → List ℕ → ℕ → List ℕ → List ℕ → ℕ → ℕ → Choice → ℕ → List ℕ → List ℕ → Type 0

@@ -1,11 +1,11 @@
-// The squared distances of a leaf's records together, coordinate by coordinate: a column of the page holds one coordinate of all its
+// The distances of a leaf's records together, coordinate by coordinate: a column of the page holds one coordinate of all its
 // records, so that each loop goes over neighbours.
 ghost use mathlib.Core.Path.{_≡_};
 ghost use Prim.Native.Nat.{_+_, _*_, _≤_, _<_};
 ghost use lib.IntN.{pos, natAbs, _-ℤ_};
 ghost use lib.ListN.{length, getD};
-ghost use Rattle.search_leaves.specs.Columns.{coordsAt, gapSquare, mostCost, Sums, Quarters};
-ghost use Rattle.geometry.specs.Numbers.{maxFeatures};
+ghost use Rattle.search_leaves.specs.Columns.{coordsAt, gapSquare, mostCost, mostWeighted, Sums, WeightedSums, Quarters};
+ghost use Rattle.geometry.specs.Numbers.{maxFeatures, maxWeight};
 ghost use Rattle.pagestore_page.specs.Layout.{maxItems, pageSize};
 use pagestore::read_coord;
 
@@ -124,4 +124,38 @@ pub fn add_columns(page: &[u8], q: &[u16], n: usize, sums: &mut [u32])
 {
     let m = add_quarters(page, q, n, sums);
     add_rest(page, q, m, n, sums);
+}
+
+// What a coordinate costs with its weight.
+fn weighted_cost(cost: u32, weight: u16) -> u64
+    requires { ⌜ (cost ≤ mostCost) × (weight ≤ maxWeight) ⌝ }
+    ensures { λ r. ⌜ (r ≡ weight * cost) × (r ≤ mostWeighted) ⌝ }
+{
+    weight as u64 * cost as u64
+}
+
+// Adds what coordinate m costs with its weight to the sums of the first n records.
+fn add_weighted(page: &[u8], q: &[u16], weights: &[u16], m: usize, n: usize, sums: &mut [u64])
+    requires { ⌜ WeightedSums (now page) (now weights) (now q) m n (now sums) × (m < length (now q)) ⌝ }
+    ensures { λ _. ⌜ WeightedSums (now (page .entry)) (now (weights .entry)) (now (q .entry)) (m + 1) n (now (sums .exit)) ⌝ }
+{
+    let x = q[m];
+    let weight = weights[m];
+    let mut r = 0;
+    while r < n {
+        sums[r] += weighted_cost(cost_at(page, m, r, x), weight);
+        r += 1;
+    }
+}
+
+// The weighted distances of the first n records of a leaf page from the asked point.
+pub fn add_weighted_columns(page: &[u8], q: &[u16], weights: &[u16], n: usize, sums: &mut [u64])
+    requires { ⌜ WeightedSums (now page) (now weights) (now q) 0 n (now sums) ⌝ }
+    ensures { λ _. ⌜ WeightedSums (now (page .entry)) (now (weights .entry)) (now (q .entry)) (length (now (q .entry))) n (now (sums .exit)) ⌝ }
+{
+    let mut m = 0;
+    while m < q.len() {
+        add_weighted(page, q, weights, m, n, sums);
+        m += 1;
+    }
 }

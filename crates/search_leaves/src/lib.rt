@@ -1,17 +1,21 @@
 // Leaves: the one function that reads leaf pages.
 ghost use mathlib.Core.Path.{_≡_};
+ghost use mathlib.Core.Bool.{true};
 ghost use Prim.Native.Nat.{_≤_, _<_, min};
 ghost use lib.ListN.{length, take};
 ghost use Rattle.lists.specs.Basics.{indicator};
 ghost use Rattle.lists.specs.Sorting.{count};
 ghost use Rattle.search_rows.specs.Rows.{distances, positions};
 ghost use Rattle.search_rows.specs.Held.{Held};
-ghost use Rattle.search_leaves.specs.Columns.{notPast, BehindPast};
-ghost use Rattle.search_model.specs.Asked.{inStages, AskedPoint, Seekable};
-ghost use Rattle.search_leaves.specs.Offering.{Tells, Offers, OfferedRecord, OfferedPart, OfferedLeaf};
+ghost use Rattle.search_leaves.specs.Columns.{rowAt, notPast, BehindPast};
+ghost use Rattle.search_model.specs.Asked.{inStages, Seekable};
+ghost use Rattle.geometry_slices.specs.Questions.{Unweighted};
+ghost use Rattle.search_leaves.specs.Offering.{Tells, Offers, OfferedRecord, ones, LeafOffers, OfferedPart, OfferedLeaf};
 ghost use Rattle.pagestore_page.specs.Layout.{maxItems, pageSize};
 use crate::columns::add_columns;
+use crate::columns::add_weighted_columns;
 use geometry_slices::REACHES_FROM;
+use geometry_slices::WEIGHTS_FROM;
 use pagestore::MAX_ITEMS;
 use pagestore::PAGE_SIZE;
 use pagestore::in_range;
@@ -102,6 +106,19 @@ fn is_candidate(page: &[u8], i: usize, choice: Choice) -> bool
     in_stages(choice.stages, read_stage(page, i))
 }
 
+// The row of the record in slot i of a leaf page at a position, whose distance is told.
+fn row_in(page: &[u8], i: usize, distance: u64, position: u32) -> Row
+    requires { ⌜ (length (now page) ≡ pageSize) × (i < maxItems) ⌝ }
+    ensures { λ r. ⌜ r ≡ rowAt (now (page .entry)) i distance position ⌝ }
+{
+    Row {
+        distance: distance,
+        id: read_ident(page, i),
+        stamp: read_stamp(page, i),
+        position: position as u64,
+    }
+}
+
 // Offers the record in slot i of a leaf page, whose squared distance is told, if it is a candidate. Its identifier and
 // its stamp are read only where the distance is near enough for a row.
 fn offer_record(
@@ -125,20 +142,13 @@ fn offer_record(
     if !is_candidate(page, i, choice) {
         return n;
     }
-    let row = Row {
-        distance: distance,
-        id: read_ident(page, i),
-        stamp: read_stamp(page, i),
-        position: position as u64,
-    };
-    offer(highs, lows, n, k, row)
+    offer(highs, lows, n, k, row_in(page, i, distance, position))
 }
 
-// Offers the records of a leaf page, handed over as a part of the index, to the n rows held. No function of the search reads a
-// leaf page but this one and those to which it hands the part on. The distances come first, all together; where none is near
-// enough, no record is looked at. Records are offered from the last on: of those at one point identifiers rise, and where stamps
-// rise with them, as in one recording, the best are offered first.
-fn offer_leaf(
+// Offers the records of a leaf page to the n rows held, for a point without weights. The distances come first, all together; where
+// none is near enough, no record is looked at. Records are offered from the last on: of those at one point identifiers rise, and
+// where stamps rise with them, as in one recording, the best are offered first.
+fn offer_plain(
     page: &[u8],
     q: &[u16],
     position: u32,
@@ -148,9 +158,9 @@ fn offer_leaf(
     k: usize,
     choice: Choice,
 ) -> usize
-    requires { ⌜ (length (now page) ≡ pageSize) × AskedPoint (now q) × (position < positions) × Held (now highs) (now lows) n k ⌝ }
-    ensures { λ r. ⌜ OfferedPart (now (page .entry)) (now (q .entry)) position (now (highs .entry)) (now (lows .entry)) n k choice
-        r (now (highs .exit)) (now (lows .exit)) ⌝ }
+    requires { ⌜ LeafOffers (now page) (ones (now q)) (now q) position (now highs) (now lows) n k ⌝ }
+    ensures { λ r. ⌜ OfferedPart (now (page .entry)) (ones (now (q .entry))) (now (q .entry)) position
+        (now (highs .entry)) (now (lows .entry)) n k choice r (now (highs .exit)) (now (lows .exit)) ⌝ }
 {
     let count = filled(read_count(page));
     let full = lanes(count);
@@ -169,11 +179,11 @@ fn offer_leaf(
     rows
 }
 
-// Reads the leaf at a page and offers its records; a number that is no page's has none.
-pub fn visit_leaf(
-    index: &[u8],
-    page: u32,
-    asked: &[u16],
+// The same as `offer_record`, for the loop of weighted distances: a function that two loops call would be compiled into neither.
+fn offer_weighted_record(
+    page: &[u8],
+    i: usize,
+    distance: u64,
     position: u32,
     highs: &mut [u64],
     lows: &mut [u64],
@@ -181,25 +191,108 @@ pub fn visit_leaf(
     k: usize,
     choice: Choice,
 ) -> usize
-    requires { ⌜ Seekable (now asked) × (position < positions) × Held (now highs) (now lows) n k ⌝ }
+    requires { ⌜ Offers (now page) i distance position (now highs) (now lows) n k ⌝ }
+    ensures { λ r. ⌜ OfferedRecord (now (page .entry)) i distance position (now (highs .entry)) (now (lows .entry)) n k choice
+        r (now (highs .exit)) (now (lows .exit)) ⌝ }
+{
+    if behind(highs, n, k, distance) {
+        return n;
+    }
+    if is_candidate(page, i, choice) {
+        return offer(highs, lows, n, k, row_in(page, i, distance, position));
+    }
+    n
+}
+
+// The same for a point with weights, whose sums take more than 32 bits; each record is looked at.
+fn offer_weighted(
+    page: &[u8],
+    q: &[u16],
+    weights: &[u16],
+    position: u32,
+    highs: &mut [u64],
+    lows: &mut [u64],
+    n: usize,
+    k: usize,
+    choice: Choice,
+) -> usize
+    requires { ⌜ LeafOffers (now page) (now weights) (now q) position (now highs) (now lows) n k ⌝ }
+    ensures { λ r. ⌜ OfferedPart (now (page .entry)) (now (weights .entry)) (now (q .entry)) position
+        (now (highs .entry)) (now (lows .entry)) n k choice r (now (highs .exit)) (now (lows .exit)) ⌝ }
+{
+    let count = filled(read_count(page));
+    let full = lanes(count);
+    let mut sums = [0u64; MAX_ITEMS];
+    add_weighted_columns(page, q, weights, full, &mut sums);
+    let mut rows = n;
+    let mut i = count;
+    while i > 0 {
+        i -= 1;
+        rows = offer_weighted_record(page, i, sums[i], position, highs, lows, rows, k, choice);
+    }
+    rows
+}
+
+// Offers the records of a leaf page, handed over as a part of the index, to the n rows held. No function of the search reads a
+// leaf page but this one and those to which it hands the part on.
+fn offer_leaf(
+    page: &[u8],
+    q: &[u16],
+    weights: &[u16],
+    unweighted: bool,
+    position: u32,
+    highs: &mut [u64],
+    lows: &mut [u64],
+    n: usize,
+    k: usize,
+    choice: Choice,
+) -> usize
+    requires { ⌜ LeafOffers (now page) (now weights) (now q) position (now highs) (now lows) n k
+        × (unweighted ≡ true → now weights ≡ ones (now q)) ⌝ }
+    ensures { λ r. ⌜ OfferedPart (now (page .entry)) (now (weights .entry)) (now (q .entry)) position
+        (now (highs .entry)) (now (lows .entry)) n k choice r (now (highs .exit)) (now (lows .exit)) ⌝ }
+{
+    if unweighted {
+        return offer_plain(page, q, position, highs, lows, n, k, choice);
+    }
+    offer_weighted(page, q, weights, position, highs, lows, n, k, choice)
+}
+
+// Reads the leaf at a page and offers its records; a number that is no page's has none.
+pub fn visit_leaf(
+    index: &[u8],
+    page: u32,
+    asked: &[u16],
+    unweighted: bool,
+    position: u32,
+    highs: &mut [u64],
+    lows: &mut [u64],
+    n: usize,
+    k: usize,
+    choice: Choice,
+) -> usize
+    requires { ⌜ Seekable (now asked) × (unweighted ≡ true → Unweighted (now asked)) × (position < positions)
+        × Held (now highs) (now lows) n k ⌝ }
     ensures { λ r. ⌜ OfferedLeaf (now (index .entry)) page (now (asked .entry)) position (now (highs .entry)) (now (lows .entry))
         n k choice r (now (highs .exit)) (now (lows .exit)) ⌝ }
 {
-    if in_range(index, page) {
-        let at = page as usize * PAGE_SIZE;
-        let end = at + PAGE_SIZE;
-        let d = asked.len() - REACHES_FROM;
-        offer_leaf(
-            &index[at..end],
-            &asked[..d],
-            position,
-            highs,
-            lows,
-            n,
-            k,
-            choice,
-        )
-    } else {
-        n
+    if !in_range(index, page) {
+        return n;
     }
+    let at = page as usize * PAGE_SIZE;
+    let end = at + PAGE_SIZE;
+    let d = asked.len() - REACHES_FROM;
+    let last = WEIGHTS_FROM + d;
+    offer_leaf(
+        &index[at..end],
+        &asked[..d],
+        &asked[WEIGHTS_FROM..last],
+        unweighted,
+        position,
+        highs,
+        lows,
+        n,
+        k,
+        choice,
+    )
 }

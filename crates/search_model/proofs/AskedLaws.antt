@@ -2,11 +2,12 @@
 use mathlib.Core.Path.{_≡_, refl, sym, ap, _∙_}
 use mathlib.Core.Bool.{Bool, true, false}
 use mathlib.Core.List.{List, [], _∷_, map}
-use Prim.Native.Nat.{ℕ, zero, suc, _+_, _*_, _/_, _%_, _^_, _≤_}
+use Prim.Native.Nat.{ℕ, zero, suc, _+_, _*_, _/_, _%_, _^_, _≤_, _<_}
 use native.Mathlib.Omega.{arith}
 use lib.Dec.{eqb}
 use lib.IntN.{ℤ}
-use lib.ListN.{length, length-take}
+use lib.ListN.{length, drop, replicate, length-take, length-replicate, getD-replicate}
+use lib.Seq.{getD-take, getD-drop, ext-getD}
 use borrow.Author.Tests.{eqb-true, eqb-false}
 use Rattle.lists.specs.Basics.{All, none, also, all-map, indicator}
 use Rattle.lists.specs.Tests.{by-cases}
@@ -14,17 +15,19 @@ use Rattle.lists.specs.Choices.{indicator-le}
 use Rattle.lists.specs.Sorting.{filter}
 use Rattle.lists.specs.SortingLaws.{filter-all}
 use Rattle.geometry.specs.Points.{InRange}
-use Rattle.geometry.specs.Features.{Feature, plain}
-use Rattle.geometry_slices.specs.Questions.{featuresOf, sizeOf, partFrom, askedOf, Packed, nearPlaces, wholePlaces}
+use Rattle.geometry.specs.Features.{Feature, weighted}
+use Rattle.geometry.specs.Numbers.{maxWeight}
+use Rattle.geometry_slices.specs.Questions.{featuresOf, weightsFrom, sizeOf, partFrom, askedOf, Packed, Unweighted, nearPlaces, wholePlaces}
 use Rattle.geometry_bounds.specs.Bounds.{Preparable}
 use Rattle.geometry.specs.Stored.{coordOf, pointOf}
 use Rattle.geometry.proofs.StoredLaws.{coord-magnitude, length-point}
-use Rattle.geometry.proofs.SliceLaws.{plain-ordered, plain-length, plain-asks}
+use Rattle.geometry.proofs.SliceLaws.{plain-ordered, plain-length}
+use Rattle.geometry.proofs.WeightLaws.{weighted-length, weighted-ordered, weighted-asks}
 use Rattle.pagestore_page.specs.declared.Record.{Record}
 use Rattle.tree_model.specs.Sound.{maxStage, RecordOk}
 use Rattle.search_model.specs.declared.Choice.{Choice}
 use Rattle.search_model.specs.Asked.{Asked, setOf, inStages, fullSet, plainly, candidate, Askable}
-use Rattle.search_model.specs.Asked.{lowEnds, Seekable}
+use Rattle.search_model.specs.Asked.{lowEnds, weightsIn, Seekable}
 use Rattle.search_model.proofs.RecordLaws.{in-range}
 
 -- ---- STAGES
@@ -87,10 +90,17 @@ candidates-full q e d rs a = filter-all (candidate q) rs (all-map (λ r (h : Rec
 pub plain-suits : (d : ℕ) (p : List ℤ) (k : ℕ) (c : Choice) → length p ≡ d → Askable d (plainly p k c)
 plain-suits d p k c e = record { same = plain-length p ∙ e; ordered = plain-ordered p }
 
+-- and with weights
+pub weighted-suits : (d : ℕ) (ws : List ℕ) (p : List ℤ) (k : ℕ) (c : Choice) → length p ≡ d → length ws ≡ d → Askable d (record { features = weighted ws p; k = k; choice = c })
+weighted-suits d ws p k c e f = record { same = weighted-length ws p (f ∙ sym e) ∙ e; ordered = weighted-ordered ws p }
+
 -- ---- A QUESTION FOR A POINT, AS ONE LIST
 
 abbrev lowest : Feature → ℤ
 lowest f = f .low
+
+abbrev weightOf : Feature → ℕ
+weightOf f = f .weight
 
 features-low : (ls hs ws : List ℕ) → length hs ≡ length ls → length ws ≡ length ls → map lowest (featuresOf ls hs ws) ≡ pointOf ls
 unfolding featuresOf pointOf
@@ -99,42 +109,81 @@ features-low (l ∷ ls) [] ws e f = absurd (omega arith)
 features-low (l ∷ ls) (h ∷ hs) [] e f = absurd (omega arith)
 features-low (l ∷ ls) (h ∷ hs) (w ∷ ws) e f = ap (λ (p : List ℤ). coordOf l ∷ p) (features-low ls hs ws (omega arith) (omega arith))
 
-plain-low : (p : List ℤ) → map lowest (plain p) ≡ p
-unfolding plain
-plain-low [] = refl
-plain-low (c ∷ cs) = ap (λ (p : List ℤ). c ∷ p) (plain-low cs)
+weights-of : (ls hs ws : List ℕ) → length hs ≡ length ls → length ws ≡ length ls → map weightOf (featuresOf ls hs ws) ≡ ws
+unfolding featuresOf
+weights-of [] hs [] e f = refl
+weights-of [] hs (w ∷ ws) e f = absurd (omega arith)
+weights-of (l ∷ ls) [] ws e f = absurd (omega arith)
+weights-of (l ∷ ls) (h ∷ hs) [] e f = absurd (omega arith)
+weights-of (l ∷ ls) (h ∷ hs) (w ∷ ws) e f = ap (λ (xs : List ℕ). w ∷ xs) (weights-of ls hs ws (omega arith) (omega arith))
+
+weighted-low : (ws : List ℕ) (p : List ℤ) → length ws ≡ length p → map lowest (weighted ws p) ≡ p
+unfolding weighted
+weighted-low [] [] e = refl
+weighted-low [] (c ∷ cs) e = absurd (omega arith)
+weighted-low (w ∷ ws) [] e = refl
+weighted-low (w ∷ ws) (c ∷ cs) e = ap (λ (p : List ℤ). c ∷ p) (weighted-low ws cs (omega arith))
+
+weighted-weights : (ws : List ℕ) (p : List ℤ) → length ws ≡ length p → map weightOf (weighted ws p) ≡ ws
+unfolding weighted
+weighted-weights [] p e = refl
+weighted-weights (w ∷ ws) [] e = absurd (omega arith)
+weighted-weights (w ∷ ws) (c ∷ cs) e = ap (λ (xs : List ℕ). w ∷ xs) (weighted-weights ws cs (omega arith))
 
 stored-range : (xs : List ℕ) → InRange (pointOf xs) → All (λ c. c ≤ 2000) xs
 unfolding pointOf
 stored-range [] r = none
 stored-range (x ∷ xs) r = also {x = x} (omega (arith, coord-magnitude x, r .0)) (stored-range xs (r .1))
 
--- a list that stands for a point in range has it as its low ends
-module _ (asked : List ℕ) (p : List ℤ) (packed : Packed asked) (e : askedOf asked ≡ plain p) where
+-- a list that stands for a point in range and its weights has them as its low ends and weights
+module _ (asked ws : List ℕ) (p : List ℤ) (packed : Packed asked) (e : askedOf asked ≡ weighted ws p) (n : length ws ≡ length p) where
   ends : pointOf (lowEnds asked) ≡ p
   unfolding askedOf
   ends =
       sym (features-low (partFrom 0 asked) (partFrom 16 asked) (partFrom 32 asked) (packed .parts .highs) (packed .parts .weights))
-      ∙ ap (map lowest) e ∙ plain-low p
+      ∙ ap (map lowest) e ∙ weighted-low ws p n
 
   ends-length : length (lowEnds asked) ≡ length p
   ends-length = sym (length-point (lowEnds asked)) ∙ ap length ends
 
-  pub seekable-point : InRange p → 1 ≤ length p → Seekable asked
-  seekable-point r some =
+  weights-are : weightsIn asked ≡ ws
+  unfolding askedOf
+  weights-are =
+      sym (weights-of (partFrom 0 asked) (partFrom 16 asked) (partFrom 32 asked) (packed .parts .highs) (packed .parts .weights))
+      ∙ ap (map weightOf) e ∙ weighted-weights ws p n
+
+  pub seekable-point : All (λ x. x ≤ maxWeight) ws → InRange p → 1 ≤ length p → Seekable asked
+  seekable-point l r some =
       record {
         packed = packed;
-        point = record { some = omega (arith, ends-length); most = omega (arith, packed .parts .few); ranges = stored-range (lowEnds asked) (rw ends r) };
-        is = e ∙ ap plain (sym ends);
+        point = record {
+          some = omega (arith, ends-length);
+          most = omega (arith, packed .parts .few);
+          ranges = stored-range (lowEnds asked) (rw ends r);
+          number = ap length weights-are ∙ n ∙ sym ends-length;
+          light = rw weights-are l;
+        };
+        is = e ∙ (λ i. weighted (sym weights-are i) (sym ends i));
       }
 
 pub preparable : (asked near whole : List ℕ) → Seekable asked → length near ≡ nearPlaces → length whole ≡ wholePlaces → Preparable asked near whole
 preparable asked near whole s n w =
+    let ws = weightsIn asked in let p = pointOf (lowEnds asked) in
     record {
       some = omega (arith, s .point .some, length-take (sizeOf asked) asked);
       packed = s .packed;
-      ordered = rw (s .is) (plain-ordered (pointOf (lowEnds asked)));
-      asks = rw (s .is) (plain-asks 1000 (pointOf (lowEnds asked)) (omega arith) (in-range (s .point .ranges)));
+      ordered = rw (s .is) (weighted-ordered ws p);
+      asks = rw (s .is) (weighted-asks maxWeight ws p (s .point .light) (in-range (s .point .ranges)));
       places = n;
       wholes = w;
     }
+
+-- a question that has no weights has those of ones
+pub ones-in : (asked : List ℕ) → Seekable asked → Unweighted asked → weightsIn asked ≡ replicate (length (lowEnds asked)) 1
+ones-in asked s u =
+    let d = sizeOf asked in
+    let same : length (weightsIn asked) ≡ length (lowEnds asked) = s .point .number in
+    let few : length (lowEnds asked) ≤ d = omega (arith, length-take d asked) in
+    ext-getD 0 (weightsIn asked) (replicate (length (lowEnds asked)) 1) (same ∙ sym (length-replicate {A = ℕ} (length (lowEnds asked)) 1))
+    (λ m h. let l : m < d = omega arith in
+    getD-take d (drop weightsFrom asked) m 0 l ∙ getD-drop weightsFrom asked m 0 ∙ u m l .0 ∙ sym (getD-replicate {A = ℕ} (length (lowEnds asked)) m 1 0 (omega arith)))

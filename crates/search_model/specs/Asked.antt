@@ -9,11 +9,11 @@ use lib.ListN.{length, take}
 use Rattle.lists.specs.Basics.{All, indicator}
 use lib.IntN.{ℤ}
 use Rattle.geometry.specs.declared.Key.{Key}
-use Rattle.geometry.specs.Features.{Feature, distTo, plain, Ordered}
+use Rattle.geometry.specs.Features.{Feature, distTo, plain, weighted, Ordered}
 use Rattle.geometry.specs.Slices.{boundOf}
-use Rattle.geometry_slices.specs.Questions.{sizeOf, askedOf, Packed}
+use Rattle.geometry_slices.specs.Questions.{weightsFrom, sizeOf, partFrom, askedOf, Packed}
 use Rattle.geometry.specs.Stored.{pointOf}
-use Rattle.geometry.specs.Numbers.{maxFeatures}
+use Rattle.geometry.specs.Numbers.{maxFeatures, maxWeight}
 use Rattle.pagestore_page.specs.declared.Record.{Record}
 use Rattle.tree_model.specs.Trees.{pointIn}
 use Rattle.search_model.specs.declared.Choice.{Choice}
@@ -24,7 +24,7 @@ pub record Asked : Type 0 where
   pub k : ℕ
   pub choice : Choice
 
--- the squared distance of a record from what is asked
+-- the distance of a record from what is asked: squared, and weighted
 unfoldable pub distanceTo : Asked → Record → ℕ
 distanceTo q r = distTo (q .features) (pointIn (length (q .features)) r)
 
@@ -65,22 +65,28 @@ pub record Askable (d : ℕ) (q : Asked) : Type 0 where
 abbrev pub asking : List ℕ → ℕ → Choice → Asked
 asking asked k c = record { features = askedOf asked; k = k; choice = c }
 
--- a point whose coordinates are as stored, every gap of weight 1
-abbrev pub askingPoint : List ℕ → ℕ → Choice → Asked
-askingPoint p k c = plainly (pointOf p) k c
+-- a point whose coordinates are as stored, with their weights
+abbrev pub askingPoint : List ℕ → List ℕ → ℕ → Choice → Asked
+askingPoint ws p k c = record { features = weighted ws (pointOf p); k = k; choice = c }
 
--- a point that can be asked: 1 to 16 coordinates in range, as stored
-pub record AskedPoint (p : List ℕ) : Type 0 where
+-- a point that can be asked: 1 to 16 coordinates in range, as stored, and a weight of at most 1,000 for each
+pub record AskedPoint (ws p : List ℕ) : Type 0 where
   pub some : 1 ≤ length p
   pub most : length p ≤ maxFeatures
   pub ranges : All (λ c. c ≤ 2000) p
+  pub number : length ws ≡ length p
+  pub light : All (λ x. x ≤ maxWeight) ws
 
 -- the point of a question that is one list: its low ends
 abbrev pub lowEnds : List ℕ → List ℕ
 lowEnds asked = take (sizeOf asked) asked
 
+-- and its weights
+abbrev pub weightsIn : List ℕ → List ℕ
+weightsIn asked = partFrom weightsFrom asked
+
 -- a question, as one list, that can be searched for: a point
 pub record Seekable (asked : List ℕ) : Type 0 where
   pub packed : Packed asked
-  pub point : AskedPoint (lowEnds asked)
-  pub is : askedOf asked ≡ plain (pointOf (lowEnds asked))
+  pub point : AskedPoint (weightsIn asked) (lowEnds asked)
+  pub is : askedOf asked ≡ weighted (weightsIn asked) (pointOf (lowEnds asked))

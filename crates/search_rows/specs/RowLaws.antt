@@ -137,18 +137,25 @@ sort-idle (x ∷ xs) d =
 distinct-kept : (passes : Row → Bool) (xs : List Row) → Distinct xs → Distinct (filter passes xs)
 distinct-kept passes xs d = λ n. let b = count-filter (ofId n) passes xs in let e = count-fewer passes (ofId n) xs in let h = d n in omega arith
 
--- Demand 2's words, with Q-9's tie rule (02): by squared distance, equal distances by later stamp, then by lower identifier
+-- Demand 2's words, with Q-9's tie rule (02): by distance, equal distances by later stamp, then by lower identifier
 pub nearest-by-stamp : (passes : Row → Bool) (k : ℕ) (xs : List Row) → Distinct xs → nearest (byDistance passes) k xs ≡ take k (sorting.sort newestFirst (filter passes xs))
 unfolding nearest candidates
 nearest-by-stamp passes k xs d = ap (take k) (sort-idle (filter passes xs) (distinct-kept passes xs d))
 
+-- orders that agree on the rows to be sorted sort them alike
+sort-alike : (r s : Row → Row → Bool) (P : Row → Type 0) → ((a b : Row) → P a → P b → r a b ≡ s a b) → (xs : List Row) → All P xs → sorting.sort r xs ≡ sorting.sort s xs
+unfolding sorting.sort
+sort-alike r s P h [] none = refl
+sort-alike r s P h (x ∷ xs) (also e a) =
+    ins-alike r s x (sorting.sort r xs) (all-map (λ y f. h y x f e) (all-sort r xs a)) ∙ ap (sorting.insertBy s x) (sort-alike r s P h xs a)
+
 -- rows of one stamp are sorted as 01 sorts them
 sort-one : (s : ℕ) (xs : List Row) → All (λ x. stamp x ≡ s) xs → sorting.sort rowOrder xs ≡ sorting.sort (by distance idOrder) xs
-unfolding sorting.sort
-sort-one s [] none = refl
-sort-one s (x ∷ xs) (also e a) =
-    ins-alike rowOrder (by distance idOrder) x (sorting.sort rowOrder xs) (all-map (λ y f. stamp-idle y x (f ∙ sym e)) (all-sort rowOrder xs a))
-    ∙ ap (sorting.insertBy (by distance idOrder) x) (sort-one s xs a)
+sort-one s = sort-alike rowOrder (by distance idOrder) (λ x. stamp x ≡ s) (λ a b e f. stamp-idle a b (e ∙ sym f))
+
+-- rows at one distance are sorted by the tie rule alone
+pub sort-tied : (n : ℕ) (xs : List Row) → All (λ x. distance x ≡ n) xs → sorting.sort newestFirst xs ≡ sorting.sort newestTie xs
+sort-tied n = sort-alike newestFirst newestTie (λ x. distance x ≡ n) (λ a b e f. lex-second (lower distance) newestTie a b (le-ltb (distance a) (distance b) (omega (arith, e, f))) (le-ltb (distance b) (distance a) (omega (arith, e, f))))
 
 -- and the nearest of them are 01's (02, Q-9: "01's examples are as before when all stamps are 0")
 pub one-stamp : (passes : Row → Bool) (s k : ℕ) (xs : List Row) → All (λ x. stamp x ≡ s) xs → nearest (byDistance passes) k xs ≡ nearest (byIdentifier passes) k xs

@@ -8,7 +8,7 @@ ghost use Rattle.search_rows.specs.Held.{behindAll, GivesWay, Held, Offe
 // The most rows that a question may ask for.
 pub const MAX_ROWS: usize = 64;
 
-// A row (01, 02): the squared distance, the identifier and the stamp of a record, and the position of the leaf that holds it.
+// A row (01, 02): the squared distance, weighted where weights are asked for, the identifier and the stamp of a record, and the position of the leaf that holds it.
 // Its 24 bytes have no gap.
 #[repr(C)]
 pub struct Row {

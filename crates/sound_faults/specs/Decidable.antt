@@ -38,7 +38,7 @@ both? (inl p) (inl q) = inl (p, q)
 both? (inl p) (inr n) = inr (λ x. n (x .1))
 both? (inr n) y = inr (λ x. n (x .0))
 
-all? : {A : Type 0} {P : A → Type 0} → ((x : A) → Either (P x)) → (xs : List A) → Either (All P xs)
+pub all? : {A : Type 0} {P : A → Type 0} → ((x : A) → Either (P x)) → (xs : List A) → Either (All P xs)
 all? f [] = inl none
 all? {A} {P} f (x ∷ xs) = either-map (λ h. also (h .0) (h .1)) (λ h. (all-head h, all-tail h)) (both? (f x) (all? f xs))
 

@@ -32,17 +32,25 @@ fn show_permitted() {
     line(b"length 16778240", refused_length(16778240), 1);
 }
 
+// A question that carries no weights.
+pub fn unweighted(k: usize, stages: u8) -> Criteria {
+    Criteria {
+        k: k,
+        stages: stages,
+        weighted: false,
+    }
+}
+
 // The answer to a question with so many rows lent.
 fn answer_to(index: &[u8], point: &[i16], k: usize, lent: usize) -> Answer {
+    let none = [0u16; 0];
     let mut highs = [0u64; MAX_ROWS];
     let mut lows = [0u64; MAX_ROWS];
     index::question_outcome(
         index,
         point,
-        Criteria {
-            k: k,
-            stages: FULL_SET,
-        },
+        &none,
+        unweighted(k, FULL_SET),
         lent,
         &mut highs,
         &mut lows,
@@ -195,7 +203,7 @@ pub fn changed(a: &[u8], b: &[u8]) -> u64
 }
 
 // The index with the count of its root leaf set to 17.
-fn damage(index: [u8; SHORTEST]) -> [u8; SHORTEST] {
+pub fn damage(index: [u8; SHORTEST]) -> [u8; SHORTEST] {
     let mut bytes = index;
     bytes[PAGE_SIZE + 1] = 17;
     bytes

@@ -1,11 +1,11 @@
 // Newest first among equals (Q-9), through the acts: points at one distance, in rows that the program lends. The index of 2,048 bytes goes from act to
 // act by value.
 use crate::codes::SHORTEST;
+use crate::codes::unweighted;
 use crate::lent::lent_rows;
 use crate::lent::no_tally;
 use index::Returned;
 use index::ask;
-use index_query::Criteria;
 use index_refusals::Epoch;
 use search_rows::Row;
 use test_parts::FULL_SET;
@@ -78,11 +78,15 @@ fn show_row(row: Row, id: u64, distance: u64, stamp: u64) {
 
 fn ask_centre(index: &[u8], k: usize) -> Returned {
     let point = [0i16, 0];
-    let what = Criteria {
-        k: k,
-        stages: FULL_SET,
-    };
-    ask(index, &point, what, lent_rows(), no_tally())
+    let none = [0u16; 0];
+    ask(
+        index,
+        &point,
+        &none,
+        unweighted(k, FULL_SET),
+        lent_rows(),
+        no_tally(),
+    )
 }
 
 // All six; the row past them keeps its contents.

@@ -2,6 +2,7 @@
 // to act by value.
 use crate::codes::SHORTEST;
 use crate::codes::changed;
+use crate::codes::unweighted;
 use index_query::Criteria;
 use index_refusals::Epoch;
 use search_rows::MAX_ROWS;
@@ -35,21 +36,22 @@ fn try_set(what: &[u8], index: &[u8], asked: Criteria, lent: usize, said: u64) {
     let point = [0i16, 0];
     let mut highs = [0u64; MAX_ROWS];
     let mut lows = [0u64; MAX_ROWS];
-    let answer = index::question_outcome(index, &point, asked, lent, &mut highs, &mut lows);
+    let none = [0u16; 0];
+    let answer = index::question_outcome(index, &point, &none, asked, lent, &mut highs, &mut lows);
     staged(what, answer.code as u64, said);
 }
 
 // 16 comes after 10 and 11.
 fn refused_sets(index: &[u8]) {
-    let none = Criteria { k: 1, stages: 0 };
+    let none = unweighted(1, 0);
     try_set(b"question with set 0", index, none, 64, 16);
-    let seventh = Criteria { k: 1, stages: 64 };
+    let seventh = unweighted(1, 64);
     try_set(b"question with set 64", index, seventh, 64, 16);
-    let eight = Criteria { k: 1, stages: 255 };
+    let eight = unweighted(1, 255);
     try_set(b"question with set 255", index, eight, 64, 16);
-    let k_zero = Criteria { k: 0, stages: 0 };
+    let k_zero = unweighted(0, 0);
     try_set(b"question with set 0, k 0", index, k_zero, 64, 10);
-    let three = Criteria { k: 3, stages: 0 };
+    let three = unweighted(3, 0);
     try_set(
         b"question with set 0, k 3, 2 rows lent",
         index,
@@ -70,7 +72,8 @@ struct Said {
 fn try_question(index: &[u8], point: &[i16], asked: Criteria, said: Said) {
     let mut highs = [0u64; MAX_ROWS];
     let mut lows = [0u64; MAX_ROWS];
-    let answer = index::question_outcome(index, point, asked, 64, &mut highs, &mut lows);
+    let none = [0u16; 0];
+    let answer = index::question_outcome(index, point, &none, asked, 64, &mut highs, &mut lows);
     staged(b"  code", answer.code as u64, 0);
     staged(b"  rows", answer.count as u64, said.rows);
     staged(b"  leaves read", answer.leaves as u64, said.leaves);
@@ -92,9 +95,9 @@ fn ask_last_stage(index: &[u8]) {
         distance: 1000000,
     };
     text(b"from 1000, k 1, stage 5\n");
-    try_question(index, &point, Criteria { k: 1, stages: 32 }, said);
+    try_question(index, &point, unweighted(1, 32), said);
     text(b"from 1000, k 2, stage 5\n");
-    try_question(index, &point, Criteria { k: 2, stages: 32 }, said);
+    try_question(index, &point, unweighted(2, 32), said);
 }
 
 // No live record has stage 1: all leaves that hold records are read.
@@ -106,7 +109,7 @@ fn ask_missing(index: &[u8], point: &[i16], leaves: u64) {
         distance: 0,
     };
     text(b"from 0, k 1, stage 1\n");
-    try_question(index, point, Criteria { k: 1, stages: 2 }, said);
+    try_question(index, point, unweighted(1, 2), said);
 }
 
 // On the index of 1 to 17, whose records have stage 0.
@@ -125,7 +128,7 @@ fn ask_other_stages(index: &[u8]) {
         distance: 1000000,
     };
     text(b"from 0, k 1, stages 0 to 4\n");
-    try_question(index, &point, Criteria { k: 1, stages: 31 }, said);
+    try_question(index, &point, unweighted(1, 31), said);
     ask_missing(index, &point, 1);
 }
 

@@ -2,11 +2,12 @@
 ghost use mathlib.Core.Path.{_≡_};
 ghost use Prim.Native.Nat.{_≤_, _<_};
 ghost use lib.ListN.{length};
+use crate::codes::unweighted;
 use crate::lent;
 use crate::stages;
+use crate::weights;
 use geometry::MAX_COORDINATE;
 use index_answer::Answer;
-use index_query::Criteria;
 use index_refusals::Epoch;
 use pagestore::PAGE_SIZE;
 use pagestore::free_count;
@@ -96,11 +97,9 @@ fn ask(index: &[u8], n: u16, k: usize, highs: &mut [u64], lows: &mut [u64]) -> A
     requires { ⌜ (n ≤ 17) × (length (now highs) ≡ 64) × (length (now lows) ≡ 64) ⌝ }
 {
     let point = [coordinate(MAX_COORDINATE + n)];
-    let what = Criteria {
-        k: k,
-        stages: FULL_SET,
-    };
-    index::question_outcome(index, &point, what, MAX_ROWS, highs, lows)
+    let none = [0u16; 0];
+    let what = unweighted(k, FULL_SET);
+    index::question_outcome(index, &point, &none, what, MAX_ROWS, highs, lows)
 }
 
 fn ask_nine(index: &[u8]) {
@@ -179,5 +178,6 @@ pub fn run() {
     questions(&four);
     lent::run(&four);
     stages::ask_two_leaves(&four);
+    weights::ask_two_leaves(&four);
     fewer(&mut four);
 }

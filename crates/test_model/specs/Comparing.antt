@@ -14,6 +14,10 @@ pairs = 32032
 abbrev pub Counts : Asked → List ℕ → Type 0
 Counts asked pages = (1 ≤ asked .d) × (asked .d ≤ 16) × (asked .leaves ≤ length pages)
 
+-- at most 16 coordinates, and a weight for each
+abbrev pub Weighs : List ℕ → List ℕ → Type 0
+Weighs weights q = (length q ≤ 16) × (length weights ≡ length q)
+
 -- there is room for 64 rows
 abbrev pub Lent : List ℕ → List ℕ → Type 0
 Lent highs lows = (64 ≤ length highs) × (64 ≤ length lows)

@@ -68,15 +68,28 @@ fn show_kind(kind: u32) {
     }
 }
 
+fn show_seen(b: Batch, seen: Seen) {
+    show::field(b"questions", b.questions as u64);
+    show::field(b"rows compared", seen.rows);
+    show::field(b"leaves read", seen.leaves);
+    show::field(b"differences", seen.differences);
+}
+
 pub fn report(b: Batch, points: usize, refused: u64, seen: Seen) {
     show::text(b"full scan:");
     show::field(b"d", b.d as u64);
     show_kind(b.kind);
     show::field(b"acts refused", refused);
     show::field(b"points", points as u64);
-    show::field(b"questions", b.questions as u64);
-    show::field(b"rows compared", seen.rows);
-    show::field(b"leaves read", seen.leaves);
-    show::field(b"differences", seen.differences);
+    show_seen(b, seen);
+    show::text(b"\n");
+}
+
+// The same questions with weights; and n of them with ones and with none, how far the answers differ.
+pub fn report_weighted(b: Batch, seen: Seen, n: u32, differences: u64) {
+    show::text(b"  with weights:");
+    show_seen(b, seen);
+    show::field(b"ones beside none", n as u64);
+    show::field(b"differences", differences);
     show::text(b"\n");
 }

@@ -2,7 +2,7 @@
 ghost use mathlib.Core.Path.{_≡_};
 ghost use Prim.Native.Nat.{_≤_, _<_};
 ghost use lib.ListN.{length};
-ghost use Rattle.test_model.specs.Comparing.{Counts, Lent, Points, pairs};
+ghost use Rattle.test_model.specs.Comparing.{Counts, Lent, Points, Weighs, pairs};
 use crate::Asked;
 use crate::Seen;
 use crate::leaves::fill_table;
@@ -137,20 +137,21 @@ pub fn compare(
     }
 }
 
-// Works out what a full scan says of the point q and some stages.
+// Works out what a full scan says of the point q, with a weight for each coordinate, and some stages.
 pub fn prepare(
     distances: &mut [u64],
     table: &mut [u64],
     places: &[u16],
     marks: &[u64],
     q: &[u16],
+    weights: &[u16],
     stages: u8,
 )
-    requires { ⌜ (length (now q) ≤ 16) × Points (now places) (now marks) × (length (now distances) ≡ length (now marks)) ⌝ }
+    requires { ⌜ Weighs (now weights) (now q) × Points (now places) (now marks) × (length (now distances) ≡ length (now marks)) ⌝ }
     ensures { λ r. ⌜
         (length (now (distances .exit)) ≡ length (now (distances .entry))) × (length (now (table .exit)) ≡ length (now (table .entry)))
         ⌝ }
 {
-    measure(distances, places, marks, q, stages);
-    fill_table(table, q);
+    measure(distances, places, marks, q, weights, stages);
+    fill_table(table, q, weights);
 }

@@ -1,13 +1,14 @@
 // The leaves that a question has to read, counted apart from the search: the pairs of their first and last records, and for each question
-// the least distance at every pair.
+// the least distance at every pair. `weights` has a weight for each coordinate of q.
 ghost use mathlib.Core.Path.{_≡_};
 ghost use Prim.Native.Nat.{_≤_, _<_, _*_, _+_, max};
 ghost use lib.ListN.{length};
+ghost use Rattle.test_model.specs.Comparing.{Weighs};
 use crate::HEIGHTS;
 use crate::marks::mark_of;
 use crate::scan::FAR;
 use crate::scan::gap;
-use crate::scan::square;
+use crate::scan::weighed;
 use geometry::MAX_COORDINATE;
 use pagestore::Leaf;
 use pagestore::Record;
@@ -136,59 +137,59 @@ fn least_gap(place: u16, m: usize, axis: usize, below: bool, h: u16) -> u64
 }
 
 // The least distance from q to a point of height h above 0 in a pyramid.
-fn slice_distance(q: &[u16], axis: usize, below: bool, h: u16) -> u64
-    requires { ⌜ (length (now q) ≤ 16) × (0 < h) × (h ≤ 1000) ⌝ }
+fn slice_distance(q: &[u16], weights: &[u16], axis: usize, below: bool, h: u16) -> u64
+    requires { ⌜ Weighs (now weights) (now q) × (0 < h) × (h ≤ 1000) ⌝ }
 {
     let mut sum: u64 = 0;
     let mut m = 0;
     while m < q.len() {
-        sum += square(least_gap(q[m], m, axis, below, h));
+        sum += weighed(weights[m], least_gap(q[m], m, axis, below, h));
         m += 1;
     }
     sum
 }
 
 // The distance from q to the centre.
-fn centre_distance(q: &[u16]) -> u64
-    requires { ⌜ length (now q) ≤ 16 ⌝ }
+fn centre_distance(q: &[u16], weights: &[u16]) -> u64
+    requires { ⌜ Weighs (now weights) (now q) ⌝ }
 {
     let mut sum: u64 = 0;
     let mut m = 0;
     while m < q.len() {
-        sum += square(beyond(q[m], 0));
+        sum += weighed(weights[m], beyond(q[m], 0));
         m += 1;
     }
     sum
 }
 
 // The least distance from q to a point of a pair; FAR where no point has it.
-fn pair_distance(q: &[u16], pyramid: usize, h: u16) -> u64
-    requires { ⌜ (length (now q) ≤ 16) × (h ≤ 1000) ⌝ }
+fn pair_distance(q: &[u16], weights: &[u16], pyramid: usize, h: u16) -> u64
+    requires { ⌜ Weighs (now weights) (now q) × (h ≤ 1000) ⌝ }
 {
     let d = q.len();
     if h == 0 {
         if pyramid == d {
-            return centre_distance(q);
+            return centre_distance(q, weights);
         }
         return FAR;
     }
     if pyramid < d {
-        return slice_distance(q, pyramid, true, h);
+        return slice_distance(q, weights, pyramid, true, h);
     }
     if pyramid - d < d {
-        return slice_distance(q, pyramid - d, false, h);
+        return slice_distance(q, weights, pyramid - d, false, h);
     }
     FAR
 }
 
 // The least distance at each pair.
-pub fn fill_table(table: &mut [u64], q: &[u16])
-    requires { ⌜ length (now q) ≤ 16 ⌝ }
+pub fn fill_table(table: &mut [u64], q: &[u16], weights: &[u16])
+    requires { ⌜ Weighs (now weights) (now q) ⌝ }
     ensures { λ r. ⌜ length (now (table .exit)) ≡ length (now (table .entry)) ⌝ }
 {
     let mut i = 0;
     while i < table.len() {
-        table[i] = pair_distance(q, i / HEIGHTS, (i % HEIGHTS) as u16);
+        table[i] = pair_distance(q, weights, i / HEIGHTS, (i % HEIGHTS) as u16);
         i += 1;
     }
 }

@@ -8,6 +8,7 @@ pub mod leaves;
 pub mod marks;
 pub mod numbers;
 pub mod scan;
+pub mod weights;
 
 // The points of a batch, at most.
 pub const POINTS: usize = 1024;
@@ -17,11 +18,13 @@ pub const HEIGHTS: usize = 1001;
 // The pairs of a pyramid and a height.
 pub const PAIRS: usize = 2 * MAX_FEATURES * HEIGHTS;
 
-// What a question asks for: the features, k and the set of stages; the number of live points whose stage is in the set, and of leaves.
+// What a question asks for: the features, k, the set of stages and whether it carries weights; the number of live points whose stage is in the set,
+// and of leaves.
 pub struct Asked {
     pub d: usize,
     pub k: usize,
     pub stages: u8,
+    pub weighted: bool,
     pub candidates: usize,
     pub leaves: usize,
 }

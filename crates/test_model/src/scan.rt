@@ -1,8 +1,10 @@
 // A full scan of the points, written apart from the index and its search: every distance, and the nearest by repeated minimum; among equals the
-// newest goes first. `marks` has a mark for each point; points that are not live, or whose stage is not asked for, are passed over.
+// newest goes first. `marks` has a mark for each point; points that are not live, or whose stage is not asked for, are passed over. `weights` has a
+// weight for each coordinate of q.
 ghost use mathlib.Core.Path.{_≡_};
 ghost use Prim.Native.Nat.{_≤_, _<_, _*_, _+_, max};
 ghost use lib.ListN.{length};
+ghost use Rattle.test_model.specs.Comparing.{Weighs};
 use crate::marks::chosen;
 use crate::marks::stamp_in;
 use crate::numbers::id_of;
@@ -30,36 +32,57 @@ pub fn square(g: u64) -> u64
     g * g
 }
 
-// The squared distance from q of the point whose places begin at `at`.
-fn distance(places: &[u16], at: usize, q: &[u16]) -> u64
-    requires { ⌜ (length (now q) ≤ 16) × (at + 16 ≤ length (now places)) ⌝ }
+// The square of a gap times the weight of its coordinate.
+pub fn weighed(weight: u16, g: u64) -> u64
+    requires { ⌜ g < 65536 ⌝ }
+    ensures { λ r. ⌜ r < 281474976710656 ⌝ }
+{
+    wide(weight) * square(g)
+}
+
+// The distance from q of the point whose places begin at `at`.
+fn distance(places: &[u16], at: usize, q: &[u16], weights: &[u16]) -> u64
+    requires { ⌜ Weighs (now weights) (now q) × (at + 16 ≤ length (now places)) ⌝ }
 {
     let mut sum: u64 = 0;
     let mut m = 0;
     while m < q.len() {
-        sum += square(gap(places[at + m], q[m]));
+        sum += weighed(weights[m], gap(places[at + m], q[m]));
         m += 1;
     }
     sum
 }
 
-fn distance_if(wanted: bool, places: &[u16], at: usize, q: &[u16]) -> u64
-    requires { ⌜ (length (now q) ≤ 16) × (at + 16 ≤ length (now places)) ⌝ }
+fn distance_if(wanted: bool, places: &[u16], at: usize, q: &[u16], weights: &[u16]) -> u64
+    requires { ⌜ Weighs (now weights) (now q) × (at + 16 ≤ length (now places)) ⌝ }
 {
     if wanted {
-        return distance(places, at, q);
+        return distance(places, at, q, weights);
     }
     FAR
 }
 
 // The distances of all points of some stages from q.
-pub fn measure(distances: &mut [u64], places: &[u16], marks: &[u64], q: &[u16], stages: u8)
-    requires { ⌜ (length (now q) ≤ 16) × (length (now places) ≡ 16 * length (now marks)) × (length (now distances) ≡ length (now marks)) ⌝ }
+pub fn measure(
+    distances: &mut [u64],
+    places: &[u16],
+    marks: &[u64],
+    q: &[u16],
+    weights: &[u16],
+    stages: u8,
+)
+    requires { ⌜ Weighs (now weights) (now q) × (length (now places) ≡ 16 * length (now marks)) × (length (now distances) ≡ length (now marks)) ⌝ }
     ensures { λ r. ⌜ length (now (distances .exit)) ≡ length (now (distances .entry)) ⌝ }
 {
     let mut p = 0;
     while p < marks.len() {
-        distances[p] = distance_if(chosen(marks[p], stages), places, p * MAX_FEATURES, q);
+        distances[p] = distance_if(
+            chosen(marks[p], stages),
+            places,
+            p * MAX_FEATURES,
+            q,
+            weights,
+        );
         p += 1;
     }
 }

@@ -12,10 +12,11 @@ use test_model::comparing::compare;
 use test_model::comparing::prepare;
 use test_model::numbers::point_at;
 
-// The question for the nearest of the point with these places.
-fn ask(
+// The question for the nearest of the point with these places, by these weights if it carries them.
+pub fn ask(
     index: &[u8],
     q: &[u16],
+    weights: &[u16],
     d: usize,
     what: Criteria,
     highs: &mut [u64],
@@ -24,10 +25,10 @@ fn ask(
     requires { ⌜ (d ≤ 16) × (16 ≤ length (now q)) × Lent (now highs) (now lows) ⌝ }
 {
     let point = point_at(q, 0);
-    index::question_outcome(index, &point[..d], what, MAX_ROWS, highs, lows)
+    index::question_outcome(index, &point[..d], weights, what, MAX_ROWS, highs, lows)
 }
 
-// Asks one question, from the point q.
+// Asks one question, from the point q; the scan goes by the weights.
 pub fn ask_from(
     index: &[u8],
     places: &[u16],
@@ -36,22 +37,25 @@ pub fn ask_from(
     distances: &mut [u64],
     table: &mut [u64],
     q: &[u16],
+    weights: &[u16],
     asked: Asked,
 ) -> Seen
     requires { ⌜
-        Counts asked (now pages) × (length (now table) ≡ pairs) × (length (now q) ≡ 16)
+        Counts asked (now pages) × (length (now table) ≡ pairs) × (length (now q) ≡ 16) × (length (now weights) ≡ 16)
         × (0 < length (now marks)) × Points (now places) (now marks) × (length (now distances) ≡ length (now marks))
         ⌝ }
 {
     let d = asked.d;
-    prepare(distances, table, places, marks, &q[..d], asked.stages);
+    let own = &weights[..d];
+    prepare(distances, table, places, marks, &q[..d], own, asked.stages);
     let mut highs = [0u64; MAX_ROWS];
     let mut lows = [0u64; MAX_ROWS];
     let what = Criteria {
         k: asked.k,
         stages: asked.stages,
+        weighted: asked.weighted,
     };
-    let answer = ask(index, q, d, what, &mut highs, &mut lows);
+    let answer = ask(index, q, own, d, what, &mut highs, &mut lows);
     compare(
         index,
         pages,

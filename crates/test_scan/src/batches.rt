@@ -6,6 +6,7 @@ ghost use Rattle.test_model.specs.Comparing.{Arrays, Fits};
 use crate::asking::ask_from;
 use crate::filling::delete_points;
 use crate::filling::insert_points;
+use crate::ones::ones_and_none;
 use geometry::MAX_FEATURES;
 use pagestore::PAGE_SIZE;
 use test_model::Asked;
@@ -19,15 +20,45 @@ use test_model::batches::asked_stages;
 use test_model::batches::batch_seed;
 use test_model::batches::both;
 use test_model::batches::report;
+use test_model::batches::report_weighted;
 use test_model::numbers::CLUSTERED;
 use test_model::numbers::TIED;
 use test_model::numbers::WIDE;
 use test_model::numbers::draw;
 use test_model::numbers::leap;
 use test_model::scan::candidate_count;
+use test_model::weights::NONE;
+use test_model::weights::asked_pattern;
+use test_model::weights::draw_weights;
 use test_parts::FULL_SET;
 use test_parts::listing::MAX_LEAVES;
 use test_parts::listing::list_leaves;
+
+// The weights of a question, by their pattern.
+fn weights_by(pattern: u32, d: usize, seed: u64) -> [u16; MAX_FEATURES]
+    requires { ⌜ 1 ≤ d ⌝ }
+    ensures { λ r. ⌜ length r ≡ 16 ⌝ }
+{
+    let mut weights = [0u16; MAX_FEATURES];
+    let only = (seed / 16 % d as u64) as usize;
+    draw_weights(&mut weights, pattern, only, leap(seed / 2 + 1));
+    weights
+}
+
+// What a question asks for.
+fn asked_of(marks: &[u64], b: Batch, leaves: usize, pattern: u32, seed: u64) -> Asked
+    ensures { λ r. ⌜ (r .d ≡ b .d) × (r .leaves ≡ leaves) ⌝ }
+{
+    let stages = asked_stages(seed);
+    Asked {
+        d: b.d,
+        k: asked_k(seed),
+        stages: stages,
+        weighted: pattern != NONE,
+        candidates: candidate_count(marks, stages),
+        leaves: leaves,
+    }
+}
 
 // Asks one question, with arrays of its own.
 fn ask_one(
@@ -37,6 +68,7 @@ fn ask_one(
     pages: &[u32],
     b: Batch,
     leaves: usize,
+    pattern: u32,
     seed: u64,
 ) -> Seen
     requires { ⌜ Fits b × (leaves ≤ length (now pages)) × Arrays (now places) (now marks) ⌝ }
@@ -45,14 +77,7 @@ fn ask_one(
     let mut distances = [0u64; POINTS];
     let mut table = [0u64; PAIRS];
     draw(&mut q, asked_kind(b.kind, seed), (seed % 5) as usize, seed);
-    let stages = asked_stages(seed);
-    let asked = Asked {
-        d: b.d,
-        k: asked_k(seed),
-        stages: stages,
-        candidates: candidate_count(marks, stages),
-        leaves: leaves,
-    };
+    let weights = weights_by(pattern, b.d, seed);
     ask_from(
         index,
         places,
@@ -61,11 +86,12 @@ fn ask_one(
         &mut distances,
         &mut table,
         &q,
-        asked,
+        &weights,
+        asked_of(marks, b, leaves, pattern, seed),
     )
 }
 
-// Asks the questions of a batch.
+// Asks the questions of a batch, with weights or without.
 fn ask_all(
     index: &[u8],
     places: &[u16],
@@ -73,11 +99,12 @@ fn ask_all(
     pages: &[u32],
     b: Batch,
     leaves: usize,
+    weighted: bool,
     seed: u64,
 ) -> Seen
     requires { ⌜ Fits b × (leaves ≤ length (now pages)) × Arrays (now places) (now marks) ⌝ }
 {
-    let n = b.questions;
+    let n = b.questions as u64;
     let mut s = batch_seed(b, seed);
     let mut seen = Seen {
         rows: 0,
@@ -87,7 +114,11 @@ fn ask_all(
     let mut i = 0;
     while i < n {
         s = leap(s);
-        seen = both(seen, ask_one(index, places, marks, pages, b, leaves, s));
+        let pattern = asked_pattern(weighted, i);
+        seen = both(
+            seen,
+            ask_one(index, places, marks, pages, b, leaves, pattern, s),
+        );
         i += 1;
     }
     seen
@@ -99,8 +130,11 @@ fn round(index: &[u8], places: &[u16], marks: &[u64], b: Batch, refused: u64, se
 {
     let mut pages = [0u32; MAX_LEAVES];
     let leaves = list_leaves(index, &mut pages);
-    let seen = ask_all(index, places, marks, &pages, b, leaves, seed);
+    let seen = ask_all(index, places, marks, &pages, b, leaves, false, seed);
     report(b, candidate_count(marks, FULL_SET), refused, seen);
+    let weighted = ask_all(index, places, marks, &pages, b, leaves, true, seed);
+    let n = b.questions / 4;
+    report_weighted(b, weighted, n, ones_and_none(index, b, n, seed));
 }
 
 // All points are inserted.

@@ -18,6 +18,7 @@ struct Given {
     new: Tag,
     old: Tag,
     x: Vec<i16>,
+    weights: Vec<u16>,
 }
 
 /// Some of the stages.
@@ -28,16 +29,17 @@ fn given(s: &mut Series) -> Given {
     let old = s.live.first().copied().unwrap_or(5);
     let new = (1..).find(|id| !s.live.contains(id)).map(Tag::of).unwrap();
     let tally = Tally { questions: 3, leaves: u32::MAX - 1 };
+    let weights: Vec<u16> = (0..x.len()).map(|m| [1000, 0, 999, 1, 37][m % 5]).collect();
     let acts = vec![
         Act::Check,
         Act::Insert(new, x.clone()),
         Act::Delete(old),
         Act::Question(Asked::new(&x, 5, ALL_STAGES), 7, tally),
-        Act::Question(Asked::new(&x, 5, SOME), 7, tally),
+        Act::Question(Asked::new(&x, 5, SOME).by(&weights), 7, tally),
         Act::Insert(Tag { stage: 6, ..Tag::of(0) }, vec![]),
-        Act::Question(Asked::new(&[], 0, 0), 0, tally),
+        Act::Question(Asked::new(&[], 0, 0).by(&[1001]), 0, tally),
     ];
-    Given { acts, new, old: Tag::of(old), x }
+    Given { acts, new, old: Tag::of(old), x, weights }
 }
 
 /// Counts a damaged index; whether it is still sound, by the judge.
@@ -93,9 +95,9 @@ fn unchecked(run: &mut Run, lib: &mut Lent, bytes: &[u8], given: &Given) {
     let start = Instant::now();
     let high = bytes[LEVEL] > 4;
     run.counts.high += high as u64;
-    for (k, stages) in [(1, ALL_STAGES), (64, SOME)] {
-        let mut rows = lent_rows();
-        let got = ffi::search(lib, &Asked::new(&given.x, k, stages), &mut rows, k);
+    for asked in [Asked::new(&given.x, 1, ALL_STAGES), Asked::new(&given.x, 64, SOME).by(&given.weights)] {
+        let (mut rows, k) = (lent_rows(), asked.k);
+        let got = ffi::search(lib, &asked, &mut rows, k);
         run.counts.searches += 1;
         run.expect(got.rows <= k && rows[got.rows..] == lent_rows()[got.rows..], || {
             format!("search: {got:?}, or rows past those returned")

@@ -60,6 +60,27 @@ pub fn tag(rng: &mut Rng, id: u32, mix: u8) -> Tag {
     Tag { id, stage: rng.pick(&stages), stamp }
 }
 
+/// Weights of up to 1,000: any, some of them 0, all 0, 1,000s, small ones, one that is not 0, ones but for one.
+pub fn weights(rng: &mut Rng, d: usize) -> Vec<u16> {
+    let (way, one) = (rng.below(9), rng.below(d));
+    let mut weight = |m| match way {
+        0..=2 => rng.below(1001) as u16,
+        3 => rng.pick(&[0, 0, 1, 17, 400, 999, 1000]),
+        4 => rng.below(3) as u16,
+        5 => 1000,
+        6 => 0,
+        7 => (m == one) as u16 * rng.pick(&[1, 2, 1000]),
+        _ => {
+            if m == one {
+                rng.below(1001) as u16
+            } else {
+                1
+            }
+        }
+    };
+    (0..d).map(&mut weight).collect()
+}
+
 /// A point in range.
 pub fn point(rng: &mut Rng, kind: Kind, d: usize) -> Vec<i16> {
     let cluster = rng.below(5) as i64;

@@ -28,18 +28,22 @@ struct CAnswer {
 
 type Insert = unsafe extern "C" fn(*mut u8, usize, u32, u8, u32, *const i16, usize) -> u32;
 type Delete = unsafe extern "C" fn(*mut u8, usize, u32) -> u32;
-type Question = unsafe extern "C" fn(*const u8, usize, *const i16, usize, usize, u8, *mut CRow, usize, *mut CTally) -> CAnswer;
+type Question =
+    unsafe extern "C" fn(*const u8, usize, *const i16, usize, bool, *const u16, usize, usize, u8, *mut CRow, usize, *mut CTally) -> CAnswer;
 
 extern "C" {
     fn epoch_index_make(index: *mut u8, index_len: usize, features: u8) -> u32;
     fn epoch_index_insert(index: *mut u8, index_len: usize, id: u32, stage: u8, stamp: u32, point: *const i16, point_len: usize) -> u32;
     fn epoch_index_delete(index: *mut u8, index_len: usize, id: u32) -> u32;
     fn epoch_index_check(index: *const u8, index_len: usize, page: *mut u32) -> u32;
-    fn epoch_index_question(
+    fn epoch_index_weighted_question(
         index: *const u8,
         index_len: usize,
         point: *const i16,
         point_len: usize,
+        weighted: bool,
+        weights: *const u16,
+        weights_len: usize,
         k: usize,
         stages: u8,
         rows: *mut CRow,
@@ -66,11 +70,14 @@ extern "C" {
         point_len: usize,
     ) -> u32;
     fn epoch_index_vouched_delete(index: *mut u8, index_len: usize, id: u32, point: *const i16, point_len: usize) -> u32;
-    fn epoch_index_trusted_question(
+    fn epoch_index_trusted_weighted_question(
         index: *const u8,
         index_len: usize,
         point: *const i16,
         point_len: usize,
+        weighted: bool,
+        weights: *const u16,
+        weights_len: usize,
         k: usize,
         stages: u8,
         rows: *mut CRow,
@@ -112,14 +119,45 @@ pub fn check(index: &[u8]) -> (u32, u32) {
     (code, page)
 }
 
+/// What a question without weights hands over for them: it is disregarded, though they are too heavy and too few or too many.
+const IDLE: [u16; 3] = [u16::MAX, 1001, 0];
+
 /// A question, with the check or without. Rows that are not lent stand behind those that are, in one array.
 pub fn question(index: &[u8], asked: &Asked, rows: &mut [Row], lent: usize, tally: &mut Tally, trusted: bool) -> Answer {
-    let Asked { x, k, stages } = asked;
-    let f: Question = if trusted { epoch_index_trusted_question } else { epoch_index_question };
+    question_handed(index, asked, asked.weights.as_deref().unwrap_or(&IDLE), rows, lent, tally, trusted)
+}
+
+/// The same with these weights handed over, which count where any are asked by.
+pub fn question_handed(
+    index: &[u8],
+    asked: &Asked,
+    weights: &[u16],
+    rows: &mut [Row],
+    lent: usize,
+    tally: &mut Tally,
+    trusted: bool,
+) -> Answer {
+    let (x, weighted) = (&asked.x, asked.weights.is_some());
+    let f: Question = if trusted { epoch_index_trusted_weighted_question } else { epoch_index_weighted_question };
     let mut run: Vec<CRow> = rows.iter().map(|&Row { distance, id, position, stamp }| CRow { distance, id, position, stamp }).collect();
     let mut counts = CTally { questions: tally.questions, leaves: tally.leaves };
     assert!(lent <= run.len());
-    let answer = unsafe { f(index.as_ptr(), index.len(), x.as_ptr(), x.len(), *k, *stages, run.as_mut_ptr(), lent, &mut counts) };
+    let answer = unsafe {
+        f(
+            index.as_ptr(),
+            index.len(),
+            x.as_ptr(),
+            x.len(),
+            weighted,
+            weights.as_ptr(),
+            weights.len(),
+            asked.k,
+            asked.stages,
+            run.as_mut_ptr(),
+            lent,
+            &mut counts,
+        )
+    };
     for (row, CRow { distance, id, position, stamp }) in rows.iter_mut().zip(run) {
         *row = Row { id, distance, position, stamp };
     }

@@ -25,26 +25,52 @@ pub fn squared(a: &[i64], b: &[i64]) -> u64 {
     a.iter().zip(b).map(|(x, y)| ((x - y) * (x - y)) as u64).sum()
 }
 
+/// The sum of weight times squared difference; without weights the squared distance.
+pub fn distance(weights: Option<&[u16]>, a: &[i64], b: &[i64]) -> u64 {
+    let Some(weights) = weights else { return squared(a, b) };
+    assert!(weights.len() == a.len() && a.len() == b.len());
+    (0..a.len()).map(|m| u64::from(weights[m]) * squared(&a[m..=m], &b[m..=m])).sum()
+}
+
 /// How far c is from -reach ..= reach, squared.
 fn outside(c: i64, reach: i64) -> u64 {
     let gap = (c.abs() - reach).max(0);
     (gap * gap) as u64
 }
 
-/// The least squared distance from the asked point to each pair, over every grid point that has the pair; none where no grid point has it.
+/// A point with the weights of its coordinates, 1 each where none are given.
+#[derive(Clone, PartialEq)]
+struct Weighed {
+    point: Vec<i64>,
+    weights: Vec<u64>,
+}
+
+/// The least distance from the asked point to each pair, over every grid point that has the pair; none where no grid point has it.
 pub struct Slices {
     d: usize,
     least: Vec<Option<u64>>,
 }
 
 thread_local! {
-    /// The slices of the point asked last.
-    static LAST: RefCell<Option<(Vec<i64>, Rc<Slices>)>> = const { RefCell::new(None) };
+    /// The slices of what was asked last, with weights and without.
+    static LAST: RefCell<[Option<(Weighed, Rc<Slices>)>; 2]> = const { RefCell::new([None, None]) };
+}
+
+impl Weighed {
+    fn new(asked: &[i64], weights: Option<&[u16]>) -> Weighed {
+        let weights = weights.map_or(vec![1; asked.len()], |weights| weights.iter().map(|&w| w.into()).collect());
+        assert_eq!(weights.len(), asked.len());
+        Weighed { point: asked.to_vec(), weights }
+    }
 }
 
 impl Slices {
-    pub fn new(asked: &[i64]) -> Slices {
-        let d = asked.len();
+    pub fn new(asked: &[i64], weights: Option<&[u16]>) -> Slices {
+        Slices::weighed(&Weighed::new(asked, weights))
+    }
+
+    fn weighed(asked: &Weighed) -> Slices {
+        let d = asked.point.len();
         let mut least = Vec::with_capacity(2 * d * 1001);
         for pyramid in 0..2 * d {
             for height in 0..=REACH {
@@ -54,30 +80,32 @@ impl Slices {
         Slices { d, least }
     }
 
-    /// As `new`, kept for the next question from the same point.
-    pub fn of(asked: &[i64]) -> Rc<Slices> {
-        LAST.with_borrow_mut(|last| match last {
-            Some((x, slices)) if x == asked => slices.clone(),
-            _ => {
-                let slices = Rc::new(Slices::new(asked));
-                *last = Some((asked.to_vec(), slices.clone()));
+    /// As `new`, kept for the next question from the same point by the same weights.
+    pub fn of(asked: &[i64], weights: Option<&[u16]>) -> Rc<Slices> {
+        let (weighted, asked) = (weights.is_some(), Weighed::new(asked, weights));
+        LAST.with_borrow_mut(|last| match &mut last[usize::from(weighted)] {
+            Some((before, slices)) if *before == asked => slices.clone(),
+            other => {
+                let slices = Rc::new(Slices::weighed(&asked));
+                *other = Some((asked, slices.clone()));
                 slices
             }
         })
     }
 
-    fn at(asked: &[i64], pyramid: usize, height: i64) -> Option<u64> {
-        let d = asked.len();
+    fn at(asked: &Weighed, pyramid: usize, height: i64) -> Option<u64> {
+        let Weighed { point, weights } = asked;
+        let d = point.len();
         if height == 0 && pyramid != d {
             return None;
         }
         let (j, top) = if pyramid < d { (pyramid, -height) } else { (pyramid - d, height) };
-        let mut sum = ((asked[j] - top) * (asked[j] - top)) as u64;
-        for (i, &c) in asked.iter().enumerate() {
+        let mut sum = weights[j] * ((point[j] - top) * (point[j] - top)) as u64;
+        for (i, &c) in point.iter().enumerate() {
             if i < j {
-                sum += outside(c, height - 1);
+                sum += weights[i] * outside(c, height - 1);
             } else if i > j {
-                sum += outside(c, height);
+                sum += weights[i] * outside(c, height);
             }
         }
         Some(sum)

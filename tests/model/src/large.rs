@@ -31,6 +31,9 @@ fn lengths(run: &mut Run) {
             Act::Question(Asked::new(&[-3], 1, 0), 1, Tally::default()),
             Act::Question(Asked::new(&[-3], 65, ALL_STAGES), 70, Tally::default()),
             Act::Question(Asked::new(&[-1001], 0, 64), 0, Tally::default()),
+            Act::Question(Asked::new(&[-3], 1, ALL_STAGES).by(&[7]), 1, Tally::default()),
+            Act::Question(Asked::new(&[-3], 0, 64).by(&[1001]), 0, Tally::default()),
+            Act::Question(Asked::new(&[-1001], 0, 64).by(&[1001, 0]), 0, Tally::default()),
             Act::Delete(9),
             Act::Check,
         ];
@@ -96,6 +99,7 @@ fn limit(run: &mut Run, s: &mut Series) {
     let x = s.point();
     let again = s.rng.range(1, 65535) as u32;
     let tally = Tally { questions: 1, leaves: u32::MAX };
+    let heavy: Vec<u16> = (0..x.len() as u16).map(|m| MOST_WEIGHT - 31 * m).collect();
     let sixth = |id| Tag { stage: 6, ..Tag::of(id) };
     let acts = [
         Act::Check,
@@ -106,13 +110,15 @@ fn limit(run: &mut Run, s: &mut Series) {
         Act::Insert(sixth(0), x.clone()),
         Act::Question(Asked::new(&x, 64, ALL_STAGES), 64, tally),
         Act::Question(Asked::new(&x, 64, 1 << 2), 64, tally),
+        Act::Question(Asked::new(&x, 64, ALL_STAGES).by(&heavy), 64, tally),
+        Act::Question(Asked::new(&x, 64, ALL_STAGES).by(&vec![0; x.len()]), 64, tally),
         Act::Delete(again),
         Act::Delete(again),
         Act::Insert(Tag::of(again), x.clone()),
         Act::Insert(Tag::of(u32::MAX), x),
     ];
     let codes: Vec<u32> = acts.iter().map(|act| s.act(run, act)).collect();
-    run.expect(codes == [0, 8, 6, 15, 15, 5, 0, 0, 0, 7, 0, 8], || format!("codes at the limit: {codes:?}"));
+    run.expect(codes == [0, 8, 6, 15, 15, 5, 0, 0, 0, 0, 0, 7, 0, 8], || format!("codes at the limit: {codes:?}"));
 }
 
 fn full(run: &mut Run, d: usize, kind: Kind, upward: bool, each: bool) {

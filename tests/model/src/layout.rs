@@ -7,6 +7,7 @@ pub const MOST_PAGES: usize = 16384;
 pub const MOST_POINTS: u32 = 65535;
 pub const MOST_STAGE: u8 = 5;
 pub const ALL_STAGES: u8 = 63;
+pub const MOST_WEIGHT: u16 = 1000;
 
 pub const SIZE: usize = 0;
 pub const FEATURES: usize = 4;

@@ -38,6 +38,12 @@ impl Lent {
         lent
     }
 
+    /// The lent bytes, an even number of them, as numbers of 16 bits.
+    pub fn words(&self) -> &[u16] {
+        assert!(self.length.is_multiple_of(2));
+        unsafe { std::slice::from_raw_parts(self.start.add(self.from).cast(), self.length / 2) }
+    }
+
     /// The marked bytes are as they were.
     pub fn intact(&self) -> bool {
         let marks = unsafe { std::slice::from_raw_parts(self.start.add(MEMORY_PAGE), self.from - MEMORY_PAGE) };

@@ -22,6 +22,7 @@ mod stages;
 mod ties;
 mod unread;
 mod unused;
+mod weights;
 
 fn main() {
     let mut run = run::Run::new();
@@ -33,6 +34,7 @@ fn main() {
     space::all(&mut run);
     stages::all(&mut run);
     ties::all(&mut run);
+    weights::all(&mut run);
     unread::all(&mut run);
     unused::all(&mut run);
     rules::all(&mut run);

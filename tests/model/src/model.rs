@@ -1,6 +1,6 @@
 //! The five acts over the model's own bytes, from the specification's words.
 
-use crate::geometry::{squared, Key, Slices};
+use crate::geometry::{distance, Key, Slices};
 use crate::judge;
 use crate::layout::*;
 use std::cmp::Reverse;
@@ -27,17 +27,24 @@ pub struct Tally {
     pub leaves: u32,
 }
 
-/// What is asked: a point, how many rows, and the stages looked among, bit s for stage s.
+/// What is asked: a point, the weights of its coordinates, if any are carried, how many rows, and the stages looked among, bit s for stage s.
 #[derive(Clone, PartialEq, Eq, Debug)]
 pub struct Asked {
     pub x: Vec<i16>,
+    pub weights: Option<Vec<u16>>,
     pub k: usize,
     pub stages: u8,
 }
 
 impl Asked {
+    /// Without weights.
     pub fn new(x: &[i16], k: usize, stages: u8) -> Asked {
-        Asked { x: x.to_vec(), k, stages }
+        Asked { x: x.to_vec(), weights: None, k, stages }
+    }
+
+    /// The same by weights.
+    pub fn by(&self, weights: &[u16]) -> Asked {
+        Asked { weights: Some(weights.to_vec()), ..self.clone() }
     }
 
     /// Whether a record is looked for.
@@ -365,12 +372,12 @@ impl Model {
     }
 
     /// The rows of all candidates, nearest first, by a full scan.
-    fn candidates(&self, asked: &Asked) -> Vec<Row> {
-        let (d, from) = (self.d(), wide(&asked.x));
+    pub fn candidates(&self, asked: &Asked) -> Vec<Row> {
+        let (d, from, weights) = (self.d(), wide(&asked.x), asked.weights.as_deref());
         let mut rows = Vec::new();
         for (position, &p) in self.leaves().iter().enumerate() {
             for r in records(&self.b, p).iter().filter(|r| asked.seeks(r)) {
-                let distance = squared(&r.point(d), &from);
+                let distance = distance(weights, &r.point(d), &from);
                 rows.push(Row { id: r.tag.id, distance, position: position as u64, stamp: r.tag.stamp });
             }
         }
@@ -385,7 +392,7 @@ impl Model {
         let few = rows.len() < asked.k;
         rows.truncate(asked.k);
         let leaves = self.leaves();
-        let slices = Slices::of(&wide(&asked.x));
+        let slices = Slices::of(&wide(&asked.x), asked.weights.as_deref());
         let mut found = Found::default();
         for &p in &leaves {
             if count(&self.b, p) == 0 {
@@ -409,11 +416,15 @@ impl Model {
         if let Some(code) = self.refused() {
             return refusal(code);
         }
-        if asked.x.len() != self.d() {
+        let weights = asked.weights.as_deref();
+        if asked.x.len() != self.d() || weights.is_some_and(|weights| weights.len() != self.d()) {
             return refusal(3);
         }
         if !in_range(&asked.x) {
             return refusal(4);
+        }
+        if weights.is_some_and(|weights| weights.iter().any(|&w| w > MOST_WEIGHT)) {
+            return refusal(14);
         }
         if !(1..=64).contains(&asked.k) {
             return refusal(10);

@@ -1,7 +1,7 @@
 //! Series of acts, refused ones among them, compared after each act.
 
 use crate::acts::{Act, ROWS};
-use crate::data::{point, tag, Kind, Rng, KINDS, MIXES};
+use crate::data::{point, tag, weights, Kind, Rng, KINDS, MIXES};
 use crate::layout::*;
 use crate::lent::Lent;
 use crate::model::{Asked, Model, Tally};
@@ -109,6 +109,26 @@ impl Series {
         point(&mut self.rng, self.kind, d)
     }
 
+    /// Weights, or none.
+    pub fn weights(&mut self) -> Option<Vec<u16>> {
+        let d = self.model.d();
+        self.rng.one_in(2).then(|| weights(&mut self.rng, d))
+    }
+
+    /// Weights or none, sometimes such as are refused.
+    fn some_weights(&mut self) -> Option<Vec<u16>> {
+        let mut weights = self.weights()?;
+        if self.rng.one_in(20) {
+            let at = self.rng.below(weights.len());
+            weights[at] = self.rng.pick(&[1001, 1023, 1024, 2000, 1 << 15, u16::MAX]);
+        }
+        if self.rng.one_in(20) {
+            let n = self.rng.pick(&[0, weights.len() - 1, weights.len() + 1, 16, 17, 100]);
+            weights.resize(n, 7);
+        }
+        Some(weights)
+    }
+
     /// A point, sometimes one that is refused.
     fn some_point(&mut self) -> Vec<i16> {
         let mut x = self.point();
@@ -163,7 +183,7 @@ impl Series {
             let lent = if self.rng.one_in(15) { self.rng.below(most.max(1)) } else { most + self.rng.below(ROWS - most + 1) };
             let start = self.rng.pick(&[0, 5, u32::MAX - 1, u32::MAX]);
             let leaves = self.rng.pick(&[0, 77, u32::MAX - 2, u32::MAX]);
-            let asked = Asked { x: self.some_point(), k, stages: self.some_set() };
+            let asked = Asked { x: self.some_point(), weights: self.some_weights(), k, stages: self.some_set() };
             Act::Question(asked, lent, Tally { questions: start, leaves })
         } else {
             Act::Check
@@ -216,7 +236,7 @@ fn series(run: &mut Run, pages: usize, d: usize, kind: Kind, ids: Ids, steps: us
         s.act(run, &Act::Delete(id));
     }
     s.act(run, &Act::Delete(1));
-    let asked = Asked { x: s.point(), k: 1, stages: s.set() };
+    let asked = Asked { x: s.point(), weights: s.weights(), k: 1, stages: s.set() };
     s.act(run, &Act::Question(asked, 1, Tally::default()));
 }
 

@@ -50,7 +50,7 @@ fn stored_stamps(run: &mut Run, points: usize) {
         let code = run.act(&mut lib, &mut model, &Act::Check, true);
         run.expect(code == 0, || format!("stamps of {stamp:?}: check gives {code}"));
         for _ in 0..20 {
-            let asked = Asked { x: s.point(), k: 1 + rng.below(20), stages: s.set() };
+            let asked = Asked { x: s.point(), weights: s.weights(), k: 1 + rng.below(20), stages: s.set() };
             let found = model.search(&asked);
             run.search_gives("other stamps", &lib, &asked, &found.rows, found.leaves);
         }
@@ -86,7 +86,7 @@ fn of_all(model: &Model, x: &[i16], k: usize) -> Vec<(u64, Reverse<u32>, u32)> {
 fn full_set(run: &mut Run, s: &mut Series) {
     let restaged = s.model.retagged(|tag| Tag { stage: s.rng.below(6) as u8, ..tag });
     for _ in 0..10 {
-        let asked = Asked { x: s.point(), k: 1 + s.rng.below(64), stages: ALL_STAGES };
+        let asked = Asked::new(&s.point(), 1 + s.rng.below(64), ALL_STAGES);
         let (rows, leaves) = run.answer(&s.lib, &asked, true);
         let nearest = of_all(&s.model, &asked.x, asked.k);
         run.expect(rows.iter().map(Row::order).eq(nearest), || format!("{asked:?}: not the nearest of all records"));
@@ -112,12 +112,12 @@ fn few(run: &mut Run, s: &mut Series, rare: usize) {
     let holding = leaves.iter().filter(|&&p| count(&bytes, p) > 0).count() as u32;
     let mut model = Model::over(bytes.clone());
     for stages in [1 << 4, 1 << 3 | 1 << 4, ALL_STAGES & !(1 << 2)] {
-        let asked = Asked { x: s.point(), k: rare + 1, stages };
+        let asked = Asked { x: s.point(), weights: s.weights(), k: rare + 1, stages };
         let (rows, read) = run.answer(&bytes, &asked, true);
         run.expect((rows.len(), read) == (rare, holding), || format!("{asked:?}: {} rows, {read} leaves of {holding}", rows.len()));
         run.act(&mut bytes, &mut model, &Act::Question(asked, ROWS, Tally::default()), true);
         if rare > 0 {
-            let asked = Asked { x: s.point(), k: rare, stages };
+            let asked = Asked { x: s.point(), weights: s.weights(), k: rare, stages };
             run.act(&mut bytes, &mut model, &Act::Question(asked, ROWS, Tally::default()), true);
         }
     }
@@ -170,7 +170,7 @@ fn set_in_order(run: &mut Run) {
         let refused = !(1..=ALL_STAGES).contains(&stages);
         let rows = [(vec![1001, 0], 0, 0, 3), (vec![1001], 0, 0, 4), (vec![1], 0, 0, 10), (vec![1], 65, 64, 10), (vec![1], 4, 3, 11)];
         for (x, k, lent, code) in rows.into_iter().chain([(vec![1], 4, 4, if refused { 16 } else { 0 })]) {
-            let asked = Asked { x, k, stages };
+            let asked = Asked::new(&x, k, stages);
             for trusted in [false, true] {
                 run.trusted = trusted;
                 let got = s.act(run, &Act::Question(asked.clone(), lent, Tally { questions: 8, leaves: 9 }));

@@ -4,7 +4,7 @@
 use crate::acts::{Act, ROWS};
 use crate::built::{built, Plan, Shape};
 use crate::data::{Kind, Rng, KINDS};
-use crate::geometry::squared;
+use crate::geometry::distance;
 use crate::layout::*;
 use crate::model::{Asked, Model, Row, Tally};
 use crate::run::Run;
@@ -39,7 +39,8 @@ fn lowest_first(a: &Near, b: &Near) -> Ordering {
 /// The first k in some order of the records of the stages asked for.
 fn nearest(records: &[Record], asked: &Asked, order: fn(&Near, &Near) -> Ordering) -> Vec<Near> {
     let from: Vec<i64> = asked.x.iter().map(|&c| c.into()).collect();
-    let near = |r: &Record| Near { distance: squared(&r.point(from.len()), &from), stamp: r.tag.stamp, id: r.tag.id };
+    let far = |r: &Record| distance(asked.weights.as_deref(), &r.point(from.len()), &from);
+    let near = |r: &Record| Near { distance: far(r), stamp: r.tag.stamp, id: r.tag.id };
     let mut all: Vec<Near> = records.iter().filter(|r| asked.stages >> r.tag.stage & 1 == 1).map(near).collect();
     all.sort_by(order);
     all.truncate(asked.k);
@@ -155,7 +156,7 @@ fn stamped(run: &mut Run, model: &Model, kind: Kind, stamp: impl Fn(u32) -> u32,
     let mut s = Series::over(model.retagged(|tag| Tag { stamp: stamp(tag.id), ..tag }), kind, Ids::Any, 7);
     let records = s.model.records();
     for _ in 0..if run.long { 100 } else { 10 } {
-        let asked = Asked { x: s.point(), k: 1 + s.rng.below(64), stages: s.set() };
+        let asked = Asked { x: s.point(), weights: s.weights(), k: 1 + s.rng.below(64), stages: s.set() };
         let want = nearest(&records, &asked, order);
         gives(run, &mut s, asked, &want);
     }
@@ -238,7 +239,7 @@ fn each_set(run: &mut Run, d: usize, points: usize) {
 
 /// Other stamps in the same records: the same distances from the same leaves, of which the unread are then overwritten.
 fn same_leaves(run: &mut Run, s: &mut Series) {
-    let asked = Asked { x: asked_point(s), k: 1 + s.rng.below(12), stages: s.set() };
+    let asked = Asked { x: asked_point(s), weights: s.weights(), k: 1 + s.rng.below(12), stages: s.set() };
     let found = s.model.search(&asked);
     let few = s.rng.one_in(2);
     let stamp = |rng: &mut Rng| if few { rng.below(3) as u32 } else { rng.next() as u32 };

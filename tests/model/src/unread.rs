@@ -58,10 +58,15 @@ pub fn asked_point(s: &mut Series) -> Vec<i16> {
     x
 }
 
-/// One question, with the pages of the leaves that it leaves unread as they are, overwritten, and exchanged.
+/// One question, with weights or without.
 pub fn once(run: &mut Run, s: &mut Series) {
     let k = 1 + if s.rng.one_in(4) { s.rng.below(64) } else { s.rng.below(5) };
-    let asked = Asked { x: asked_point(s), k, stages: s.set() };
+    let asked = Asked { x: asked_point(s), weights: s.weights(), k, stages: s.set() };
+    each_way(run, s, asked);
+}
+
+/// A question, with the pages of the leaves that it leaves unread as they are, overwritten, and exchanged.
+pub fn each_way(run: &mut Run, s: &mut Series, asked: Asked) {
     let Found { rows, leaves, unread } = s.model.search(&asked);
     run.search_gives("sound", &s.lib, &asked, &rows, leaves);
     if unread.is_empty() {

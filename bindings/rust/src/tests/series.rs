@@ -43,18 +43,20 @@ impl Series {
         assert_eq!(done.is_ok(), self.points.remove(&id).is_some());
     }
 
-    fn question(&mut self, point: &[i16], k: usize, stages: StageSet) {
-        let found = self.checked.question(point, k, stages, &mut self.tallies[0]).unwrap();
+    fn question(&mut self, point: &[i16], weights: Option<&[u16]>, k: usize, stages: StageSet) {
+        let found = self.checked.question(point, weights, k, stages, &mut self.tallies[0]).unwrap();
         let rows: Vec<Nearness> = found.rows.iter().map(|row| (row.distance, Reverse(row.stamp), row.id)).collect();
-        assert_eq!(self.sound.question(point, k, stages, &mut self.tallies[1]), Ok(found));
-        assert_eq!(rows, self.full_scan(point, k, stages));
+        assert_eq!(self.sound.question(point, weights, k, stages, &mut self.tallies[1]), Ok(found));
+        assert_eq!(rows, self.full_scan(point, weights, k, stages));
     }
 
     /// The nearest of some stages by a look at every point.
-    fn full_scan(&self, asked: &[i16], k: usize, stages: StageSet) -> Vec<Nearness> {
-        let squared = |p: &[i16]| p.iter().zip(asked).map(|(a, b)| (i64::from(*a) - i64::from(*b)).pow(2) as u64).sum();
+    fn full_scan(&self, asked: &[i16], weights: Option<&[u16]>, k: usize, stages: StageSet) -> Vec<Nearness> {
+        let weight = |m| weights.map_or(1, |weights| u64::from(weights[m]));
+        let squared = |(m, (a, b)): (usize, (&i16, &i16))| weight(m) * (i64::from(*a) - i64::from(*b)).pow(2) as u64;
+        let distance = |p: &[i16]| p.iter().zip(asked).enumerate().map(squared).sum();
         let candidates = self.points.values().filter(|(epoch, _)| stages.contains(epoch.stage));
-        let mut rows: Vec<Nearness> = candidates.map(|(epoch, p)| (squared(p), Reverse(epoch.stamp), epoch.id)).collect();
+        let mut rows: Vec<Nearness> = candidates.map(|(epoch, p)| (distance(p), Reverse(epoch.stamp), epoch.id)).collect();
         rows.sort_unstable();
         rows.truncate(k);
         rows
@@ -70,7 +72,10 @@ fn series(d: usize, reach: u64, seed: u64) {
         match random.below(4) {
             0 | 1 => series.insert(random.epoch(id), point),
             2 => series.delete(id),
-            _ => series.question(&point, 1 + random.below(MAX_K as u64) as usize, random.stages()),
+            _ => {
+                let (weights, k) = (random.weights(d), 1 + random.below(MAX_K as u64) as usize);
+                series.question(&point, weights.as_deref(), k, random.stages());
+            }
         }
         assert_eq!(series.sound.as_bytes(), series.checked.as_bytes());
     }

@@ -10,7 +10,7 @@ query-of-requires : tie.Need-query-of-requires
 query-of-requires c κs = search needs
 
 search-requires : tie.Need-search-requires
-search-requires c κs = let S = (c .before .before .before .before .before .before) in query-sought (questionOf (now (S .args .point)) (S .args .what)) _ _ _ (c .before .before .query-of .ensures) (S .pre .0) (S .pre .1)
+search-requires c κs = let S = (c .before .before .before .before .before .before .before) in query-sought (questionOf (now (S .args .point)) (now (S .args .weights)) (S .args .what)) _ _ _ (c .before .before .query-of .ensures) (S .pre .0) (S .pre .1)
 
 same-length : tie.Need-same-length
 same-length c = search needs
@@ -19,8 +19,8 @@ same-length-2 : tie.Need-same-length-2
 same-length-2 c = search needs
 
 returns : tie.Need-returns
-returns c = let S = (c .before .before .before .before .before .before .before .before .before .before .before) in
-    answered-by (now (S .args .index)) (questionOf (now (S .args .point)) (S .args .what)) _ _ _ _ (c .before .before .before .before .before .before .before .query-of .ensures) (c .before .before .before .before .search .ensures)
+returns c = let S = (c .before .before .before .before .before .before .before .before .before .before .before .before) in
+    answered-by (now (S .args .index)) (questionOf (now (S .args .point)) (now (S .args .weights)) (S .args .what)) _ _ _ _ (c .before .before .before .before .before .before .before .query-of .ensures) (c .before .before .before .before .search .ensures)
 
 pub answered-spec : {M : Type 1} → statement M
 answered-spec =

@@ -1,8 +1,7 @@
 -- `offer_record` meets its contract: a row behind all those held changes nothing, nor does a record that is no candidate.
-use mathlib.Core.Path.{_≡_, sym, _∙_}
+use mathlib.Core.Path.{sym, _∙_}
 use denote.Ref.{now}
 use borrow.Author.Tests.{not-true, not-false}
-use Rattle.search_leaves.specs.Columns.{rowAt}
 use Rattle.search_leaves.proofs.LeafLaws.{record-behind, record-passed, record-taken}
 use borrow.Author.Needs.{needs}
 use Rattle.search_leaves.proofs.offer_record.Statement.{statement}
@@ -28,14 +27,11 @@ returns-2 : tie.Need-returns-2
 returns-2 c = let S = (c .before .before .before .before .before .before .before .before) in
     record-passed (now (S .args .page)) (S .args .i) (S .args .distance) (S .args .position) (now (S .args .highs)) (now (S .args .lows)) (S .args .n) (S .args .k) (S .args .choice) (S .pre .held) (λ q w. sym (c .before .is-candidate .ensures q w) ∙ not-true _ (c .if2 .taken))
 
-read-ident-requires : tie.Need-read-ident-requires
-read-ident-requires c κs = search needs
-
-read-stamp-requires : tie.Need-read-stamp-requires
-read-stamp-requires c κs = search needs
+row-in-requires : tie.Need-row-in-requires
+row-in-requires c κs = search needs
 
 offer-requires : tie.Need-offer-requires
-offer-requires c κs = search needs
+offer-requires c κs = let S = (c .before .before .before .before .before .before .before .before .before .before .before) in rw (c .row-in .ensures) (S .pre .fits, S .pre .held)
 
 same-length-3 : tie.Need-same-length-3
 same-length-3 c = search needs
@@ -45,15 +41,10 @@ same-length-4 c = search needs
 
 returns-3 : tie.Need-returns-3
 returns-3 c =
-    let S = (c .before .before .before .before .before .before .before .before .before .before .before .before .before .before .before .before .before) in
+    let S = (c .before .before .before .before .before .before .before .before .before .before .before .before .before .before .before .before) in
     let a = S .args in
-    let I = c .before .before .before .before .before .before .before .before .read-ident in
-    let T = c .before .before .before .before .before .before .before .read-stamp in
-    let O = c .before .before .before .before .offer in
-    let e : record { distance = a .distance; id = I .result; stamp = T .result; position = a .position } ≡ rowAt (now (a .page)) (a .i) (a .distance) (a .position) =
-    λ j. record { distance = a .distance; id = I .ensures j; stamp = T .ensures j; position = a .position } in
     record-taken (now (a .page)) (a .i) (a .distance) (a .position) (now (a .highs)) (now (a .lows)) (a .n) (a .k) (a .choice) _ _ _
-    (λ q w. sym (c .before .before .before .before .before .before .before .before .before .before .is-candidate .ensures q w) ∙ not-false _ (c .before .before .before .before .before .before .before .before .before .if2 .left)) (rw e at (O .ensures))
+    (λ q w. sym (c .before .before .before .before .before .before .before .before .before .is-candidate .ensures q w) ∙ not-false _ (c .before .before .before .before .before .before .before .before .if2 .left)) (rw (c .before .before .before .before .before .row-in .ensures) at (c .before .before .before .before .offer .ensures))
 
 pub offer-record-spec : {M : Type 1} → statement M
 offer-record-spec =
@@ -65,8 +56,7 @@ offer-record-spec =
     is-candidate-requires
     same-length-2
     returns-2
-    read-ident-requires
-    read-stamp-requires
+    row-in-requires
     offer-requires
     same-length-3
     same-length-4

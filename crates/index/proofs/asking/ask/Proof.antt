@@ -28,7 +28,7 @@ use denote.RattleType.{RattleType, owns}
 use denote.Shadow.{shadow}
 use denote.Laws.{Is, shows}
 use denote.Memory.{mem, pointee}
-use denote.Builtin.{u8, i16}
+use denote.Builtin.{u8, u16, i16}
 use denote.Array.{Array, arrayVal, each, array-vals, array-tells, array-lawful, array-makes}
 use denote.Ref.{RefT, MutRef}
 use denote.Lend.{Held, lends-ref, ref-back, lends-slice, slice-back}
@@ -82,7 +82,7 @@ abbrev B : RattleType
 B = Array R 64
 
 abbrev stayed : Stays (ask.ended .signature .params) (ask.ended .kept)
-stayed = (stay-none-slice (0 ∷ []) tt (plain (λ _. u8)) yes, (stay-none-slice (1 ∷ []) tt (plain (λ _. i16)) yes, (stay-none (λ _. U.the-row) yes, (stay-none (λ _. B) yes, (stay-none (λ _. Y) yes, tt)))))
+stayed = (stay-none-slice (0 ∷ []) tt (plain (λ _. u8)) yes, (stay-none-slice (1 ∷ []) tt (plain (λ _. i16)) yes, (stay-none-slice (2 ∷ []) tt (plain (λ _. u16)) yes, (stay-none (λ _. U.the-row) yes, (stay-none (λ _. B) yes, (stay-none (λ _. Y) yes, tt))))))
 
 abbrev kv : Criteria → Val
 kv k = LL.val U.the-type U′.the-laws k
@@ -93,6 +93,9 @@ bytesT = sliceTy (tyRef (named 0) imm (tyInt w8))
 
 abbrev askedT : Ty
 askedT = sliceTy (tyRef (named 1) imm (tyInt w16))
+
+abbrev weightsT : Ty
+weightsT = sliceTy (tyRef (named 2) imm (tyInt w16))
 
 abbrev arrayT : Ty
 arrayT = tyArray P′.mir 64
@@ -145,25 +148,28 @@ module _ {M : Type 1} (𝓤 : URA M) (H : Heap 𝓤) (A : Atoms 𝓤) (at-mem : 
   abbrev Callee : Contract 𝓤
   Callee = tripleOf 𝓤 H A question.signature (question.spec 𝓤 H A at-mem run)
 
-module _ {M : Type 1} (𝓤 : URA M) (H : Heap 𝓤) (A : Atoms 𝓤) (W : Given 𝓤 H A) (at-mem : Memory → SProp 𝓤) (run : Routine → Fun 𝓤) (κ₀ κ₁ : Lft) (q₀ q₁ : Share) (xi : RefT (List ℕ)) (xa : RefT (List (i16 .Denot))) (k : Criteria) (xs : List Row) (h : Tally) where
+module _ {M : Type 1} (𝓤 : URA M) (H : Heap 𝓤) (A : Atoms 𝓤) (W : Given 𝓤 H A) (at-mem : Memory → SProp 𝓤) (run : Routine → Fun 𝓤) (κ₀ κ₁ κ₂ : Lft) (q₀ q₁ q₂ : Share) (xi : RefT (List ℕ)) (xa : RefT (List (i16 .Denot))) (xw : RefT (List ℕ)) (k : Criteria) (xs : List Row) (h : Tally) where
   abbrev si : Val
   si = sliceVal (xi .ptr) (length (xi .now))
 
   abbrev sa : Val
   sa = sliceVal (xa .ptr) (length (xa .now))
 
-  module _ (pi : Is (ShrSlice (named 0) κ₀ u8) xi (si ∷ [])) (pa : Is (ShrSlice (named 1) κ₁ i16) xa (sa ∷ [])) (pk : Is U.the-row k (kv k ∷ [])) (px : Is B xs (av xs ∷ [])) (ph : Is Y h (yv h ∷ [])) where
-    abbrev κs : Lft × (Lft × Unit {0})
-    κs = (κ₀, (κ₁, tt))
+  abbrev sw : Val
+  sw = sliceVal (xw .ptr) (length (xw .now))
 
-    abbrev qs : Share × (Share × Unit {0})
-    qs = (q₀, (q₁, tt))
+  module _ (pi : Is (ShrSlice (named 0) κ₀ u8) xi (si ∷ [])) (pa : Is (ShrSlice (named 1) κ₁ i16) xa (sa ∷ [])) (pw : Is (ShrSlice (named 2) κ₂ u16) xw (sw ∷ [])) (pk : Is U.the-row k (kv k ∷ [])) (px : Is B xs (av xs ∷ [])) (ph : Is Y h (yv h ∷ [])) where
+    abbrev κs : Lft × (Lft × (Lft × Unit {0}))
+    κs = (κ₀, (κ₁, (κ₂, tt)))
 
-    abbrev a : RefT (List ℕ) × (RefT (List (i16 .Denot)) × (Criteria × (List Row × (Tally × Unit {0}))))
-    a = (xi, (xa, (k, (xs, (h, tt)))))
+    abbrev qs : Share × (Share × (Share × Unit {0}))
+    qs = (q₀, (q₁, (q₂, tt)))
 
-    abbrev vals : List Val × (List Val × (List Val × (List Val × (List Val × Unit {0}))))
-    vals = (si ∷ [], (sa ∷ [], (kv k ∷ [], (av xs ∷ [], (yv h ∷ [], tt)))))
+    abbrev a : RefT (List ℕ) × (RefT (List (i16 .Denot)) × (RefT (List ℕ) × (Criteria × (List Row × (Tally × Unit {0})))))
+    a = (xi, (xa, (xw, (k, (xs, (h, tt))))))
+
+    abbrev vals : List Val × (List Val × (List Val × (List Val × (List Val × (List Val × Unit {0})))))
+    vals = (si ∷ [], (sa ∷ [], (sw ∷ [], (kv k ∷ [], (av xs ∷ [], (yv h ∷ [], tt))))))
 
     abbrev Entered : SProp 𝓤
     Entered = onEntry 𝓤 H A ask.signature κs qs a vals
@@ -177,9 +183,12 @@ module _ {M : Type 1} (𝓤 : URA M) (H : Heap 𝓤) (A : Atoms 𝓤) (W : Given
     abbrev Sought : Fml
     Sought = ShrSlice (named 1) κ₁ i16 .own xa (sa ∷ [])
 
+    abbrev Weights : Fml
+    Weights = ShrSlice (named 2) κ₂ u16 .own xw (sw ∷ [])
+
     -- what `question` says of its answer, the rows and the tally
     abbrev Said : Answer → List Row → Tally → Type 0
-    Said n zs t = Questioned (xi .now) (questionOf (xa .now) k) xs h n zs t
+    Said n zs t = Questioned (xi .now) (questionOf (xa .now) (xw .now) k) xs h n zs t
 
     many : length xs ≡ 64
     many = px .1 .0 .1
@@ -193,46 +202,47 @@ module _ {M : Type 1} (𝓤 : URA M) (H : Heap 𝓤) (A : Atoms 𝓤) (W : Given
       xt = record { ptr = (b′, 0); name = δ; now = h }
 
       abbrev LentRows : Fml
-      LentRows = MutSlice (named 2) (ν ∷ []) R .own xr (sliceVal (b, 0) (length xs) ∷ [])
+      LentRows = MutSlice (named 3) (ν ∷ []) R .own xr (sliceVal (b, 0) (length xs) ∷ [])
 
       abbrev LentTally : Fml
-      LentTally = MutRef (named 3) (μ ∷ []) Y .own xt (vptr b′ 0 ∷ [])
+      LentTally = MutRef (named 4) (μ ∷ []) Y .own xt (vptr b′ 0 ∷ [])
 
-      abbrev lfts : Lft × (Lft × (Lft × (Lft × Unit {0})))
-      lfts = (κ₀, (κ₁, (ν ∷ [], (μ ∷ [], tt))))
+      abbrev lfts : Lft × (Lft × (Lft × (Lft × (Lft × Unit {0}))))
+      lfts = (κ₀, (κ₁, (κ₂, (ν ∷ [], (μ ∷ [], tt)))))
 
-      abbrev args : RefT (List ℕ) × (RefT (List (i16 .Denot)) × (Criteria × (RefT (List Row) × (RefT Tally × Unit {0}))))
-      args = (xi, (xa, (k, (xr, (xt, tt)))))
+      abbrev args : RefT (List ℕ) × (RefT (List (i16 .Denot)) × (RefT (List ℕ) × (Criteria × (RefT (List Row) × (RefT Tally × Unit {0})))))
+      args = (xi, (xa, (xw, (k, (xr, (xt, tt))))))
 
       abbrev to : Callee 𝓤 H A at-mem run .Ghost
-      to = ((lfts, (q₀, (q₁, (fullShare, (fullShare, tt)))), tt, args, (si ∷ [], (sa ∷ [], (kv k ∷ [], (sliceVal (b, 0) (length xs) ∷ [], (vptr b′ 0 ∷ [], tt)))))), tt)
+      to = ((lfts, (q₀, (q₁, (q₂, (fullShare, (fullShare, tt))))), tt, args, (si ∷ [], (sa ∷ [], (sw ∷ [], (kv k ∷ [], (sliceVal (b, 0) (length xs) ∷ [], (vptr b′ 0 ∷ [], tt))))))), tt)
 
-      goes : ent 𝓤 (⋆ 𝓤 H A (raw Entered ∷ ‵ LentRows ∷ ‵ LentTally ∷ ‵ (flft (ν ∷ []) fullShare) ∷ ‵ (flft (μ ∷ []) fullShare) ∷ [])) (sep 𝓤 (Callee 𝓤 H A at-mem run .pre to) (⋆ 𝓤 H A ((‵ Index ⊛ ‵ Sought) ∷ [])))
+      goes : ent 𝓤 (⋆ 𝓤 H A (raw Entered ∷ ‵ LentRows ∷ ‵ LentTally ∷ ‵ (flft (ν ∷ []) fullShare) ∷ ‵ (flft (μ ∷ []) fullShare) ∷ [])) (sep 𝓤 (Callee 𝓤 H A at-mem run .pre to) (⋆ 𝓤 H A ((‵ Index ⊛ (‵ Sought ⊛ ‵ Weights)) ∷ [])))
       goes =
-          qed W (((‵ (flft κ₀ q₀) ⊛ (‵ (flft κ₁ q₁) ⊛ ‵ ftrue)) ⊛ ‵ (owns (ShrSlice (named 0) κ₀ u8 ∷ ShrSlice (named 1) κ₁ i16 ∷ U.the-row ∷ B ∷ Y ∷ []) a vals)) ∷ ‵ LentRows ∷ ‵ LentTally ∷ ‵ (flft (ν ∷ []) fullShare) ∷ ‵ (flft (μ ∷ []) fullShare) ∷ []) ∵
-          split ! $ split ! $ move ! (1 ∷ []) $ split ! $
-          -- [t₁; true; t₀; owns; rows; tally; tν; tμ]
-          nothing ! $ move ! (8 ∷ 0 ∷ []) $ join ! $ move ! (7 ∷ 0 ∷ []) $ join ! $ move ! (1 ∷ 0 ∷ []) $ join ! $ move ! (2 ∷ 0 ∷ []) $ join ! $
+          qed W (((‵ (flft κ₀ q₀) ⊛ (‵ (flft κ₁ q₁) ⊛ (‵ (flft κ₂ q₂) ⊛ ‵ ftrue))) ⊛ ‵ (owns (ShrSlice (named 0) κ₀ u8 ∷ ShrSlice (named 1) κ₁ i16 ∷ ShrSlice (named 2) κ₂ u16 ∷ U.the-row ∷ B ∷ Y ∷ []) a vals)) ∷ ‵ LentRows ∷ ‵ LentTally ∷ ‵ (flft (ν ∷ []) fullShare) ∷ ‵ (flft (μ ∷ []) fullShare) ∷ []) ∵
+          split ! $ split ! $ move ! (1 ∷ []) $ split ! $ move ! (1 ∷ []) $ split ! $
+          -- [t₂; true; t₁; t₀; owns; rows; tally; tν; tμ]
+          nothing ! $ move ! (9 ∷ 0 ∷ []) $ join ! $ move ! (8 ∷ 0 ∷ []) $ join ! $ move ! (1 ∷ 0 ∷ []) $ join ! $ move ! (2 ∷ 0 ∷ []) $ join ! $ move ! (2 ∷ 0 ∷ []) $ join ! $
           -- [the tokens; true; owns; rows; tally]
           move ! (2 ∷ []) $ fsplit ! $ use1 W (‵ Index ⊛ ‵ Index) (shr-slice-copy 𝓤 H A W (named 0) κ₀ u8 .twice xi (si ∷ [])) $ split ! $
           move ! (2 ∷ []) $ fsplit ! $ use1 W (‵ Sought ⊛ ‵ Sought) (shr-slice-copy 𝓤 H A W (named 1) κ₁ i16 .twice xa (sa ∷ [])) $ split ! $
+          move ! (2 ∷ []) $ fsplit ! $ use1 W (‵ Weights ⊛ ‵ Weights) (shr-slice-copy 𝓤 H A W (named 2) κ₂ u16 .twice xw (sw ∷ [])) $ split ! $
           move ! (2 ∷ []) $ drop ! $
-          -- [asked; asked; index; index; the tokens; true; rows; tally]
-          nothing ! $ move ! (8 ∷ 0 ∷ []) $ fjoin ! $ move ! (7 ∷ 0 ∷ []) $ fjoin ! $ owned ! U.the-row (Is U.the-row) (LL.makes U.the-type U′.the-plain 𝓤 H A) k _ pk $ fjoin ! $
-          -- [k ..; asked; asked; index; index; the tokens; true]
-          move ! (1 ∷ 0 ∷ []) $ fjoin ! $ move ! (2 ∷ 0 ∷ []) $ fjoin ! $ move ! (3 ∷ 0 ∷ []) $ join ! $ nothing ! $ move ! (1 ∷ 0 ∷ []) $ join ! $ frame ! $
-          -- [asked; index; true]
-          move ! (1 ∷ 0 ∷ []) $ join ! $ keep ! (0 ∷ []) $ done !
+          -- [weights; weights; asked; asked; index; index; the tokens; true; rows; tally]
+          nothing ! $ move ! (10 ∷ 0 ∷ []) $ fjoin ! $ move ! (9 ∷ 0 ∷ []) $ fjoin ! $ owned ! U.the-row (Is U.the-row) (LL.makes U.the-type U′.the-plain 𝓤 H A) k _ pk $ fjoin ! $
+          -- [k ..; weights; weights; asked; asked; index; index; the tokens; true]
+          move ! (1 ∷ 0 ∷ []) $ fjoin ! $ move ! (2 ∷ 0 ∷ []) $ fjoin ! $ move ! (3 ∷ 0 ∷ []) $ fjoin ! $ move ! (4 ∷ 0 ∷ []) $ join ! $ nothing ! $ move ! (1 ∷ 0 ∷ []) $ join ! $ frame ! $
+          -- [weights; asked; index; true]
+          move ! (1 ∷ 0 ∷ []) $ join ! $ move ! (1 ∷ 0 ∷ []) $ join ! $ keep ! (0 ∷ []) $ done !
 
     exits : (n : Answer) (zs : List Row) (t : Tally) (pn : Is N.the-row n (nv n ∷ [])) (pz : Is B zs (av zs ∷ [])) (pt : Is Y t (yv t ∷ [])) → Said n zs t
-        → ent 𝓤 (⋆ 𝓤 H A (‵ (flft κ₀ q₀) ∷ ‵ (flft κ₁ q₁) ∷ (‵ Index ⊛ ‵ Sought) ∷ [])) (Post (dv (d n zs t pn pz pt)))
+        → ent 𝓤 (⋆ 𝓤 H A (‵ (flft κ₀ q₀) ∷ ‵ (flft κ₁ q₁) ∷ ‵ (flft κ₂ q₂) ∷ (‵ Index ⊛ (‵ Sought ⊛ ‵ Weights)) ∷ [])) (Post (dv (d n zs t pn pz pt)))
     exits n zs t pn pz pt e =
-        qed W (‵ (flft κ₀ q₀) ∷ ‵ (flft κ₁ q₁) ∷ (‵ Index ⊛ ‵ Sought) ∷ []) ∵
-        suffices ! _ (ends-at 𝓤 H A ask.ended stayed (ask.clauses 𝓤 H A at-mem run) W ((κs, qs, tt, a, vals), tt) (dv (d n zs t pn pz pt)) (d n zs t pn pz pt) (tt, (tt, (tt, (tt, (tt, tt))))) (tt, (tt, (tt, (tt, (tt, tt)))))) $
+        qed W (‵ (flft κ₀ q₀) ∷ ‵ (flft κ₁ q₁) ∷ ‵ (flft κ₂ q₂) ∷ (‵ Index ⊛ (‵ Sought ⊛ ‵ Weights)) ∷ []) ∵
+        suffices ! _ (ends-at 𝓤 H A ask.ended stayed (ask.clauses 𝓤 H A at-mem run) W ((κs, qs, tt, a, vals), tt) (dv (d n zs t pn pz pt)) (d n zs t pn pz pt) (tt, (tt, (tt, (tt, (tt, (tt, tt)))))) (tt, (tt, (tt, (tt, (tt, (tt, tt))))))) $
         says ! e $
-        nothing ! $ move ! (2 ∷ 0 ∷ []) $ join ! $ move ! (1 ∷ 0 ∷ []) $ join ! $ frame ! $
+        nothing ! $ move ! (3 ∷ 0 ∷ []) $ join ! $ move ! (2 ∷ 0 ∷ []) $ join ! $ move ! (1 ∷ 0 ∷ []) $ join ! $ frame ! $
         nothing ! $ owned ! Y (Is Y) (LL.makes Q.the-type Q′.the-plain 𝓤 H A) h _ ph $ fjoin ! $ owned ! B (Is B) (array-makes 𝓤 H A W R (LL.makes P.the-type P′.the-plain 𝓤 H A) 64) xs _ px $ fjoin ! $
-        owned ! U.the-row (Is U.the-row) (LL.makes U.the-type U′.the-plain 𝓤 H A) k _ pk $ fjoin ! $ move ! (1 ∷ []) $ split ! $ move ! (1 ∷ 2 ∷ []) $ fjoin ! $ move ! (1 ∷ 0 ∷ []) $ fjoin ! $ frame ! $
+        owned ! U.the-row (Is U.the-row) (LL.makes U.the-type U′.the-plain 𝓤 H A) k _ pk $ fjoin ! $ move ! (1 ∷ []) $ split ! $ move ! (1 ∷ []) $ split ! $ move ! (1 ∷ 3 ∷ []) $ fjoin ! $ move ! (1 ∷ 0 ∷ []) $ fjoin ! $ move ! (1 ∷ 0 ∷ []) $ fjoin ! $ frame ! $
         owned ! D.the-row (Is D.the-row) (LL.makes D.the-type D′.the-plain 𝓤 H A) (d n zs t pn pz pt) _ (whole-is n zs t pn pz pt) $ done !
 
     typed-rows : (zs : List Row) → Is B zs (av zs ∷ []) → Holds (hasTy arrayT (av zs)) × WT (av zs)
@@ -242,41 +252,41 @@ module _ {M : Type 1} (𝓤 : URA M) (H : Heap 𝓤) (A : Atoms 𝓤) (W : Given
     typed-tally t p = LL.lawful Q.the-type Q′.the-laws 𝓤 H A W .typed t _ p .0
 
     module _ (C : Calls 𝓤 H) (Λ : Loops 𝓤 H) (fm : FmC 𝓤 H (W .laws) C) (known : Triple 𝓤 (C #index·question) (Callee 𝓤 H A at-mem run)) where
-      module _ (l₀ l₁ l₂ l₃ l₄ l₅ l₆ l₇ l₈ l₉ l₁₀ l₁₁ l₁₂ l₁₃ : ℕ) where
+      module _ (l₀ l₁ l₂ l₃ l₄ l₅ l₆ l₇ l₈ l₉ l₁₀ l₁₁ l₁₂ l₁₃ l₁₄ : ℕ) where
         abbrev En : Env 𝓤 H
-        En = (D′.mir, l₀) ∷ (bytesT, l₁) ∷ (askedT, l₂) ∷ (U′.mir, l₃) ∷ (arrayT, l₄) ∷ (Q′.mir, l₅) ∷ (arrayT, l₆) ∷ (Q′.mir, l₇) ∷ (N′.mir, l₈) ∷ (arrayT′, l₉) ∷ (rowsT′, l₁₀) ∷ (tallyT′, l₁₁) ∷ (arrayT, l₁₂) ∷ (Q′.mir, l₁₃) ∷ []
+        En = (D′.mir, l₀) ∷ (bytesT, l₁) ∷ (askedT, l₂) ∷ (weightsT, l₃) ∷ (U′.mir, l₄) ∷ (arrayT, l₅) ∷ (Q′.mir, l₆) ∷ (arrayT, l₇) ∷ (Q′.mir, l₈) ∷ (N′.mir, l₉) ∷ (arrayT′, l₁₀) ∷ (rowsT′, l₁₁) ∷ (tallyT′, l₁₂) ∷ (arrayT, l₁₃) ∷ (Q′.mir, l₁₄) ∷ []
 
         -- the parameters' locals with an item for each, and those above them
-        abbrev Params : Item 𝓤 → Item 𝓤 → Item 𝓤 → Item 𝓤 → Item 𝓤 → List (Item 𝓤) → List (Item 𝓤)
-        Params j₁ j₂ j₃ j₄ j₅ Γ = j₅ ∷ ‵ (fdies Q′.mir l₅) ∷ j₄ ∷ ‵ (fdies arrayT l₄) ∷ j₃ ∷ ‵ (fdies U′.mir l₃) ∷ j₂ ∷ ‵ (fdies askedT l₂) ∷ j₁ ∷ ‵ (fdies bytesT l₁) ∷ ‵ (froom D′.mir l₀ 0) ∷ ‵ (fdies D′.mir l₀) ∷ Γ
+        abbrev Params : Item 𝓤 → Item 𝓤 → Item 𝓤 → Item 𝓤 → Item 𝓤 → Item 𝓤 → List (Item 𝓤) → List (Item 𝓤)
+        Params j₁ j₂ j₃ j₄ j₅ j₆ Γ = j₆ ∷ ‵ (fdies Q′.mir l₆) ∷ j₅ ∷ ‵ (fdies arrayT l₅) ∷ j₄ ∷ ‵ (fdies U′.mir l₄) ∷ j₃ ∷ ‵ (fdies weightsT l₃) ∷ j₂ ∷ ‵ (fdies askedT l₂) ∷ j₁ ∷ ‵ (fdies bytesT l₁) ∷ ‵ (froom D′.mir l₀ 0) ∷ ‵ (fdies D′.mir l₀) ∷ Γ
 
         abbrev Passed : List (Item 𝓤) → List (Item 𝓤)
-        Passed = Params (‵ (fat fullShare bytesT l₁ 0 si)) (‵ (fat fullShare askedT l₂ 0 sa)) (‵ (fat fullShare U′.mir l₃ 0 (kv k))) (‵ (fat fullShare arrayT l₄ 0 (av xs))) (‵ (fat fullShare Q′.mir l₅ 0 (yv h)))
+        Passed = Params (‵ (fat fullShare bytesT l₁ 0 si)) (‵ (fat fullShare askedT l₂ 0 sa)) (‵ (fat fullShare weightsT l₃ 0 sw)) (‵ (fat fullShare U′.mir l₄ 0 (kv k))) (‵ (fat fullShare arrayT l₅ 0 (av xs))) (‵ (fat fullShare Q′.mir l₆ 0 (yv h)))
 
         abbrev Above : Item 𝓤 → Item 𝓤 → Item 𝓤 → Item 𝓤 → Item 𝓤 → Item 𝓤 → List (Item 𝓤) → List (Item 𝓤)
-        Above j₁₁ j₁₀ j₉ j₈ j₇ j₆ Γ = ‵ (froom Q′.mir l₁₃ 0) ∷ ‵ (fdies Q′.mir l₁₃) ∷ ‵ (froom arrayT l₁₂ 0) ∷ ‵ (fdies arrayT l₁₂) ∷ j₁₁ ∷ ‵ (fdies tallyT′ l₁₁) ∷ j₁₀ ∷ ‵ (fdies rowsT′ l₁₀) ∷ j₉ ∷ ‵ (fdies arrayT′ l₉) ∷ j₈ ∷ ‵ (fdies N′.mir l₈)
-            ∷ j₇ ∷ ‵ (fdies Q′.mir l₇) ∷ j₆ ∷ ‵ (fdies arrayT l₆) ∷ Γ
+        Above j₁₂ j₁₁ j₁₀ j₉ j₈ j₇ Γ = ‵ (froom Q′.mir l₁₄ 0) ∷ ‵ (fdies Q′.mir l₁₄) ∷ ‵ (froom arrayT l₁₃ 0) ∷ ‵ (fdies arrayT l₁₃) ∷ j₁₂ ∷ ‵ (fdies tallyT′ l₁₂) ∷ j₁₁ ∷ ‵ (fdies rowsT′ l₁₁) ∷ j₁₀ ∷ ‵ (fdies arrayT′ l₁₀) ∷ j₉ ∷ ‵ (fdies N′.mir l₉)
+            ∷ j₈ ∷ ‵ (fdies Q′.mir l₈) ∷ j₇ ∷ ‵ (fdies arrayT l₇) ∷ Γ
 
         abbrev Empty : List (Item 𝓤) → List (Item 𝓤)
-        Empty = Above (‵ (froom tallyT′ l₁₁ 0)) (‵ (froom rowsT′ l₁₀ 0)) (‵ (froom arrayT′ l₉ 0)) (‵ (froom N′.mir l₈ 0)) (‵ (froom Q′.mir l₇ 0)) (‵ (froom arrayT l₆ 0))
+        Empty = Above (‵ (froom tallyT′ l₁₂ 0)) (‵ (froom rowsT′ l₁₁ 0)) (‵ (froom arrayT′ l₁₀ 0)) (‵ (froom N′.mir l₉ 0)) (‵ (froom Q′.mir l₈ 0)) (‵ (froom arrayT l₇ 0))
 
         module _ (n : Answer) (zs : List Row) (t : Tally) (pn : Is N.the-row n (nv n ∷ [])) (pz : Is B zs (av zs ∷ [])) (pt : Is Y t (yv t ∷ [])) (e : Said n zs t) where
           abbrev Back : List (Item 𝓤)
-          Back = ‵ (flft κ₀ q₀) ∷ ‵ (flft κ₁ q₁) ∷ (‵ Index ⊛ ‵ Sought) ∷ Above (‵ (fat fullShare tallyT′ l₁₁ 0 (vptr l₇ 0))) (‵ (fat fullShare rowsT′ l₁₀ 0 (sliceVal (l₆, 0) (length xs)))) (‵ (fat fullShare arrayT′ l₉ 0 (vptr l₆ 0)))
-              (‵ (fat fullShare N′.mir l₈ 0 (nv n))) (‵ (fat fullShare Q′.mir l₇ 0 (yv t))) (‵ (fat fullShare arrayT l₆ 0 (av zs))) (Passed [])
+          Back = ‵ (flft κ₀ q₀) ∷ ‵ (flft κ₁ q₁) ∷ ‵ (flft κ₂ q₂) ∷ (‵ Index ⊛ (‵ Sought ⊛ ‵ Weights)) ∷ Above (‵ (fat fullShare tallyT′ l₁₂ 0 (vptr l₈ 0))) (‵ (fat fullShare rowsT′ l₁₁ 0 (sliceVal (l₇, 0) (length xs)))) (‵ (fat fullShare arrayT′ l₁₀ 0 (vptr l₇ 0)))
+              (‵ (fat fullShare N′.mir l₉ 0 (nv n))) (‵ (fat fullShare Q′.mir l₈ 0 (yv t))) (‵ (fat fullShare arrayT l₇ 0 (av zs))) (Passed [])
 
           -- the result is put together
           finishes : ent 𝓤 (⋆ 𝓤 H A Back) (Wp 𝓤 H C Λ En pieces.t-7 (atReturn 𝓤 H En Post))
           finishes =
               qed W Back ∵ exec ! C Λ En pieces.t-7 (atRet En Post) $
-              assigns ! (of-opd ! (load ! (from ! (stop !)) (look ! 17 refl))) (from ! (stop !)) (init ! 5 refl (typed-rows zs pz)) $
-              assigns ! (of-opd ! (load ! (from ! (stop !)) (look ! 15 refl))) (from ! (stop !)) (init ! 3 refl (typed-tally t pt)) $
-              assigns ! (agg ! (and-then ! (load ! (from ! (stop !)) (look ! 13 refl)) (and-then ! (load ! (from ! (stop !)) (look ! 5 refl)) (and-then ! (load ! (from ! (stop !)) (look ! 3 refl)) (no-more !))))) (from ! (stop !))
-              (init ! 29 refl (subst (λ (v : Val). Holds (hasTy D′.mir v) × WT v) (sym (whole n zs t pn pz pt)) (LL.lawful D.the-type D′.the-laws 𝓤 H A W .typed (d n zs t pn pz pt) _ (whole-is n zs t pn pz pt) .0))) $
-              rewrite ! 29 (λ (v : Val). ‵ (fat fullShare D′.mir l₀ 0 v)) (whole n zs t pn pz pt) refl $
-              returns ! (look ! 29 refl) $ forget ! 3 refl $ forget ! 5 refl $ forget ! 7 refl $ forget ! 9 refl $ forget ! 11 refl $ forget ! 13 refl $ forget ! 15 refl $ forget ! 17 refl $ forget ! 19 refl $ forget ! 21 refl $ forget ! 23 refl $ forget ! 25 refl $ forget ! 27 refl $ forget ! 29 refl $
-              move ! (29 ∷ 30 ∷ []) $ free1 ! $ move ! (27 ∷ 28 ∷ []) $ free1 ! $ move ! (25 ∷ 26 ∷ []) $ free1 ! $ move ! (23 ∷ 24 ∷ []) $ free1 ! $ move ! (21 ∷ 22 ∷ []) $ free1 ! $ move ! (19 ∷ 20 ∷ []) $ free1 ! $ move ! (17 ∷ 18 ∷ []) $ free1 ! $
-              move ! (15 ∷ 16 ∷ []) $ free1 ! $ move ! (13 ∷ 14 ∷ []) $ free1 ! $ move ! (11 ∷ 12 ∷ []) $ free1 ! $ move ! (9 ∷ 10 ∷ []) $ free1 ! $ move ! (7 ∷ 8 ∷ []) $ free1 ! $ move ! (5 ∷ 6 ∷ []) $ free1 ! $ move ! (3 ∷ 4 ∷ []) $ free1 ! $ free0 ! $
+              assigns ! (of-opd ! (load ! (from ! (stop !)) (look ! 18 refl))) (from ! (stop !)) (init ! 6 refl (typed-rows zs pz)) $
+              assigns ! (of-opd ! (load ! (from ! (stop !)) (look ! 16 refl))) (from ! (stop !)) (init ! 4 refl (typed-tally t pt)) $
+              assigns ! (agg ! (and-then ! (load ! (from ! (stop !)) (look ! 14 refl)) (and-then ! (load ! (from ! (stop !)) (look ! 6 refl)) (and-then ! (load ! (from ! (stop !)) (look ! 4 refl)) (no-more !))))) (from ! (stop !))
+              (init ! 32 refl (subst (λ (v : Val). Holds (hasTy D′.mir v) × WT v) (sym (whole n zs t pn pz pt)) (LL.lawful D.the-type D′.the-laws 𝓤 H A W .typed (d n zs t pn pz pt) _ (whole-is n zs t pn pz pt) .0))) $
+              rewrite ! 32 (λ (v : Val). ‵ (fat fullShare D′.mir l₀ 0 v)) (whole n zs t pn pz pt) refl $
+              returns ! (look ! 32 refl) $ forget ! 4 refl $ forget ! 6 refl $ forget ! 8 refl $ forget ! 10 refl $ forget ! 12 refl $ forget ! 14 refl $ forget ! 16 refl $ forget ! 18 refl $ forget ! 20 refl $ forget ! 22 refl $ forget ! 24 refl $ forget ! 26 refl $ forget ! 28 refl $ forget ! 30 refl $ forget ! 32 refl $
+              move ! (32 ∷ 33 ∷ []) $ free1 ! $ move ! (30 ∷ 31 ∷ []) $ free1 ! $ move ! (28 ∷ 29 ∷ []) $ free1 ! $ move ! (26 ∷ 27 ∷ []) $ free1 ! $ move ! (24 ∷ 25 ∷ []) $ free1 ! $ move ! (22 ∷ 23 ∷ []) $ free1 ! $ move ! (20 ∷ 21 ∷ []) $ free1 ! $
+              move ! (18 ∷ 19 ∷ []) $ free1 ! $ move ! (16 ∷ 17 ∷ []) $ free1 ! $ move ! (14 ∷ 15 ∷ []) $ free1 ! $ move ! (12 ∷ 13 ∷ []) $ free1 ! $ move ! (10 ∷ 11 ∷ []) $ free1 ! $ move ! (8 ∷ 9 ∷ []) $ free1 ! $ move ! (6 ∷ 7 ∷ []) $ free1 ! $ move ! (4 ∷ 5 ∷ []) $ free1 ! $ free0 ! $
               by ! (exits n zs t pn pz pt e)
 
         roomy : Room R (length xs)
@@ -290,59 +300,59 @@ module _ {M : Type 1} (𝓤 : URA M) (H : Heap 𝓤) (A : Atoms 𝓤) (W : Given
             assigns ! (of-opd ! (load ! (from ! (stop !)) (look ! 16 refl))) (from ! (stop !)) (init ! 12 refl (typed-tally h ph)) $
             assigns ! (addr ! (from ! (stop !))) (from ! (stop !)) (init ! 8 refl (tt, tt)) $
             assigns ! (agg ! (and-then ! (load ! (from ! (stop !)) (look ! 8 refl)) (and-then ! (lit ! tt) (no-more !)))) (from ! (stop !)) (init ! 6 refl (tt, (tt, (record { fits = lit< tt }, tt)))) $
-            rewrite ! 6 (λ (m : ℕ). ‵ (fat fullShare rowsT′ l₁₀ 0 (sliceVal (l₆, 0) m))) (sym many) refl $
+            rewrite ! 6 (λ (m : ℕ). ‵ (fat fullShare rowsT′ l₁₁ 0 (sliceVal (l₇, 0) m))) (sym many) refl $
             assigns ! (addr ! (from ! (stop !))) (from ! (stop !)) (init ! 4 refl (tt, tt)) $
             -- the loans
-            lft-new ! tt (λ ν. lft-new ! tt (λ μ. move ! (16 ∷ []) $ use1 W (‵ (cells (mem R) xs l₆ 0)) (lies-array R (LL.vals P.the-type P′.the-laws) tt (LL.tells P.the-type P′.the-laws) 𝓤 H A W (LL.makes P.the-type P′.the-plain 𝓤 H A) l₆ 64 xs px) $
-            use1 W (later (some (λ (γ : GName). ‵ (LentRows l₆ l₇ ν μ γ γ) ⊛ ‵ (flent (ν ∷ []) (Held R (length xs) l₆ 0 γ))))) (lends-slice 𝓤 H A W R (named 2) (ν ∷ []) xs l₆ 0 roomy) $ await ! tt $ pick ! (λ γ. split ! $
-            move ! (16 ∷ []) $ use1 W (‵ (mem Y .lies h l₇ 0)) (lies Q.the-type Q′.the-laws Q′.the-plain 𝓤 H A W l₇ h ph) $
-            use1 W (later (some (λ (δ : GName). ‵ (LentTally l₆ l₇ ν μ γ δ) ⊛ ‵ (flent (μ ∷ []) (Body (mem Y) l₇ 0 δ))))) (lends-ref 𝓤 H A W Y (named 3) (μ ∷ []) h l₇ 0) $ await ! tt $ pick ! (λ δ. split ! $
-            -- [tally; its lender's part; rows; their lender's part; tμ; tν; _13; …; dies _7; dies _6; _5; …; Entered]
-            move ! (32 ∷ 2 ∷ 0 ∷ 5 ∷ 4 ∷ []) $ group ! 5 $ use1 W (raw (Callee 𝓤 H A at-mem run .pre (to l₆ l₇ ν μ γ δ)) ⊛ (‵ Index ⊛ ‵ Sought)) (goes l₆ l₇ ν μ γ δ) $ split ! $
-            -- [what `question` takes; the shared slices; the tally's lender's part; the rows'; _13; …]
-            calls-at ! fm (Callee 𝓤 H A at-mem run) known (to l₆ l₇ ν μ γ δ)
-            (and-then ! (load ! (from ! (stop !)) (look ! 26 refl)) (and-then ! (load ! (from ! (stop !)) (look ! 24 refl)) (and-then ! (load ! (from ! (stop !)) (look ! 22 refl)) (and-then ! (load ! (from ! (stop !)) (look ! 10 refl)) (and-then ! (load ! (from ! (stop !)) (look ! 8 refl)) (no-more !)))))) (λ w.
-            use1 W (later (some (λ (n : Answer). ((‵ (flft κ₀ q₀) ⊛ (‵ (flft κ₁ q₁) ⊛ (‵ (flft (ν ∷ []) fullShare) ⊛ (‵ (flft (μ ∷ []) fullShare) ⊛ ‵ ftrue)))) ⊛ ‵ (N.the-row .own n (w ∷ [])))
-            ⊛ raw (ensured 𝓤 H A question.ended (question.clauses 𝓤 H A at-mem run) (lfts l₆ l₇ ν μ γ δ) (args l₆ l₇ ν μ γ δ) tt n)))) (id⊢ 𝓤 _) $ await ! tt $ pick ! (λ n.
-            split ! $ move ! (1 ∷ []) $ use1 W (some (λ (ws : Unit {0} × (Unit {0} × (Unit {0} × (List Row × (Tally × Unit {0}))))). ‵ (lasts question.ended (lfts l₆ l₇ ν μ γ δ) (args l₆ l₇ ν μ γ δ) ws) ⊛ raw (fact 𝓤 (Said n (ws .1 .1 .1 .0) (ws .1 .1 .1 .1 .0))))) (id⊢ 𝓤 _) $ pick ! (λ ws.
-            split ! $ move ! (1 ∷ []) $ heard ! (Said n (ws .1 .1 .1 .0) (ws .1 .1 .1 .1 .0)) (λ e. fsplit ! $ drop ! $ fsplit ! $ drop ! $ fsplit ! $ drop ! $ fsplit ! $ fsplit ! $ move ! (1 ∷ []) $ feqL ! (λ len. move ! (1 ∷ []) $ fsplit ! $
+            lft-new ! tt (λ ν. lft-new ! tt (λ μ. move ! (16 ∷ []) $ use1 W (‵ (cells (mem R) xs l₇ 0)) (lies-array R (LL.vals P.the-type P′.the-laws) tt (LL.tells P.the-type P′.the-laws) 𝓤 H A W (LL.makes P.the-type P′.the-plain 𝓤 H A) l₇ 64 xs px) $
+            use1 W (later (some (λ (γ : GName). ‵ (LentRows l₇ l₈ ν μ γ γ) ⊛ ‵ (flent (ν ∷ []) (Held R (length xs) l₇ 0 γ))))) (lends-slice 𝓤 H A W R (named 3) (ν ∷ []) xs l₇ 0 roomy) $ await ! tt $ pick ! (λ γ. split ! $
+            move ! (16 ∷ []) $ use1 W (‵ (mem Y .lies h l₈ 0)) (lies Q.the-type Q′.the-laws Q′.the-plain 𝓤 H A W l₈ h ph) $
+            use1 W (later (some (λ (δ : GName). ‵ (LentTally l₇ l₈ ν μ γ δ) ⊛ ‵ (flent (μ ∷ []) (Body (mem Y) l₈ 0 δ))))) (lends-ref 𝓤 H A W Y (named 4) (μ ∷ []) h l₈ 0) $ await ! tt $ pick ! (λ δ. split ! $
+            -- [tally; its lender's part; rows; their lender's part; tμ; tν; _14; …; dies _8; dies _7; _6; …; Entered]
+            move ! (34 ∷ 2 ∷ 0 ∷ 5 ∷ 4 ∷ []) $ group ! 5 $ use1 W (raw (Callee 𝓤 H A at-mem run .pre (to l₇ l₈ ν μ γ δ)) ⊛ (‵ Index ⊛ (‵ Sought ⊛ ‵ Weights))) (goes l₇ l₈ ν μ γ δ) $ split ! $
+            -- [what `question` takes; the shared slices; the tally's lender's part; the rows'; _14; …]
+            calls-at ! fm (Callee 𝓤 H A at-mem run) known (to l₇ l₈ ν μ γ δ)
+            (and-then ! (load ! (from ! (stop !)) (look ! 28 refl)) (and-then ! (load ! (from ! (stop !)) (look ! 26 refl)) (and-then ! (load ! (from ! (stop !)) (look ! 24 refl)) (and-then ! (load ! (from ! (stop !)) (look ! 22 refl)) (and-then ! (load ! (from ! (stop !)) (look ! 10 refl)) (and-then ! (load ! (from ! (stop !)) (look ! 8 refl)) (no-more !))))))) (λ w.
+            use1 W (later (some (λ (n : Answer). ((‵ (flft κ₀ q₀) ⊛ (‵ (flft κ₁ q₁) ⊛ (‵ (flft κ₂ q₂) ⊛ (‵ (flft (ν ∷ []) fullShare) ⊛ (‵ (flft (μ ∷ []) fullShare) ⊛ ‵ ftrue))))) ⊛ ‵ (N.the-row .own n (w ∷ [])))
+            ⊛ raw (ensured 𝓤 H A question.ended (question.clauses 𝓤 H A at-mem run) (lfts l₇ l₈ ν μ γ δ) (args l₇ l₈ ν μ γ δ) tt n)))) (id⊢ 𝓤 _) $ await ! tt $ pick ! (λ n.
+            split ! $ move ! (1 ∷ []) $ use1 W (some (λ (ws : Unit {0} × (Unit {0} × (Unit {0} × (Unit {0} × (List Row × (Tally × Unit {0})))))). ‵ (lasts question.ended (lfts l₇ l₈ ν μ γ δ) (args l₇ l₈ ν μ γ δ) ws) ⊛ raw (fact 𝓤 (Said n (ws .1 .1 .1 .1 .0) (ws .1 .1 .1 .1 .1 .0))))) (id⊢ 𝓤 _) $ pick ! (λ ws.
+            split ! $ move ! (1 ∷ []) $ heard ! (Said n (ws .1 .1 .1 .1 .0) (ws .1 .1 .1 .1 .1 .0)) (λ e. fsplit ! $ drop ! $ fsplit ! $ drop ! $ fsplit ! $ drop ! $ fsplit ! $ drop ! $ fsplit ! $ fsplit ! $ move ! (1 ∷ []) $ feqL ! (λ len. move ! (1 ∷ []) $ fsplit ! $
             -- [the tally's last value; true; the rows' last list; the tokens and the answer; …]
-            move ! (3 ∷ []) $ split ! $ split ! $ move ! (1 ∷ []) $ split ! $ move ! (1 ∷ []) $ split ! $ move ! (1 ∷ []) $ split ! $
-            -- [tμ; true; tν; t₁; t₀; the answer; the tally's; true; the rows'; the shared slices; the tally's lender's part; the rows'; _13; …]
-            lft-end ! tt $ move ! (0 ∷ 10 ∷ 6 ∷ []) $ use3 W (later (‵ (mem Y .lies (ws .1 .1 .1 .1 .0) l₇ 0))) (ref-back 𝓤 H A W Y (μ ∷ []) δ (ws .1 .1 .1 .1 .0) l₇ 0) $ await ! tt $
-            -- [the tally lies; true; tν; t₁; t₀; the answer; true; the rows'; the shared slices; the rows' lender's part; _13; …]
-            move ! (2 ∷ []) $ lft-end ! tt $ move ! (0 ∷ 9 ∷ 7 ∷ []) $ use3 W (later (‵ (Arr (mem R) (length xs) .lies (ws .1 .1 .1 .0) l₆ 0))) (slice-back 𝓤 H A W R (ν ∷ []) γ (ws .1 .1 .1 .0) (length xs) l₆ 0) $ await ! tt $
-            rewrite ! 0 (λ (m : ℕ). ‵ (Arr (mem R) m .lies (ws .1 .1 .1 .0) l₆ 0)) many refl $
-            use1 W (given (Is B (ws .1 .1 .1 .0) (av (ws .1 .1 .1 .0) ∷ [])) (‵ (fat fullShare arrayT l₆ 0 (av (ws .1 .1 .1 .0))))) (back-array R (LL.vals P.the-type P′.the-laws) tt (LL.tells P.the-type P′.the-laws) 𝓤 H A W (LL.makes P.the-type P′.the-plain 𝓤 H A) l₆ 64 (ws .1 .1 .1 .0)) $ learn ! (λ pz. move ! (1 ∷ []) $
-            use1 W (given (Is Y (ws .1 .1 .1 .1 .0) (yv (ws .1 .1 .1 .1 .0) ∷ [])) (‵ (fat fullShare Q′.mir l₇ 0 (yv (ws .1 .1 .1 .1 .0))))) (back Q.the-type Q′.the-laws Q′.the-plain 𝓤 H A W l₇ (ws .1 .1 .1 .1 .0)) $ learn ! (λ pt.
-            -- [_7; _6; true; t₁; t₀; the answer; true; the shared slices; _13; …]
-            move ! (5 ∷ []) $ peeks ! N.the-row (Is N.the-row) (shows 𝓤 H A N.the-row) n (w ∷ []) (λ is. drop ! $
-            land ! (from ! (stop !)) (init ! 17 refl (LL.lawful N.the-type N′.the-laws 𝓤 H A W .typed n _ is .0)) $ rewrite ! 17 (λ (v : Val). ‵ (fat fullShare N′.mir l₈ 0 v)) (ap only (LL.tells N.the-type N′.the-laws n _ is)) refl $
-            keep ! (4 ∷ 3 ∷ 6 ∷ 7 ∷ 8 ∷ 9 ∷ 10 ∷ 11 ∷ 12 ∷ 13 ∷ 14 ∷ 15 ∷ 16 ∷ 17 ∷ 18 ∷ 0 ∷ 19 ∷ 1 ∷ 20 ∷ 21 ∷ 22 ∷ 23 ∷ 24 ∷ 25 ∷ 26 ∷ 27 ∷ 28 ∷ 29 ∷ 30 ∷ 31 ∷ 32 ∷ []) $
-            by ! (finishes n (ws .1 .1 .1 .0) (ws .1 .1 .1 .1 .0) (subst (Is N.the-row n) (LL.tells N.the-type N′.the-laws n _ is) is) pz pt e)))))))))))))
+            move ! (3 ∷ []) $ split ! $ split ! $ move ! (1 ∷ []) $ split ! $ move ! (1 ∷ []) $ split ! $ move ! (1 ∷ []) $ split ! $ move ! (1 ∷ []) $ split ! $
+            -- [tμ; true; tν; t₂; t₁; t₀; the answer; the tally's; true; the rows'; the shared slices; the tally's lender's part; the rows'; _14; …]
+            lft-end ! tt $ move ! (0 ∷ 11 ∷ 7 ∷ []) $ use3 W (later (‵ (mem Y .lies (ws .1 .1 .1 .1 .1 .0) l₈ 0))) (ref-back 𝓤 H A W Y (μ ∷ []) δ (ws .1 .1 .1 .1 .1 .0) l₈ 0) $ await ! tt $
+            -- [the tally lies; true; tν; t₂; t₁; t₀; the answer; true; the rows'; the shared slices; the rows' lender's part; _14; …]
+            move ! (2 ∷ []) $ lft-end ! tt $ move ! (0 ∷ 10 ∷ 8 ∷ []) $ use3 W (later (‵ (Arr (mem R) (length xs) .lies (ws .1 .1 .1 .1 .0) l₇ 0))) (slice-back 𝓤 H A W R (ν ∷ []) γ (ws .1 .1 .1 .1 .0) (length xs) l₇ 0) $ await ! tt $
+            rewrite ! 0 (λ (m : ℕ). ‵ (Arr (mem R) m .lies (ws .1 .1 .1 .1 .0) l₇ 0)) many refl $
+            use1 W (given (Is B (ws .1 .1 .1 .1 .0) (av (ws .1 .1 .1 .1 .0) ∷ [])) (‵ (fat fullShare arrayT l₇ 0 (av (ws .1 .1 .1 .1 .0))))) (back-array R (LL.vals P.the-type P′.the-laws) tt (LL.tells P.the-type P′.the-laws) 𝓤 H A W (LL.makes P.the-type P′.the-plain 𝓤 H A) l₇ 64 (ws .1 .1 .1 .1 .0)) $ learn ! (λ pz. move ! (1 ∷ []) $
+            use1 W (given (Is Y (ws .1 .1 .1 .1 .1 .0) (yv (ws .1 .1 .1 .1 .1 .0) ∷ [])) (‵ (fat fullShare Q′.mir l₈ 0 (yv (ws .1 .1 .1 .1 .1 .0))))) (back Q.the-type Q′.the-laws Q′.the-plain 𝓤 H A W l₈ (ws .1 .1 .1 .1 .1 .0)) $ learn ! (λ pt.
+            -- [_8; _7; true; t₂; t₁; t₀; the answer; true; the shared slices; _14; …]
+            move ! (6 ∷ []) $ peeks ! N.the-row (Is N.the-row) (shows 𝓤 H A N.the-row) n (w ∷ []) (λ is. drop ! $
+            land ! (from ! (stop !)) (init ! 18 refl (LL.lawful N.the-type N′.the-laws 𝓤 H A W .typed n _ is .0)) $ rewrite ! 18 (λ (v : Val). ‵ (fat fullShare N′.mir l₉ 0 v)) (ap only (LL.tells N.the-type N′.the-laws n _ is)) refl $
+            keep ! (5 ∷ 4 ∷ 3 ∷ 7 ∷ 8 ∷ 9 ∷ 10 ∷ 11 ∷ 12 ∷ 13 ∷ 14 ∷ 15 ∷ 16 ∷ 17 ∷ 18 ∷ 19 ∷ 0 ∷ 20 ∷ 1 ∷ 21 ∷ 22 ∷ 23 ∷ 24 ∷ 25 ∷ 26 ∷ 27 ∷ 28 ∷ 29 ∷ 30 ∷ 31 ∷ 32 ∷ 33 ∷ 34 ∷ 35 ∷ []) $
+            by ! (finishes n (ws .1 .1 .1 .1 .0) (ws .1 .1 .1 .1 .1 .0) (subst (Is N.the-row n) (LL.tells N.the-type N′.the-laws n _ is) is) pz pt e)))))))))))))
 
-        passes : Sq W (Empty (Params (‵ (froom bytesT l₁ 0)) (‵ (froom askedT l₂ 0)) (‵ (froom U′.mir l₃ 0)) (‵ (froom arrayT l₄ 0)) (‵ (froom Q′.mir l₅ 0)) (raw Entered ∷ []))) (params′ En (si ∷ sa ∷ kv k ∷ av xs ∷ yv h ∷ []) (runs C Λ En (code.function .body) (atRet En Post)))
+        passes : Sq W (Empty (Params (‵ (froom bytesT l₁ 0)) (‵ (froom askedT l₂ 0)) (‵ (froom weightsT l₃ 0)) (‵ (froom U′.mir l₄ 0)) (‵ (froom arrayT l₅ 0)) (‵ (froom Q′.mir l₆ 0)) (raw Entered ∷ []))) (params′ En (si ∷ sa ∷ sw ∷ kv k ∷ av xs ∷ yv h ∷ []) (runs C Λ En (code.function .body) (atRet En Post)))
         passes =
-            params1 ! $ pass1 ! (init ! 24 refl (shr-slice-lawful 𝓤 H A W (named 0) κ₀ u8 .typed xi _ pi .0)) $ pass1 ! (init ! 22 refl (shr-slice-lawful 𝓤 H A W (named 1) κ₁ i16 .typed xa _ pa .0)) $
+            params1 ! $ pass1 ! (init ! 26 refl (shr-slice-lawful 𝓤 H A W (named 0) κ₀ u8 .typed xi _ pi .0)) $ pass1 ! (init ! 24 refl (shr-slice-lawful 𝓤 H A W (named 1) κ₁ i16 .typed xa _ pa .0)) $ pass1 ! (init ! 22 refl (shr-slice-lawful 𝓤 H A W (named 2) κ₂ u16 .typed xw _ pw .0)) $
             pass1 ! (init ! 20 refl (LL.lawful U.the-type U′.the-laws 𝓤 H A W .typed k _ pk .0)) $ pass1 ! (init ! 18 refl (typed-rows xs px)) $ pass1 ! (init ! 16 refl (typed-tally h ph)) $ pass0 ! $ by ! lends
 
-      walk : ent 𝓤 Entered (WpFn 𝓤 H C Λ code.function (si ∷ sa ∷ kv k ∷ av xs ∷ yv h ∷ []) Post)
+      walk : ent 𝓤 Entered (WpFn 𝓤 H C Λ code.function (si ∷ sa ∷ sw ∷ kv k ∷ av xs ∷ yv h ∷ []) Post)
       walk =
-          qed W (raw Entered ∷ []) ∵ enter ! C Λ code.function (si ∷ sa ∷ kv k ∷ av xs ∷ yv h ∷ []) _ $
-          alloc1 ! (λ l₀. alloc1 ! (λ l₁. alloc1 ! (λ l₂. alloc1 ! (λ l₃. alloc1 ! (λ l₄. alloc1 ! (λ l₅. alloc1 ! (λ l₆. alloc1 ! (λ l₇. alloc1 ! (λ l₈. alloc1 ! (λ l₉. alloc1 ! (λ l₁₀. alloc1 ! (λ l₁₁. alloc1 ! (λ l₁₂. alloc1 ! (λ l₁₃. alloc0 ! $
-          passes l₀ l₁ l₂ l₃ l₄ l₅ l₆ l₇ l₈ l₉ l₁₀ l₁₁ l₁₂ l₁₃))))))))))))))
+          qed W (raw Entered ∷ []) ∵ enter ! C Λ code.function (si ∷ sa ∷ sw ∷ kv k ∷ av xs ∷ yv h ∷ []) _ $
+          alloc1 ! (λ l₀. alloc1 ! (λ l₁. alloc1 ! (λ l₂. alloc1 ! (λ l₃. alloc1 ! (λ l₄. alloc1 ! (λ l₅. alloc1 ! (λ l₆. alloc1 ! (λ l₇. alloc1 ! (λ l₈. alloc1 ! (λ l₉. alloc1 ! (λ l₁₀. alloc1 ! (λ l₁₁. alloc1 ! (λ l₁₂. alloc1 ! (λ l₁₃. alloc1 ! (λ l₁₄. alloc0 ! $
+          passes l₀ l₁ l₂ l₃ l₄ l₅ l₆ l₇ l₈ l₉ l₁₀ l₁₁ l₁₂ l₁₃ l₁₄)))))))))))))))
 
 module _ {M : Type 1} (𝓤 : URA M) (H : Heap 𝓤) (A : Atoms 𝓤) (W : Given 𝓤 H A) (at-mem : Memory → SProp 𝓤) (run : Routine → Fun 𝓤) where
   ask-walks : (C : Calls 𝓤 H) (Λ : Loops 𝓤 H) → FmC 𝓤 H (W .laws) C → Triple 𝓤 (C #index·question) (Callee 𝓤 H A at-mem run) → Walks 𝓤 H A ask.ended stayed (WpFn 𝓤 H C Λ code.function) (ask.clauses 𝓤 H A at-mem run)
-  ask-walks C Λ fm known = walked 𝓤 H A ask.ended stayed (ask.clauses 𝓤 H A at-mem run) (WpFn 𝓤 H C Λ code.function) (λ κs. (slice-vals, (slice-vals, (LL.vals U.the-type U′.the-laws, (array-vals (LL.vals P.the-type P′.the-laws), (LL.vals Q.the-type Q′.the-laws, tt))))))
-      (λ κs. (shr-slice-tells (named 0) (κs .0) u8, (shr-slice-tells (named 1) (κs .1 .0) i16, (LL.tells U.the-type U′.the-laws, (array-tells R (LL.vals P.the-type P′.the-laws) (LL.tells P.the-type P′.the-laws) 64, (LL.tells Q.the-type Q′.the-laws, tt))))))
-      (λ κs qs bounds a _ are. via 𝓤 _ (fst∗ 𝓤 _ (emp 𝓤)) (walk 𝓤 H A W at-mem run (κs .0) (κs .1 .0) (qs .0) (qs .1 .0) (a .0) (a .1 .0) (a .1 .1 .0) (a .1 .1 .1 .0) (a .1 .1 .1 .1 .0) (are .0) (are .1 .0) (are .1 .1 .0) (are .1 .1 .1 .0) (are .1 .1 .1 .1 .0) C Λ fm known))
+  ask-walks C Λ fm known = walked 𝓤 H A ask.ended stayed (ask.clauses 𝓤 H A at-mem run) (WpFn 𝓤 H C Λ code.function) (λ κs. (slice-vals, (slice-vals, (slice-vals, (LL.vals U.the-type U′.the-laws, (array-vals (LL.vals P.the-type P′.the-laws), (LL.vals Q.the-type Q′.the-laws, tt)))))))
+      (λ κs. (shr-slice-tells (named 0) (κs .0) u8, (shr-slice-tells (named 1) (κs .1 .0) i16, (shr-slice-tells (named 2) (κs .1 .1 .0) u16, (LL.tells U.the-type U′.the-laws, (array-tells R (LL.vals P.the-type P′.the-laws) (LL.tells P.the-type P′.the-laws) 64, (LL.tells Q.the-type Q′.the-laws, tt)))))))
+      (λ κs qs bounds a _ are. via 𝓤 _ (fst∗ 𝓤 _ (emp 𝓤)) (walk 𝓤 H A W at-mem run (κs .0) (κs .1 .0) (κs .1 .1 .0) (qs .0) (qs .1 .0) (qs .1 .1 .0) (a .0) (a .1 .0) (a .1 .1 .0) (a .1 .1 .1 .0) (a .1 .1 .1 .1 .0) (a .1 .1 .1 .1 .1 .0) (are .0) (are .1 .0) (are .1 .1 .0) (are .1 .1 .1 .0) (are .1 .1 .1 .1 .0) (are .1 .1 .1 .1 .1 .0) C Λ fm known))
 
 ask-meets : {M : Type 1} (𝓤 : URA M) (H : Heap 𝓤) (A : Atoms 𝓤) → Given 𝓤 H A → (at-mem : Memory → SProp 𝓤) (run : Routine → Fun 𝓤) (𝓣 : Tables 𝓤 H) → Triple 𝓤 (𝓣 .C #index·question) (Callee 𝓤 H A at-mem run)
     → Meets 𝓤 H A ask.signature (WpFn 𝓤 H (𝓣 .C) (𝓣 .Λ) code.function) (ask.spec 𝓤 H A at-mem run)
 ask-meets 𝓤 H A W at-mem run 𝓣 known =
     walk-meets 𝓤 H A ask.ended stayed W
-    (goes-none-slice 𝓤 H A W 2 (0 ∷ []) tt (plain (λ _. u8)) yes, (goes-none-slice 𝓤 H A W 2 (1 ∷ []) tt (plain (λ _. i16)) yes, (goes-none 𝓤 H A W 2 (λ _. U.the-row) yes (λ κs x f. refl), (goes-none 𝓤 H A W 2 (λ _. B) yes (λ κs x f. refl), (goes-none 𝓤 H A W 2 (λ _. Y) yes (λ κs x f. refl), tt)))))
+    (goes-none-slice 𝓤 H A W 3 (0 ∷ []) tt (plain (λ _. u8)) yes, (goes-none-slice 𝓤 H A W 3 (1 ∷ []) tt (plain (λ _. i16)) yes, (goes-none-slice 𝓤 H A W 3 (2 ∷ []) tt (plain (λ _. u16)) yes, (goes-none 𝓤 H A W 3 (λ _. U.the-row) yes (λ κs x f. refl), (goes-none 𝓤 H A W 3 (λ _. B) yes (λ κs x f. refl), (goes-none 𝓤 H A W 3 (λ _. Y) yes (λ κs x f. refl), tt))))))
     (ask.clauses 𝓤 H A at-mem run) (WpFn 𝓤 H (𝓣 .C) (𝓣 .Λ) code.function) (WpFn-mono 𝓤 H (W .laws) 𝓣 code.function) (ask-walks 𝓤 H A W at-mem run (𝓣 .C) (𝓣 .Λ) (fmOf 𝓤 H (W .laws) 𝓣) known)
 
 pub ask-spec : {M : Type 1} → stated.statement M

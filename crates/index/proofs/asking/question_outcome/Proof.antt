@@ -18,7 +18,7 @@ refused-requires c κs = search needs
 
 returns : tie.Need-returns
 returns c =
-    let a = c .before .before .before .before .before .before .args in let b = now (a .index) in let w = questionOf (now (a .point)) (a .what) in let taken = c .before .if1 .taken in
+    let a = c .before .before .before .before .before .before .before .args in let b = now (a .index) in let w = questionOf (now (a .point)) (now (a .weights)) (a .what) in let taken = c .before .if1 .taken in
     asked-refused (questionRules b w (a .lent)) (Answers b w) b w _ _ _ _ (question-unsound b _ (c .before .before .refuse-index .ensures) taken w (a .lent)) taken (c .refused .ensures)
 
 question-outcome-requires : tie.Need-question-outcome-requires
@@ -32,8 +32,8 @@ same-length-2 c = search needs
 
 returns-2 : tie.Need-returns-2
 returns-2 c =
-    let a = c .before .before .before .before .before .before .before .before .before .before .before .before .args in let b = now (a .index) in
-    asked-same b (checked-sound b _ (c .before .before .before .before .before .before .before .before .refuse-index .ensures) (c .before .before .before .before .before .before .before .if1 .left)) (questionOf (now (a .point)) (a .what)) (a .lent) _ _ _ (c .before .before .before .before .question-outcome .ensures)
+    let a = c .before .before .before .before .before .before .before .before .before .before .before .before .before .args in let b = now (a .index) in
+    asked-same b (checked-sound b _ (c .before .before .before .before .before .before .before .before .refuse-index .ensures) (c .before .before .before .before .before .before .before .if1 .left)) (questionOf (now (a .point)) (now (a .weights)) (a .what)) (a .lent) _ _ _ (c .before .before .before .before .question-outcome .ensures)
 
 pub question-outcome-spec : {M : Type 1} → statement M
 question-outcome-spec =

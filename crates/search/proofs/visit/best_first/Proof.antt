@@ -11,10 +11,10 @@ use Rattle.search.proofs.visit.best_first.Statement.{statement}
 use Rattle.search.proofs.visit.best_first.Tie as tie
 
 abbrev Inv-loop : tie.InvT-loop
-Inv-loop index asked near whole k choice slots₀ highs₀ lows₀ n₀ rows₀ leaves₀ steps₀ slots highs lows n rows leaves steps = Visiting index asked near whole k choice slots₀ highs₀ lows₀ slots highs lows n rows leaves steps
+Inv-loop index asked near whole unweighted k choice slots₀ highs₀ lows₀ n₀ rows₀ leaves₀ steps₀ slots highs lows n rows leaves steps = Visiting index asked near whole k choice slots₀ highs₀ lows₀ slots highs lows n rows leaves steps
 
 abbrev μ-loop : tie.MeasureT-loop
-μ-loop index asked near whole k choice slots₀ highs₀ lows₀ n₀ rows₀ leaves₀ steps₀ slots highs lows n rows leaves steps = steps
+μ-loop index asked near whole unweighted k choice slots₀ highs₀ lows₀ n₀ rows₀ leaves₀ steps₀ slots highs lows n rows leaves steps = steps
 
 root-key-requires : tie.Need-root-key-requires Inv-loop μ-loop
 root-key-requires c κs = c .before .before .before .before .before .before .before .pre .low
@@ -29,7 +29,7 @@ mul-steps : tie.Need-mul-steps Inv-loop μ-loop
 mul-steps c = let e = c .page-count .ensures in let f = pages-few (now (c .before .before .before .before .before .before .before .before .before .args .index)) in omega arith
 
 loop-holds : tie.Need-loop-holds Inv-loop μ-loop
-loop-holds c = visiting-start _ _ _ _ _ _ _ _ _ _ _ (c .before .before .before .before .before .before .before .before .before .pre) (c .before .root-key .ensures) (c .page-count .ensures)
+loop-holds c = visiting-start _ _ _ _ _ _ _ _ _ _ _ _ (c .before .before .before .before .before .before .before .before .before .pre) (c .before .root-key .ensures) (c .page-count .ensures)
 
 goes-on-requires : tie.Need-goes-on-requires Inv-loop μ-loop
 goes-on-requires c κs = visiting-turns _ _ _ _ _ _ _ _ _ _ _ _ _ _ _ _ (c .before .before .loop .inv)
@@ -53,7 +53,7 @@ place-in-requires : tie.Need-place-in-requires Inv-loop μ-loop
 place-in-requires c κs = search needs
 
 visit-leaf-requires : tie.Need-visit-leaf-requires Inv-loop μ-loop
-visit-leaf-requires c κs = let v = c .before .before .before .before .before .before .before .before .before .before .before .before .before .before .loop .inv in (v .tables .seekable, omega (arith, c .before .before .before .place-in .ensures), v .holds)
+visit-leaf-requires c κs = let v = c .before .before .before .before .before .before .before .before .before .before .before .before .before .before .loop .inv in (v .tables .seekable, c .before .before .before .before .before .before .before .before .before .before .before .before .before .before .before .before .before .before .before .before .before .before .before .before .pre .flag, omega (arith, c .before .before .before .place-in .ensures), v .holds)
 
 add-leaves : tie.Need-add-leaves Inv-loop μ-loop
 add-leaves c = let f = c .before .before .before .before .before .before .before .before .before .before .before .before .before .before .before .before .before .before .before .loop .inv .few in omega arith
@@ -64,7 +64,7 @@ loop-less c = let g = ((c .before .before .before .before .before .before .befor
 loop-again : tie.Need-loop-again Inv-loop μ-loop
 loop-again c = let P = c .before .before .before .before .before .before .before .before .before .before .before .before .before .pop in let W = c .before .before .before .before .visit-leaf in
     visiting-leaf _ _ _ _ _ _ _ _ _ _ _ _ _ _ _ _ (c .before .before .before .before .before .before .before .before .before .before .before .before .before .before .before .before .before .before .before .loop .inv) ((c .before .before .before .before .before .before .before .before .before .before .before .before .before .before .before .before .goes-on .ensures) .goes (c .before .before .before .before .before .before .before .before .before .before .before .before .before .before .before .if1 .taken)) _ _ (P .ensures) (P .kept .0)
-    _ _ _ _ _ _ (c .before .before .before .before .before .before .before .before .before .before .level-in .ensures) (c .before .before .before .before .before .before .before .before .place-in .ensures) (c .before .before .before .before .before .before .before .before .before .page-in .ensures) (c .before .before .before .before .before .before .before .if2 .taken) (W .ensures) (W .kept .1 .1 .1 .1 .0) (W .kept .1 .1 .1 .1 .1 .0)
+    _ _ _ _ _ _ (c .before .before .before .before .before .before .before .before .before .before .level-in .ensures) (c .before .before .before .before .before .before .before .before .place-in .ensures) (c .before .before .before .before .before .before .before .before .before .page-in .ensures) (c .before .before .before .before .before .before .before .if2 .taken) (W .ensures) (W .kept .1 .1 .1 .1 .1 .0) (W .kept .1 .1 .1 .1 .1 .1 .0)
 
 sub-open-page : tie.Need-sub-open-page Inv-loop μ-loop
 sub-open-page c = omega (arith, c .before .if2 .left)

@@ -1,17 +1,18 @@
 -- `columns::add_column` meets its contract: the sums below r have the column, those from r on do not yet.
 use mathlib.Core.Path.{_≡_, refl}
 use Prim.Native.Nat.{_+_, _-_, _≤_, _<_}
+use native.Mathlib.Nat.{le-refl}
 use native.Mathlib.Omega.{arith}
 use lib.ListN.{length, getD, length-set}
 use denote.Ref.{now}
 use borrow.Author.Needs.{needs}
-use Rattle.search_leaves.specs.Columns.{costFrom, Sized}
-use Rattle.search_leaves.proofs.ColumnLaws.{Adding, asked-low, cost-more, column-start, adding-next, column-end, adding-fits}
+use Rattle.search_leaves.specs.Columns.{costFrom, mostCost, Sized}
+use Rattle.search_leaves.proofs.ColumnLaws.{AddingColumn, asked-low, cost-more, column-start, column-next, column-end}
 use Rattle.search_leaves.proofs.columns.add_column.Statement.{statement}
 use Rattle.search_leaves.proofs.columns.add_column.Tie as tie
 
 abbrev Inv-loop : tie.InvT-loop
-Inv-loop page q m n sums₀ x r₀ sums r = Sized page q n × (m < length q) × (x ≡ getD q m 0) × (r ≤ n) × (length sums ≡ length sums₀) × Adding (costFrom page q m) (costFrom page q (m + 1)) (costFrom page q 0) m (m + 1) n r sums
+Inv-loop page q m n sums₀ x r₀ sums r = Sized page q n × (m < length q) × (x ≡ getD q m 0) × (r ≤ n) × (length sums ≡ length sums₀) × AddingColumn (costFrom page q) mostCost page q m n r sums
 
 abbrev μ-loop : tie.MeasureT-loop
 μ-loop page q m n sums₀ x r₀ sums r = n - r
@@ -23,7 +24,7 @@ shared-slice-read-x : tie.Need-shared-slice-read-x Inv-loop μ-loop
 shared-slice-read-x c = search needs
 
 loop-holds : tie.Need-loop-holds Inv-loop μ-loop
-loop-holds c = let P = c .before .before .before .before .pre in (P .0 .sized, P .1, refl, omega arith, refl, column-start _ _ _ _ _ (P .0))
+loop-holds c = let P = c .before .before .before .before .pre in (P .0 .sized, P .1, refl, omega arith, refl, column-start _ _ _ _ _ _ _ (P .0))
 
 cost-at-requires : tie.Need-cost-at-requires Inv-loop μ-loop
 cost-at-requires c κs =
@@ -41,7 +42,7 @@ add-sums : tie.Need-add-sums Inv-loop μ-loop
 add-sums c =
     let L = c .before .before .before .loop in let a = c .before .before .before .before .before .before .before .before .args in
     let m : a .m ≤ 16 = omega (arith, L .inv .0 .most, L .inv .1) in
-    let w = adding-fits (costFrom (now (a .page)) (now (a .q)) (a .m)) (costFrom (now (a .page)) (now (a .q)) (a .m + 1)) (costFrom (now (a .page)) (now (a .q)) 0) (a .m) (a .m + 1) (a .n) (L .r) (L .sums) (L .inv .5) (c .before .before .loop-test .taken) m in
+    let w = L .inv .5 .todo (L .r) (le-refl (L .r)) (c .before .before .loop-test .taken) .1 in
     omega (arith, w, c .before .cost-at .ensures .1)
 
 slice-write-sums : tie.Need-slice-write-sums Inv-loop μ-loop
@@ -63,7 +64,7 @@ loop-again c =
       refl,
       omega (arith, t),
       simp length-set (L .inv .4),
-      adding-next (costFrom (now (a .page)) (now (a .q)) (a .m)) (costFrom (now (a .page)) (now (a .q)) (a .m + 1)) (costFrom (now (a .page)) (now (a .q)) 0) (a .m) (a .m + 1) (a .n) (L .r) (C .result) (L .sums) t (s .few) e (omega (arith, C .ensures .1)) (L .inv .5),
+      column-next (costFrom (now (a .page)) (now (a .q))) mostCost (now (a .page)) (now (a .q)) (a .m) (a .n) (L .r) (C .result) (L .sums) t (s .few) e (C .ensures .1) (L .inv .5),
     )
 
 same-length : tie.Need-same-length Inv-loop μ-loop
@@ -71,7 +72,7 @@ same-length c = c .before .loop .inv .4
 
 returns : tie.Need-returns Inv-loop μ-loop
 returns c =
-    let L = c .before .loop in column-end _ _ _ _ (L .r) (L .sums) (c .loop-test .left) (L .inv .0) (L .inv .1) (L .inv .5)
+    let L = c .before .loop in column-end _ _ _ _ _ _ (L .r) (L .sums) (c .loop-test .left) (L .inv .0) (L .inv .1) (L .inv .5)
 
 pub add-column-spec : {M : Type 1} → statement M
 add-column-spec =

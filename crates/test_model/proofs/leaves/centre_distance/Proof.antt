@@ -5,13 +5,19 @@ use Rattle.test_model.proofs.leaves.centre_distance.Statement.{statemen
 use Rattle.test_model.proofs.leaves.centre_distance.Tie as tie
 
 abbrev Inv-loop : tie.InvT-loop
-Inv-loop q sum₀ m₀ sum m = (m ≤ length q) × (sum ≤ 4294967296 * m)
+Inv-loop q weights sum₀ m₀ sum m = (m ≤ length q) × (sum ≤ 281474976710656 * m)
 
 abbrev μ-loop : tie.MeasureT-loop
-μ-loop q sum₀ m₀ sum m = length q - m
+μ-loop q weights sum₀ m₀ sum m = length q - m
 
 loop-holds : tie.Need-loop-holds Inv-loop μ-loop
 loop-holds c = search needs
+
+mul-weighed : tie.Need-mul-weighed Inv-loop μ-loop
+mul-weighed c = search needs
+
+shared-slice-read-weighed : tie.Need-shared-slice-read-weighed Inv-loop μ-loop
+shared-slice-read-weighed c = search needs
 
 mul-beyond : tie.Need-mul-beyond Inv-loop μ-loop
 mul-beyond c = search needs
@@ -22,8 +28,8 @@ shared-slice-read-beyond c = search needs
 beyond-requires : tie.Need-beyond-requires Inv-loop μ-loop
 beyond-requires c κs = search needs
 
-square-requires : tie.Need-square-requires Inv-loop μ-loop
-square-requires c κs = search needs
+weighed-requires : tie.Need-weighed-requires Inv-loop μ-loop
+weighed-requires c κs = search needs
 
 add-sum : tie.Need-add-sum Inv-loop μ-loop
 add-sum c = search needs
@@ -47,10 +53,12 @@ centre-distance-spec =
     Inv-loop
     μ-loop
     loop-holds
+    mul-weighed
+    shared-slice-read-weighed
     mul-beyond
     shared-slice-read-beyond
     beyond-requires
-    square-requires
+    weighed-requires
     add-sum
     add-m
     loop-less

@@ -6,10 +6,10 @@ use Rattle.test_model.proofs.leaves.fill_table.Statement.{statement}
 use Rattle.test_model.proofs.leaves.fill_table.Tie as tie
 
 abbrev Inv-loop : tie.InvT-loop
-Inv-loop table₀ q i₀ table i = (i ≤ length table₀) × (length table ≡ length table₀)
+Inv-loop table₀ q weights i₀ table i = (i ≤ length table₀) × (length table ≡ length table₀)
 
 abbrev μ-loop : tie.MeasureT-loop
-μ-loop table₀ q i₀ table i = length table₀ - i
+μ-loop table₀ q weights i₀ table i = length table₀ - i
 
 loop-holds : tie.Need-loop-holds Inv-loop μ-loop
 loop-holds c = search needs

@@ -5,13 +5,19 @@ use Rattle.test_model.proofs.leaves.slice_distance.Statement.{statement
 use Rattle.test_model.proofs.leaves.slice_distance.Tie as tie
 
 abbrev Inv-loop : tie.InvT-loop
-Inv-loop q axis below h sum₀ m₀ sum m = (m ≤ length q) × (sum ≤ 4294967296 * m)
+Inv-loop q weights axis below h sum₀ m₀ sum m = (m ≤ length q) × (sum ≤ 281474976710656 * m)
 
 abbrev μ-loop : tie.MeasureT-loop
-μ-loop q axis below h sum₀ m₀ sum m = length q - m
+μ-loop q weights axis below h sum₀ m₀ sum m = length q - m
 
 loop-holds : tie.Need-loop-holds Inv-loop μ-loop
 loop-holds c = search needs
+
+mul-weighed : tie.Need-mul-weighed Inv-loop μ-loop
+mul-weighed c = search needs
+
+shared-slice-read-weighed : tie.Need-shared-slice-read-weighed Inv-loop μ-loop
+shared-slice-read-weighed c = search needs
 
 mul-least-gap : tie.Need-mul-least-gap Inv-loop μ-loop
 mul-least-gap c = search needs
@@ -22,8 +28,8 @@ shared-slice-read-least-gap c = search needs
 least-gap-requires : tie.Need-least-gap-requires Inv-loop μ-loop
 least-gap-requires c κs = search needs
 
-square-requires : tie.Need-square-requires Inv-loop μ-loop
-square-requires c κs = search needs
+weighed-requires : tie.Need-weighed-requires Inv-loop μ-loop
+weighed-requires c κs = search needs
 
 add-sum : tie.Need-add-sum Inv-loop μ-loop
 add-sum c = search needs
@@ -47,10 +53,12 @@ slice-distance-spec =
     Inv-loop
     μ-loop
     loop-holds
+    mul-weighed
+    shared-slice-read-weighed
     mul-least-gap
     shared-slice-read-least-gap
     least-gap-requires
-    square-requires
+    weighed-requires
     add-sum
     add-m
     loop-less

@@ -5,13 +5,19 @@ use Rattle.test_model.proofs.scan.distance.Statement.{statement}
 use Rattle.test_model.proofs.scan.distance.Tie as tie
 
 abbrev Inv-loop : tie.InvT-loop
-Inv-loop places at q sum₀ m₀ sum m = (m ≤ length q) × (sum ≤ 4294967296 * m)
+Inv-loop places at q weights sum₀ m₀ sum m = (m ≤ length q) × (sum ≤ 281474976710656 * m)
 
 abbrev μ-loop : tie.MeasureT-loop
-μ-loop places at q sum₀ m₀ sum m = length q - m
+μ-loop places at q weights sum₀ m₀ sum m = length q - m
 
 loop-holds : tie.Need-loop-holds Inv-loop μ-loop
 loop-holds c = search needs
+
+mul-weighed : tie.Need-mul-weighed Inv-loop μ-loop
+mul-weighed c = search needs
+
+shared-slice-read-weighed : tie.Need-shared-slice-read-weighed Inv-loop μ-loop
+shared-slice-read-weighed c = search needs
 
 add-gap : tie.Need-add-gap Inv-loop μ-loop
 add-gap c = search needs
@@ -31,8 +37,8 @@ shared-slice-read-gap-2 c = search needs
 gap-requires : tie.Need-gap-requires Inv-loop μ-loop
 gap-requires c κs = search needs
 
-square-requires : tie.Need-square-requires Inv-loop μ-loop
-square-requires c κs = search needs
+weighed-requires : tie.Need-weighed-requires Inv-loop μ-loop
+weighed-requires c κs = search needs
 
 add-sum : tie.Need-add-sum Inv-loop μ-loop
 add-sum c = search needs
@@ -56,13 +62,15 @@ distance-spec =
     Inv-loop
     μ-loop
     loop-holds
+    mul-weighed
+    shared-slice-read-weighed
     add-gap
     mul-gap
     shared-slice-read-gap
     mul-gap-2
     shared-slice-read-gap-2
     gap-requires
-    square-requires
+    weighed-requires
     add-sum
     add-m
     loop-less

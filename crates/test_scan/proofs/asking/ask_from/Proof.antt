@@ -4,11 +4,14 @@ use borrow.Author.Needs.{needs}
 use Rattle.test_scan.proofs.asking.ask_from.Statement.{statement}
 use Rattle.test_scan.proofs.asking.ask_from.Tie as tie
 
+slice-aggregate-own : tie.Need-slice-aggregate-own
+slice-aggregate-own c = simp length-take (omega arith)
+
 slice-aggregate-prepare : tie.Need-slice-aggregate-prepare
 slice-aggregate-prepare c = simp length-take (omega arith)
 
 prepare-requires : tie.Need-prepare-requires
-prepare-requires c κs = (simp length-take (omega arith), search needs, search needs)
+prepare-requires c κs = ((simp length-take (omega arith), simp length-take (omega arith)), search needs, search needs)
 
 slice-aggregate-ask : tie.Need-slice-aggregate-ask
 slice-aggregate-ask c = search needs
@@ -26,7 +29,7 @@ slice-aggregate-compare-2 : tie.Need-slice-aggregate-compare-2
 slice-aggregate-compare-2 c = search needs
 
 compare-requires : tie.Need-compare-requires
-compare-requires c κs = search needs
+compare-requires c κs = (search needs, search needs, search needs, search needs, search needs)
 
 same-length : tie.Need-same-length
 same-length c = search needs
@@ -41,6 +44,7 @@ pub ask-from-spec : {M : Type 1} → statement M
 ask-from-spec =
     tie.close
     (tie.spec
+    slice-aggregate-own
     slice-aggregate-prepare
     prepare-requires
     slice-aggregate-ask

@@ -1,4 +1,4 @@
--- `epoch_index::epoch_index_question` meets its contract: the walk of a question for C, with `index::question` as the callee. Assumes nothing.
+-- `epoch_index::epoch_index_weighted_question` meets its contract: the walk of a question for C, with `index::question` as the callee. Assumes nothing.
 use contract.Running.{givenOf, tables, tablesOf}
 use denote.Triple.Spec.{tripleOf}
 use denote.Triple.Table.{entered, cited}
@@ -8,15 +8,15 @@ use Rattle.index.proofs.question.Symbol as callee-def
 use Rattle.index.proofs.question.Symbol.{name as #callee}
 use Rattle.index.proofs.question.Met as callee-thm
 use Rattle.epoch_index.proofs.PassingWalk.{question-meets}
-use Rattle.epoch_index.proofs.epoch_index_question.Key.{name as #epoch-index·epoch-index-question}
-use Rattle.epoch_index.proofs.epoch_index_question as f
-use Rattle.epoch_index.proofs.epoch_index_question.Statement as stated
-use Rattle.epoch_index.proofs.epoch_index_question.Code as code
+use Rattle.epoch_index.proofs.epoch_index_weighted_question.Key.{name as #epoch-index·epoch-index-weighted-question}
+use Rattle.epoch_index.proofs.epoch_index_weighted_question as f
+use Rattle.epoch_index.proofs.epoch_index_weighted_question.Statement as stated
+use Rattle.epoch_index.proofs.epoch_index_weighted_question.Code as code
 
-pub epoch-index-question-spec : {M : Type 1} → stated.statement M
+pub epoch-index-weighted-question-spec : {M : Type 1} → stated.statement M
 unfolding code.routine tablesOf
-epoch-index-question-spec 𝓤 H 𝓜 𝓖 𝓡 =
+epoch-index-weighted-question-spec 𝓤 H 𝓜 𝓖 𝓡 =
     entered 𝓤 H (tripleOf 𝓤 H (𝓖 .A) f.signature (f.spec 𝓤 H (𝓖 .A) (𝓜 .mem) (𝓡 .run)))
-    (tables 𝓤 H 𝓜 𝓡 code.env .C) (tables 𝓤 H 𝓜 𝓡 code.env .Λ) #epoch-index·epoch-index-question code.function (code.unfolded 𝓤 H 𝓜 𝓡)
+    (tables 𝓤 H 𝓜 𝓡 code.env .C) (tables 𝓤 H 𝓜 𝓡 code.env .Λ) #epoch-index·epoch-index-weighted-question code.function (code.unfolded 𝓤 H 𝓜 𝓡)
     (question-meets #callee Questioned 𝓤 H (𝓖 .A) (givenOf 𝓤 H 𝓜 𝓖) (𝓜 .mem) (𝓡 .run) (tablesOf 𝓤 H 𝓜 (tables 𝓤 H 𝓜 𝓡 code.env))
     (cited 𝓤 H (tripleOf 𝓤 H (𝓖 .A) callee.signature (callee.spec 𝓤 H (𝓖 .A) (𝓜 .mem) (𝓡 .run))) 𝓜 𝓡 code.env #callee callee-def.routine code.calls-index·question (callee-thm.met 𝓤 H 𝓜 𝓖 𝓡)))
