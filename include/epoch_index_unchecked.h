@@ -38,24 +38,22 @@ uint32_t epoch_index_trusted_insert(uint8_t *index, size_t index_len, uint32_t i
 uint32_t epoch_index_trusted_delete(uint8_t *index, size_t index_len, uint32_t id);
 
 /* The question without the check as the library exports it: epoch_index_trusted_question is to it what epoch_index_question is to
- * epoch_index_weighted_question. */
-epoch_index_answer epoch_index_trusted_weighted_question(const uint8_t *index, size_t index_len, const int16_t *point, size_t point_len,
-                                                         bool weighted, const uint16_t *weights, size_t weights_len, size_t k,
-                                                         uint8_t stages, epoch_index_row *rows, size_t rows_len,
-                                                         epoch_index_tally *tally);
+ * epoch_index_ask. */
+epoch_index_answer epoch_index_trusted_ask(const uint8_t *index, size_t index_len, const int16_t *point, size_t point_len,
+                                           const uint16_t *weights, size_t weights_len, epoch_index_criteria what, epoch_index_row *rows,
+                                           size_t rows_len, epoch_index_tally *tally);
 
 /* Refusals: EPOCH_INDEX_BAD_LENGTH, EPOCH_INDEX_UNSOUND, EPOCH_INDEX_BAD_FEATURES, EPOCH_INDEX_BAD_COORDINATE, EPOCH_INDEX_BAD_WEIGHT,
- * EPOCH_INDEX_BAD_K, EPOCH_INDEX_FEW_ROWS, EPOCH_INDEX_BAD_STAGE_SET. */
+ * EPOCH_INDEX_BAD_K, EPOCH_INDEX_FEW_ROWS, EPOCH_INDEX_BAD_STAGE_SET, EPOCH_INDEX_BAD_DATE, EPOCH_INDEX_DATES_REVERSED. */
 static inline epoch_index_answer epoch_index_trusted_question(const uint8_t *index, size_t index_len, const int16_t *point,
                                                               size_t point_len, const uint16_t *weights, size_t weights_len, size_t k,
-                                                              uint8_t stages, epoch_index_row *rows, size_t rows_len,
-                                                              epoch_index_tally *tally)
+                                                              uint8_t stages, const epoch_index_dates *dates, epoch_index_row *rows,
+                                                              size_t rows_len, epoch_index_tally *tally)
 {
     const uint16_t none = 0;
-    if (weights == NULL)
-        return epoch_index_trusted_weighted_question(index, index_len, point, point_len, false, &none, 0, k, stages, rows, rows_len, tally);
-    return epoch_index_trusted_weighted_question(index, index_len, point, point_len, true, weights, weights_len, k, stages, rows, rows_len,
-                                                 tally);
+    return epoch_index_trusted_ask(index, index_len, point, point_len, weights != NULL ? weights : &none,
+                                   weights != NULL ? weights_len : 0, epoch_index_criteria_of(k, stages, weights, dates), rows, rows_len,
+                                   tally);
 }
 
 /*

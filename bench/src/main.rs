@@ -11,7 +11,7 @@ mod time;
 mod weights;
 
 use data::{Kind, Source};
-use epoch_index::{Index, Row, SoundIndex, StageSet, Tally, PAGE_BYTES};
+use epoch_index::{Dates, Index, Row, SoundIndex, StageSet, Tally, PAGE_BYTES};
 use index::{fill, filled, Keeps, Map};
 use scan::Scan;
 use std::env;
@@ -60,11 +60,11 @@ impl Case {
         self.questions.len() / self.d
     }
 
-    /// The search by itself for every question, among some stages; the leaves read.
-    fn search_all(&self, sound: &SoundIndex<&[u8]>, k: usize, stages: StageSet) -> u64 {
+    /// The search by itself for every question, among some stages and days; the leaves read.
+    fn search_all(&self, sound: &SoundIndex<&[u8]>, k: usize, stages: StageSet, dates: Option<Dates>) -> u64 {
         let (mut rows, mut tally) = ([Row::default(); 64], Tally::default());
         for q in self.questions.chunks(self.d) {
-            black_box(sound.question_into(q, None, k, stages, &mut rows, &mut tally).unwrap());
+            black_box(sound.question_into(q, None, k, stages, dates, &mut rows, &mut tally).unwrap());
         }
         black_box(rows);
         u64::from(tally.leaves)
@@ -75,7 +75,7 @@ impl Case {
         let index = Index::new(&self.bytes[..]);
         let mut rows = [Row::default(); 64];
         for q in self.questions.chunks(self.d).take(some) {
-            black_box(index.question_into(q, None, k, StageSet::ALL, &mut rows, &mut Tally::default()).unwrap());
+            black_box(index.question_into(q, None, k, StageSet::ALL, None, &mut rows, &mut Tally::default()).unwrap());
         }
         black_box(rows);
     }
@@ -121,7 +121,7 @@ impl Case {
         let sound = SoundIndex::open(&self.bytes[..]).unwrap();
         let mut kept = Vec::new();
         for q in self.questions.chunks(self.d) {
-            let found = sound.question(q, None, k, StageSet::ALL, &mut Tally::default()).unwrap();
+            let found = sound.question(q, None, k, StageSet::ALL, None, &mut Tally::default()).unwrap();
             self.scan.ask(q, k, &mut kept);
             assert!(found.rows.iter().map(|r| (r.distance as u32, r.id)).eq(kept.iter().copied()));
         }
@@ -137,7 +137,7 @@ impl Case {
             &mut [
                 &mut || self.scan_all(k),
                 &mut || {
-                    self.search_all(&sound, k, StageSet::ALL);
+                    self.search_all(&sound, k, StageSet::ALL, None);
                 },
                 &mut || self.act_some(k, 5),
                 &mut || {
@@ -149,7 +149,7 @@ impl Case {
             ],
         );
         let (scan, asked) = (times[0], self.asked() as f64);
-        let read = self.search_all(&sound, k, StageSet::ALL) as f64 / asked;
+        let read = self.search_all(&sound, k, StageSet::ALL, None) as f64 / asked;
         let leaves = leaf_total(&self.bytes);
         let mut line = format!("| {} | {} | {} | {k} | {leaves} | {read:.1} ", self.kind.name(), self.d, self.n);
         let wide = if wide { times[3] } else { f64::NAN };
@@ -209,7 +209,7 @@ impl Times {
                 &mut || touch(&case.bytes),
                 &mut || Index::new(&case.bytes[..]).check().unwrap(),
                 &mut || {
-                    case.search_all(&sound, 10, StageSet::ALL);
+                    case.search_all(&sound, 10, StageSet::ALL, None);
                 },
                 &mut || case.scan_all(10),
             ],
@@ -317,9 +317,12 @@ fn report(lines: &[String]) {
     println!("| what | d | n | both signs / positive | timed again | negative / positive |");
     println!("|---|---|---|---|---|---|");
     of_table(lines, '4').for_each(|line| println!("{line}"));
-    println!("\n## Questions of one stage of six, as multiples of the linear scan of all points, k = 10\n");
-    println!("| points | d | n | leaves read, all stages | leaves read, one | search, all stages | search, one | scan of its points |");
-    println!("|---|---|---|---|---|---|---|---|");
+    println!(
+        "\n## Questions of one stage of six, or of the day that its epochs are of, as multiples of the linear scan of all points, k = 10\n"
+    );
+    print!("| points | d | n | leaves read, all stages | leaves read, one | search, all stages | search, one | search, its day ");
+    println!("| scan of its points |");
+    println!("|---|---|---|---|---|---|---|---|---|");
     of_table(lines, '5').for_each(|line| println!("{line}"));
     println!("\n## Questions with weights, as multiples of the linear scan by the same weights, k = 10\n");
     print!("| points | d | n | weights | leaves read, none | leaves read | search | scan, AVX2 | scan, none | search / search, none ");

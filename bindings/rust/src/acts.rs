@@ -1,6 +1,6 @@
 //! The calls: slices in, results out. The only `unsafe` code of the crate.
 use crate::sys;
-use crate::{Counts, Epoch, Fault, Refusal, Row, StageSet, Tally};
+use crate::{Counts, Dates, Epoch, Fault, Refusal, Row, StageSet, Tally};
 
 pub fn make(index: &mut [u8], features: u8) -> Result<(), Refusal> {
     // SAFETY: pointer and length are those of one slice, lent for the call alone; any bytes and any number are allowed.
@@ -32,31 +32,32 @@ pub fn delete_point(index: &mut [u8], id: u32, point: &[i16]) -> Result<(), Refu
     Refusal::of(unsafe { sys::epoch_index_vouched_delete(index.as_mut_ptr(), index.len(), id, point.as_ptr(), point.len()) })
 }
 
-/// What is asked: a point, the weights of its coordinates, if any, how many rows, and the stages looked among.
+/// What is asked: a point, the weights of its coordinates, if any, how many rows, and the stages and days looked among, all days where no
+/// dates are given.
 #[derive(Clone, Copy)]
 pub struct Asked<'a> {
     pub point: &'a [i16],
     pub weights: Option<&'a [u16]>,
     pub k: usize,
     pub stages: StageSet,
+    pub dates: Option<Dates>,
 }
 
 pub fn question(act: sys::Question, index: &[u8], asked: Asked, rows: &mut [Row], tally: &mut Tally) -> Result<Counts, Refusal> {
-    let Asked { point, weights, k, stages } = asked;
+    let Asked { point, weights, k, stages, dates } = asked;
     let (weighted, weights) = (weights.is_some(), weights.unwrap_or_default());
+    let what = sys::Criteria { k, stages: stages.bits(), weighted, dated: dates.is_some(), dates: dates.unwrap_or(Dates::NONE) };
     // SAFETY: pointers and lengths are those of five borrows, none of them null; `rows` and `tally` are borrowed alone, so they overlap
-    // nothing. `Row` and `Tally` have C's layout. Either question ends within them whatever the index holds.
+    // nothing. `Row`, `Tally` and `Criteria` have C's layout. Either question ends within them whatever the index holds.
     let answer = unsafe {
         act(
             index.as_ptr(),
             index.len(),
             point.as_ptr(),
             point.len(),
-            weighted,
             weights.as_ptr(),
             weights.len(),
-            k,
-            stages.bits(),
+            what,
             rows.as_mut_ptr(),
             rows.len(),
             tally,

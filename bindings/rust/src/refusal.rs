@@ -38,6 +38,10 @@ pub enum Refusal {
     BadStage = 15,
     /// Stage set is 0 or above 63: [`StageSet::EMPTY`](crate::StageSet::EMPTY).
     BadStageSet = 16,
+    /// A date doesn't exist or lies outside 1 January 2000 to 31 December 2099.
+    BadDate = 17,
+    /// Last date is before the first.
+    DatesReversed = 18,
 }
 
 impl Refusal {
@@ -58,6 +62,8 @@ impl Refusal {
         Refusal::BadWeight,
         Refusal::BadStage,
         Refusal::BadStageSet,
+        Refusal::BadDate,
+        Refusal::DatesReversed,
     ];
 
     /// The number in the table.
@@ -91,6 +97,8 @@ impl Refusal {
             Refusal::BadWeight => "a weight above 1,000",
             Refusal::BadStage => "stage above 5",
             Refusal::BadStageSet => "stage set is 0 or above 63",
+            Refusal::BadDate => "a date doesn't exist or lies outside 1 January 2000 to 31 December 2099",
+            Refusal::DatesReversed => "last date is before the first",
         }
     }
 }

@@ -1,5 +1,5 @@
 //! The functions of libepoch_index.a, as the headers in include/ declare them.
-use crate::{Row, Tally};
+use crate::{Dates, Row, Tally};
 
 /// What a question returns.
 #[repr(C)]
@@ -8,6 +8,17 @@ pub struct Answer {
     pub code: u32,
     pub count: usize,
     pub leaves: u32,
+}
+
+/// What is asked of a point. Where `dated` is false `dates` is disregarded.
+#[repr(C)]
+#[derive(Clone, Copy)]
+pub struct Criteria {
+    pub k: usize,
+    pub stages: u8,
+    pub weighted: bool,
+    pub dated: bool,
+    pub dates: Dates,
 }
 
 /// An insert: checked, trusted or vouched.
@@ -23,11 +34,9 @@ pub type Question = unsafe extern "C" fn(
     index_len: usize,
     point: *const i16,
     point_len: usize,
-    weighted: bool,
     weights: *const u16,
     weights_len: usize,
-    k: usize,
-    stages: u8,
+    what: Criteria,
     rows: *mut Row,
     rows_len: usize,
     tally: *mut Tally,
@@ -39,16 +48,14 @@ extern "C" {
     pub fn epoch_index_insert(index: *mut u8, index_len: usize, id: u32, stage: u8, stamp: u32, point: *const i16, point_len: usize)
         -> u32;
     pub fn epoch_index_delete(index: *mut u8, index_len: usize, id: u32) -> u32;
-    pub fn epoch_index_weighted_question(
+    pub fn epoch_index_ask(
         index: *const u8,
         index_len: usize,
         point: *const i16,
         point_len: usize,
-        weighted: bool,
         weights: *const u16,
         weights_len: usize,
-        k: usize,
-        stages: u8,
+        what: Criteria,
         rows: *mut Row,
         rows_len: usize,
         tally: *mut Tally,
@@ -63,16 +70,14 @@ extern "C" {
         point_len: usize,
     ) -> u32;
     pub fn epoch_index_trusted_delete(index: *mut u8, index_len: usize, id: u32) -> u32;
-    pub fn epoch_index_trusted_weighted_question(
+    pub fn epoch_index_trusted_ask(
         index: *const u8,
         index_len: usize,
         point: *const i16,
         point_len: usize,
-        weighted: bool,
         weights: *const u16,
         weights_len: usize,
-        k: usize,
-        stages: u8,
+        what: Criteria,
         rows: *mut Row,
         rows_len: usize,
         tally: *mut Tally,

@@ -1,4 +1,5 @@
 //! The specification's examples, and every refusal that is quick to reach.
+mod dates;
 mod series;
 mod stack;
 mod stages;
@@ -36,6 +37,25 @@ fn ids(found: &Found) -> Vec<u32> {
     found.rows.iter().map(|row| row.id).collect()
 }
 
+/// All dates that may be asked for.
+const WIDEST: Dates = Dates { first: Date::new(MIN_YEAR, 1, 1), last: Date::new(MAX_YEAR, 12, 31) };
+
+/// The same, one after the other.
+fn calendar() -> Vec<Date> {
+    let days = |year: u16, month: u8| match month {
+        2 => 28 + u8::from(year % 4 == 0),
+        4 | 6 | 9 | 11 => 30,
+        _ => 31,
+    };
+    let months = (MIN_YEAR..=MAX_YEAR).flat_map(|year| (1..=12).map(move |month| (year, month)));
+    months.flat_map(|(year, month)| (1..=days(year, month)).map(move |day| Date::new(year, month, day))).collect()
+}
+
+/// The stamp of the noon of the n-th of these dates, from 0.
+fn noon(n: u32) -> u32 {
+    43_200 + 86_400 * n
+}
+
 struct Random(u64);
 
 impl Random {
@@ -65,6 +85,13 @@ impl Random {
         (self.below(4) > 0).then_some(weights)
     }
 
+    /// Some days, or none given: any, and often many.
+    fn dates(&mut self, calendar: &[Date]) -> Option<Dates> {
+        let mut draw = || calendar[self.below(calendar.len() as u64) as usize];
+        let (a, b) = (draw(), draw());
+        (self.below(3) > 0).then_some(Dates { first: a.min(b), last: a.max(b) })
+    }
+
     fn point(&mut self, d: usize, reach: u64) -> Vec<i16> {
         (0..d).map(|_| self.below(2 * reach + 1) as i16 - reach as i16).collect()
     }
@@ -76,12 +103,18 @@ fn layout_is_that_of_the_header() {
     assert_eq!([offset_of!(Row, distance), offset_of!(Row, id), offset_of!(Row, stamp), offset_of!(Row, position)], [0, 8, 12, 16]);
     assert_eq!((size_of::<Tally>(), align_of::<Tally>()), (8, 4));
     assert_eq!((size_of::<sys::Answer>(), align_of::<sys::Answer>()), (24, 8));
+    assert_eq!((size_of::<Date>(), align_of::<Date>()), (4, 2));
+    assert_eq!([offset_of!(Date, year), offset_of!(Date, month), offset_of!(Date, day)], [0, 2, 3]);
+    assert_eq!((size_of::<Dates>(), offset_of!(Dates, first), offset_of!(Dates, last)), (8, 0, 4));
+    assert_eq!((size_of::<sys::Criteria>(), align_of::<sys::Criteria>()), (24, 8));
+    assert_eq!([offset_of!(sys::Criteria, k), offset_of!(sys::Criteria, stages), offset_of!(sys::Criteria, weighted)], [0, 8, 9]);
+    assert_eq!([offset_of!(sys::Criteria, dated), offset_of!(sys::Criteria, dates)], [10, 12]);
 }
 
 #[test]
 fn refusals_have_their_numbers_and_words() {
     let codes: Vec<u32> = Refusal::ALL.iter().map(|refusal| refusal.code()).collect();
-    assert_eq!(codes, [1, 2, 3, 4, 5, 6, 7, 8, 9, 10, 11, 13, 14, 15, 16], "12 is given to nothing");
+    assert_eq!(codes, [1, 2, 3, 4, 5, 6, 7, 8, 9, 10, 11, 13, 14, 15, 16, 17, 18], "12 is given to nothing");
     for refusal in Refusal::ALL {
         assert_eq!(Refusal::of(refusal.code()), Err(*refusal));
         assert!(!refusal.to_string().is_empty());
@@ -111,10 +144,10 @@ fn leaves_read() {
     let mut tally = Tally::default();
     let cases: [(i16, usize, &[u32], u32); 3] = [(9, 1, &[9], 1), (9, 2, &[9, 8], 2), (1, 9, &[1, 2, 3, 4, 5, 6, 7, 8, 9], 1)];
     for (from, k, rows, leaves) in cases {
-        let found = index.question(&[from], None, k, StageSet::ALL, &mut tally).unwrap();
+        let found = index.question(&[from], None, k, StageSet::ALL, None, &mut tally).unwrap();
         assert_eq!((ids(&found), found.leaves), (rows.to_vec(), leaves));
     }
-    let all = index.question(&[1], None, 18, StageSet::ALL, &mut tally).unwrap();
+    let all = index.question(&[1], None, 18, StageSet::ALL, None, &mut tally).unwrap();
     assert_eq!((all.rows.len(), all.leaves), (17, 2));
     assert_eq!(all.rows[16], Row { distance: 256, id: 17, position: 1, stamp: 0 });
     assert_eq!(tally, Tally { questions: 4, leaves: 6 });
@@ -126,10 +159,10 @@ fn pages_run_out_and_come_back() {
     assert_eq!(index.insert(epoch(17), &[17]), Err(Refusal::NoPages));
     let mut index = upward(4, 17);
     index.delete(17).unwrap();
-    let all = index.question(&[1], None, 16, StageSet::ALL, &mut Tally::default()).unwrap();
+    let all = index.question(&[1], None, 16, StageSet::ALL, None, &mut Tally::default()).unwrap();
     assert_eq!(all.rows.iter().filter(|row| row.position == 0).count(), 8);
     index.delete(16).unwrap();
-    assert_eq!(index.question(&[1], None, 16, StageSet::ALL, &mut Tally::default()).unwrap().leaves, 1);
+    assert_eq!(index.question(&[1], None, 16, StageSet::ALL, None, &mut Tally::default()).unwrap().leaves, 1);
     for id in 16..=17 {
         index.insert(epoch(id), &[id as i16]).unwrap();
     }
@@ -150,16 +183,16 @@ fn refused_acts_change_nothing() {
     assert_eq!(index.delete(0), Err(Refusal::ZeroIdentifier));
     assert_eq!(index.delete(18), Err(Refusal::NotLive));
     for stages in [StageSet::ALL, StageSet::EMPTY] {
-        assert_eq!(index.question_into(&[], None, 1, stages, &mut rows, &mut tally), Err(Refusal::BadFeatures));
-        assert_eq!(index.question_into(&[-1001], None, 1, stages, &mut rows, &mut tally), Err(Refusal::BadCoordinate));
-        assert_eq!(index.question_into(&[1], None, 0, stages, &mut rows, &mut tally), Err(Refusal::BadK));
-        assert_eq!(index.question_into(&[1], None, 65, stages, &mut rows, &mut tally), Err(Refusal::BadK));
-        assert_eq!(index.question_into(&[1], None, usize::MAX, stages, &mut [], &mut tally), Err(Refusal::BadK));
-        assert_eq!(index.question_into(&[1], None, 3, stages, &mut rows, &mut tally), Err(Refusal::FewRows));
-        assert_eq!(index.question(&[1], None, 65, stages, &mut tally), Err(Refusal::BadK));
+        assert_eq!(index.question_into(&[], None, 1, stages, None, &mut rows, &mut tally), Err(Refusal::BadFeatures));
+        assert_eq!(index.question_into(&[-1001], None, 1, stages, None, &mut rows, &mut tally), Err(Refusal::BadCoordinate));
+        assert_eq!(index.question_into(&[1], None, 0, stages, None, &mut rows, &mut tally), Err(Refusal::BadK));
+        assert_eq!(index.question_into(&[1], None, 65, stages, None, &mut rows, &mut tally), Err(Refusal::BadK));
+        assert_eq!(index.question_into(&[1], None, usize::MAX, stages, None, &mut [], &mut tally), Err(Refusal::BadK));
+        assert_eq!(index.question_into(&[1], None, 3, stages, None, &mut rows, &mut tally), Err(Refusal::FewRows));
+        assert_eq!(index.question(&[1], None, 65, stages, None, &mut tally), Err(Refusal::BadK));
     }
-    assert_eq!(index.question_into(&[1], None, 2, StageSet::EMPTY, &mut rows, &mut tally), Err(Refusal::BadStageSet));
-    assert_eq!(index.question(&[1], None, 2, StageSet::EMPTY, &mut tally), Err(Refusal::BadStageSet));
+    assert_eq!(index.question_into(&[1], None, 2, StageSet::EMPTY, None, &mut rows, &mut tally), Err(Refusal::BadStageSet));
+    assert_eq!(index.question(&[1], None, 2, StageSet::EMPTY, None, &mut tally), Err(Refusal::BadStageSet));
     assert_eq!(index.as_bytes(), before);
     assert_eq!(rows, [mark; 2]);
     assert_eq!(tally, Tally { questions: 5, leaves: 6 });
@@ -172,7 +205,7 @@ fn rows_past_those_returned_keep_their_contents() {
     let mark = Row { distance: 7, id: 8, position: 9, stamp: 10 };
     let mut rows = [mark; 3];
     let mut tally = Tally { questions: u32::MAX, leaves: u32::MAX - 1 };
-    assert_eq!(index.question_into(&[4], None, 2, StageSet::ALL, &mut rows, &mut tally), Ok(Counts { rows: 1, leaves: 1 }));
+    assert_eq!(index.question_into(&[4], None, 2, StageSet::ALL, None, &mut rows, &mut tally), Ok(Counts { rows: 1, leaves: 1 }));
     assert_eq!(rows, [Row { distance: 9, id: 1, position: 0, stamp: epoch(1).stamp }, mark, mark]);
     assert_eq!(tally, Tally { questions: u32::MAX, leaves: u32::MAX });
 }
@@ -188,7 +221,7 @@ fn a_damaged_index_is_refused() {
     assert!((1..4).contains(&fault.page));
     assert_eq!(index.insert(epoch(18), &[18]), Err(Refusal::Unsound));
     assert_eq!(index.delete(1), Err(Refusal::Unsound));
-    assert_eq!(index.question(&[1], None, 1, StageSet::ALL, &mut Tally::default()), Err(Refusal::Unsound));
+    assert_eq!(index.question(&[1], None, 1, StageSet::ALL, None, &mut Tally::default()), Err(Refusal::Unsound));
     assert_eq!(SoundIndex::open(&copy[..]).unwrap_err(), fault);
     assert_eq!(damaged, copy);
 }
@@ -198,10 +231,10 @@ fn a_sound_index_asks_borrowed_bytes() {
     let stored = upward(4, 17).into_inner();
     let sound = SoundIndex::open(&stored[..]).unwrap();
     let mut tally = Tally::default();
-    assert_eq!(ids(&sound.question(&[9], None, 2, StageSet::ALL, &mut tally).unwrap()), [9, 8]);
+    assert_eq!(ids(&sound.question(&[9], None, 2, StageSet::ALL, None, &mut tally).unwrap()), [9, 8]);
     let mut rows = [Row::default(); 1];
-    assert_eq!(sound.question_into(&[9], None, 2, StageSet::ALL, &mut rows, &mut tally), Err(Refusal::FewRows));
-    assert_eq!(sound.question_into(&[9], None, 1, StageSet::ALL, &mut rows, &mut tally), Ok(Counts { rows: 1, leaves: 1 }));
+    assert_eq!(sound.question_into(&[9], None, 2, StageSet::ALL, None, &mut rows, &mut tally), Err(Refusal::FewRows));
+    assert_eq!(sound.question_into(&[9], None, 1, StageSet::ALL, None, &mut rows, &mut tally), Ok(Counts { rows: 1, leaves: 1 }));
     assert_eq!(tally, Tally { questions: 2, leaves: 3 });
 }
 
@@ -221,8 +254,8 @@ fn acts_are_right_about_bytes_that_change() {
     let index = Index::new(Changing(Cell::new(0), [whole, damaged]));
     let mut tally = Tally::default();
     for _ in 0..2 {
-        assert_eq!(index.question(&[9], None, 2, StageSet::ALL, &mut tally), Err(Refusal::Unsound));
-        assert_eq!(ids(&index.question(&[9], None, 2, StageSet::ALL, &mut tally).unwrap()), [9, 8]);
+        assert_eq!(index.question(&[9], None, 2, StageSet::ALL, None, &mut tally), Err(Refusal::Unsound));
+        assert_eq!(ids(&index.question(&[9], None, 2, StageSet::ALL, None, &mut tally).unwrap()), [9, 8]);
     }
 }
 

@@ -11,7 +11,7 @@ use acts_output::put_result;
 use acts_output::put_rows;
 use acts_text::ActLine;
 use index_answer::Answer;
-use index_query::Criteria;
+use index_query::nearest_of;
 use index_refusals::Epoch;
 use search_rows::MAX_ROWS;
 
@@ -60,12 +60,15 @@ fn ask(
         (now (highs .exit)) (now (lows .exit)) r ⌝ }
 {
     let none = [0u16; 0];
-    let what = Criteria {
-        k,
-        stages,
-        weighted: false,
-    };
-    index::question_outcome(index, point, &none, what, MAX_ROWS, highs, lows)
+    index::question_outcome(
+        index,
+        point,
+        &none,
+        nearest_of(k, stages),
+        MAX_ROWS,
+        highs,
+        lows,
+    )
 }
 
 // Asks, and prints a line for each row; with no rows one line with zeros.

@@ -4,32 +4,20 @@ use mathlib.Core.Path.{_≡_, refl, sym, ap, _∙_}
 use mathlib.Core.Logic.{_≢_}
 use mathlib.Core.Bool.{Bool, true, false}
 use mathlib.Core.List.{List, [], _∷_}
-use Prim.Native.Nat.{ℕ, zero, suc, _≤_, _<_}
+use Prim.Native.Nat.{ℕ, _≤_}
 use native.Mathlib.Omega.{arith}
 use lib.Dec.{ltb, eqb}
 use lib.ListN.{length, take, length-take}
 use lib.Seq.{take-all}
-use borrow.Author.Tests.{eqb-true, eqb-false, ltb-true, ltb-false, ne-eqb}
+use borrow.Author.Tests.{eqb-true, ltb-true, ltb-false, ne-eqb}
 use Rattle.lists.specs.Basics.{if}
 use Rattle.lists.specs.Tests.{false-true, by-cases}
+use Rattle.lists.specs.Below.{allBelow, all-below}
 use Rattle.lists.specs.Equal.{same, same-is}
 use Rattle.acts_fields.specs.Decimal.{decimal}
 use Rattle.acts_text.specs.Names.{names, allNames, isPrefix, featuresIn, namesIn}
 use Rattle.acts_text.specs.Input.{kept}
 use Rattle.acts_text.proofs.PrefixLaws.{names-in, names-out, prefix-long}
-
--- the test holds of each number below n
-unfoldable allBelow : ℕ → (ℕ → Bool) → Bool
-allBelow zero f = true
-allBelow (suc n) f = if (f n) (allBelow n f) false
-
-all-below : (n : ℕ) (f : ℕ → Bool) → allBelow n f ≡ true → (m : ℕ) → m < n → f m ≡ true
-unfolding allBelow
-all-below zero f h m l = absurd (omega arith)
-all-below (suc n) f h m l = by-cases (f n)
-    (λ e. by-cases (eqb m n) (λ t. ap f (eqb-true m n t) ∙ e)
-    (λ t. let d = eqb-false m n t in all-below n f (sym (ap (λ (b : Bool). if b (allBelow n f) false) e) ∙ h) m (omega arith)))
-    (λ e. false-true (sym (ap (λ (b : Bool). if b (allBelow n f) false) e) ∙ h))
 
 -- a length that some line of names has is that of `names d`, with d at most 16, and the table begins with it
 unfoldable right : ℕ → Bool

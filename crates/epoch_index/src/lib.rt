@@ -55,26 +55,20 @@ pub extern "C" fn epoch_index_check(index: &[u8], page: &mut u32) -> u32
     checked.code as u32
 }
 
-// The question for the k nearest records of a point among those whose stage is in a set: its rows go to those lent, and the caller's tally counts it.
+// The question for the k nearest records of a point among those whose stage is in a set and whose stamp lies in its days: its rows go to those lent, and the
+// caller's tally counts it.
 #[no_mangle]
-pub extern "C" fn epoch_index_weighted_question(
+pub extern "C" fn epoch_index_ask(
     index: &[u8],
     point: &[i16],
-    weighted: bool,
     weights: &[u16],
-    k: usize,
-    stages: u8,
+    what: Criteria,
     rows: &mut [Row],
     tally: &mut Tally,
 ) -> Answer
-    ensures { λ r. ⌜ Questioned (now (index .entry)) (questionOf (now (point .entry)) (now (weights .entry)) (record { k = k; stages = stages; weighted = weighted }))
+    ensures { λ r. ⌜ Questioned (now (index .entry)) (questionOf (now (point .entry)) (now (weights .entry)) what)
         (now (rows .entry)) (now (tally .entry)) r (now (rows .exit)) (now (tally .exit)) ⌝ }
 {
-    let what = Criteria {
-        k,
-        stages,
-        weighted,
-    };
     index::question(index, point, weights, what, rows, tally)
 }
 
@@ -104,24 +98,17 @@ pub extern "C" fn epoch_index_trusted_delete(index: &mut [u8], id: u32) -> u32
 
 // The question without the check.
 #[no_mangle]
-pub extern "C" fn epoch_index_trusted_weighted_question(
+pub extern "C" fn epoch_index_trusted_ask(
     index: &[u8],
     point: &[i16],
-    weighted: bool,
     weights: &[u16],
-    k: usize,
-    stages: u8,
+    what: Criteria,
     rows: &mut [Row],
     tally: &mut Tally,
 ) -> Answer
-    ensures { λ r. ⌜ TrustedQuestioned (now (index .entry)) (questionOf (now (point .entry)) (now (weights .entry)) (record { k = k; stages = stages; weighted = weighted })) (now (rows .entry))
+    ensures { λ r. ⌜ TrustedQuestioned (now (index .entry)) (questionOf (now (point .entry)) (now (weights .entry)) what) (now (rows .entry))
         (now (tally .entry)) r (now (rows .exit)) (now (tally .exit)) ⌝ }
 {
-    let what = Criteria {
-        k,
-        stages,
-        weighted,
-    };
     index_trusted::question(index, point, weights, what, rows, tally)
 }
 

@@ -7,6 +7,11 @@ use Prim.Native.Nat.{ℕ}
 use lib.ListN.{length}
 use Rattle.lists.specs.Tests.{false-true, by-cases}
 use Rattle.sound_faults.specs.Decidable.{Either, le?, eq?, both?, all?, permitted?, sound-index?}
+use Rattle.calendar.specs.declared.Date.{Date}
+use Rattle.calendar.specs.Dates.{InCalendar}
+use Rattle.calendar.specs.Days.{Days, undated, dated, InCalendars, InOrder}
+use Rattle.calendar.specs.Counting.{inCalendar, before}
+use Rattle.calendar.proofs.Promises.{calendar-decided, order-decided}
 use Rattle.geometry.specs.Numbers.{maxWeight}
 use Rattle.index_query.specs.Asking.{Weights, unweighed, weighed, Question, AsMany, Light}
 use Rattle.index_refusals.specs.Refusals.{Rule, First, makeRules, insertRules, deleteRules, questionRules, askedRules, checkRules}
@@ -40,8 +45,23 @@ light? : (ws : Weights) → Either (Light ws)
 light? unweighed = inl tt
 light? (weighed ws) = all? (λ x. le? x maxWeight) ws
 
+-- and the days that it names
+in-calendar? : (d : Date) → Either (InCalendar d)
+in-calendar? d = by-cases (inCalendar d) (λ e. inl (calendar-decided d .1 e)) (λ e. inr (λ h. false-true (sym e ∙ calendar-decided d .0 h)))
+
+dates? : (days : Days) → Either (InCalendars days)
+dates? undated = inl tt
+dates? (dated dates) = both? (in-calendar? (dates .first)) (in-calendar? (dates .last))
+
+order? : (days : Days) → Either (InOrder days)
+order? undated = inl tt
+order? (dated dates) =
+    by-cases (before (dates .last) (dates .first))
+    (λ e. inr (λ n. n (order-decided (dates .last) (dates .first) .1 e)))
+    (λ e. inl (λ h. false-true (sym e ∙ order-decided (dates .last) (dates .first) .0 h)))
+
 asked? : (w : Question) (n : ℕ) → Decided (askedRules w n)
-asked? w n = (both? (le? _ _) (le? _ _), (le? _ _, (both? (le? _ _) (le? _ _), tt)))
+asked? w n = (both? (le? _ _) (le? _ _), (le? _ _, (both? (le? _ _) (le? _ _), (dates? (w .days), (order? (w .days), tt)))))
 
 decided : (a : Act) (b : List ℕ) → Decided (rulesOf a b)
 decided (insert e p) b = (permitted? _, (sound-index? b, (eq? _ _, (true? _, (le? _ _, (le? _ _, (eq? _ _, (le? _ _, (le? _ _, tt)))))))))

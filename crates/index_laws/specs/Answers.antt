@@ -23,7 +23,7 @@ use Rattle.index_query.specs.Answers.{Answers, search-answers}
 
 module _ (b : List ℕ) (w : Question) (n : ℕ) (h : First (questionRules b w n) 0) where
   pub question-answers : Answers b w (foundWith 0 b w)
-  question-answers = let a = question-carried b w n h in search-answers b (question-sound b w n h) w (a .features) (a .some)
+  question-answers = let a = question-carried b w n h in search-answers b (question-sound b w n h) w (a .features) (a .some) (a .dates)
 
   -- which leaves it reads, and in which order: those of demand 3's set, by (bound, position)
   pub question-reads : leavesRead b (sought w) ≡ readingOrder (viewOf b) (sought w)

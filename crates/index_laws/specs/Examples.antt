@@ -70,7 +70,7 @@ upward-seventeen e (f, h) b lent four =
     let d = seventeen-features b lent four in
     let r : inRange (pos (e .point) ∷ []) ≡ true = rw (le-leb (e .point) 1000 (f .0)) in
     let a = h (upward b 17) s (record { d = d; first = 1; second = 2; leaves = seventeen-leaves b lent four }) in
-    let c : Carried 1 (askedBy e) (e .k) = record { features = (refl, tt); ranges = r; light = tt; some = f .1; most = f .2; lent = le-refl (e .k); set = (lit≤ tt, lit≤ tt) } in
+    let c : Carried 1 (askedBy e) (e .k) = record { features = (refl, tt); ranges = r; light = tt; some = f .1; most = f .2; lent = le-refl (e .k); set = (lit≤ tt, lit≤ tt); dates = tt; order = tt } in
     (none-fails (questionRules (upward b 17) (askedBy e) (e .k)) (s .lent, (s, ((sym d, tt), (r, (tt, carried-asked 1 (askedBy e) (e .k) c))))), a .0, a .1)
 
 -- p-examples: every example of the list holds

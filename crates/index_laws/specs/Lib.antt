@@ -8,3 +8,4 @@ pub mod VouchedActs
 pub mod DeletePages
 pub mod Examples
 pub mod Weights
+pub mod Days

@@ -13,6 +13,8 @@ use borrow.Author.Tests.{ltb-true, ltb-false, le-leb}
 use Rattle.lists.specs.Basics.{All, none, also, all-map, all-append}
 use Rattle.lists.specs.Tests.{by-cases}
 use Rattle.lists.specs.Sorting.{count, filter, sort}
+use Rattle.calendar.specs.Days.{Days}
+use Rattle.calendar.specs.Counting.{windowOf}
 use Rattle.geometry.specs.Features.{Feature, distTo, IsBound}
 use Rattle.geometry.specs.Stored.{inRange}
 use Rattle.geometry.proofs.WeightLaws.{weighted-distance, ones-plain, zeros-distance}
@@ -30,7 +32,7 @@ use Rattle.search_model.specs.Visit.{Answer as Found, ranking, found}
 use Rattle.search_model.specs.Questions.{rowsFrom, rowsOf, leafBound, toReadBy, toRead, lastDistance}
 use Rattle.search_model.proofs.SoundLaws.{none-held}
 use Rattle.search_model.proofs.SetLaws.{leaves-bound}
-use Rattle.index_query.specs.Asking.{weighed, Question, nearestOf, sought, AsMany, Light, Suited}
+use Rattle.index_query.specs.Asking.{unweighed, weighed, Question, sought, AsMany, Light, Suited}
 use Rattle.index_query.specs.PointLaws.{ones-light}
 use Rattle.index_query.specs.AskingLaws.{question-suits}
 use Rattle.index_refusals.specs.Refusals.{Rule, First, badLength, unsound, badFeatures, badCoordinate, badWeight, questionRules, askedRules}
@@ -55,16 +57,16 @@ agreeing x y z c d e f rest m cd dc ef fe (inr (a, inr (b, inr (t, inr (r, inr (
 
 -- a point's question without weights, and with a weight of 1 for each coordinate. Since a table gives one number (`first-one`, `some-number`), what the
 -- one returns the other does.
-module _ (p : List ℤ) (k stages : ℕ) where
+module _ (p : List ℤ) (k stages : ℕ) (days : Days) where
   abbrev pub unweighted : Question
-  unweighted = nearestOf p k stages
+  unweighted = record { point = p; weights = unweighed; k = k; stages = stages; days = days }
 
   abbrev pub byOnes : Question
-  byOnes = record { point = p; weights = weighed (replicate (length p) 1); k = k; stages = stages }
+  byOnes = record { point = p; weights = weighed (replicate (length p) 1); k = k; stages = stages; days = days }
 
   -- are one question for the search
   same-found : (m : ℕ) (b : List ℕ) → foundWith m b byOnes ≡ foundWith m b unweighted
-  same-found m b = ap (λ (fs : List Feature). unlessRefused m (found b (record { features = fs; k = k; choice = record { stages = stages } })) nothingFound) (ones-plain p)
+  same-found m b = ap (λ (fs : List Feature). unlessRefused m (found b (record { features = fs; k = k; choice = record { stages = stages; window = windowOf days } })) nothingFound) (ones-plain p)
 
   many-ones : (d : ℕ) → length p ≡ d → length {A = ℕ} (replicate (length p) 1) ≡ d
   many-ones d e = length-replicate {A = ℕ} (length p) 1 ∙ e
@@ -103,9 +105,9 @@ abbrev pub holdsRecords : Item 1 → Bool
 holdsRecords t = ltb 0 (length (t .1))
 
 -- what is asked, by weights that are all 0
-module _ (p : List ℤ) (ws : List ℕ) (k stages : ℕ) (z : All (λ x. x ≡ 0) ws) where
+module _ (p : List ℤ) (ws : List ℕ) (k stages : ℕ) (days : Days) (z : All (λ x. x ≡ 0) ws) where
   abbrev pub byZeros : Question
-  byZeros = record { point = p; weights = weighed ws; k = k; stages = stages }
+  byZeros = record { point = p; weights = weighed ws; k = k; stages = stages; days = days }
 
   -- every distance is 0
   no-gap : (x : List ℤ) → distTo (sought byZeros .features) x ≡ 0

@@ -1,12 +1,16 @@
 -- What it means that a question is answered: demands 2 and 3, of the live records and the leaves of a sound index.
 use mathlib.Core.Path.{_≡_, ap, _∙_}
-use mathlib.Core.Bool.{true}
+use mathlib.Core.Bool.{true, _&&_}
+use mathlib.Core.Logic.{_↔_}
 use mathlib.Core.List.{List, map}
 use Prim.Native.Nat.{ℕ, _≤_}
 use lib.ListN.{length, take}
 use Rattle.lists.specs.Basics.{All}
 use Rattle.lists.specs.Sorting.{count, filter, sort}
 use lib.IntN.{ℤ}
+use Rattle.calendar.specs.Days.{undated, Passes, InCalendars}
+use Rattle.calendar.specs.Counting.{windowOf, inWindow}
+use Rattle.calendar.proofs.Promises.{window-days}
 use Rattle.geometry.specs.Features.{distTo}
 use Rattle.pagestore_page.specs.declared.Record.{Record}
 use Rattle.pagestore.specs.Store.{viewOf}
@@ -29,9 +33,11 @@ pub record Answers (b : List ℕ) (w : Question) (f : Found) : Type 0 where
   pub order : f .rows ≡ take (w .k) (sort newestFirst (rowsOf (viewOf b) (sought w)))
   -- the rows of the live candidates are one for each live record that is looked for, with its distance from what is asked, and its stamp
   pub each : map bare (rowsOf (viewOf b) (sought w)) ≡ map (bareOf w) (liveCandidates (viewOf b) (sought w))
-  -- looked for are the live records whose stage is in the set (02); with the full set each of them is
-  pub among : liveCandidates (viewOf b) (sought w) ≡ filter (λ r. inStages (w .stages) (r .stage)) (live (viewOf b))
-  pub full : w .stages ≡ fullSet → liveCandidates (viewOf b) (sought w) ≡ live (viewOf b)
+  -- looked for are the live records whose stage is in the set and whose stamp in the window (02); with the full set and no dates each of them is
+  pub among : liveCandidates (viewOf b) (sought w) ≡ filter (λ r. inStages (w .stages) (r .stage) && inWindow (windowOf (w .days)) (r .stamp)) (live (viewOf b))
+  pub full : w .stages ≡ fullSet → w .days ≡ undated → liveCandidates (viewOf b) (sought w) ≡ live (viewOf b)
+  -- a stamp lies in the window just if the date of its recording day is from the first to the last (02, Q-4), or no dates are given
+  pub days : (s : ℕ) → Passes (w .days) s ↔ (inWindow (windowOf (w .days)) s ≡ true)
   -- a record's distance is the squared distance from the point, with weights the sum of weight times squared difference (02, Q-1), as is
   -- that of any point of the grid
   pub squared : (r : Record) → distanceTo (sought w) r ≡ distanceBy (w .weights) (w .point) (pointIn (length (w .point)) r)
@@ -47,9 +53,9 @@ pub record Answers (b : List ℕ) (w : Question) (f : Found) : Type 0 where
 abbrev pub AnswersIfSound : List ℕ → Question → Found → Type 0
 AnswersIfSound b w f = SoundIndex b → Answers b w f
 
--- what the search finds on a sound index that the question suits
-pub search-answers : (b : List ℕ) → SoundIndex b → (w : Question) → Suited (viewOf b .d) w → 1 ≤ w .k → Answers b w (found b (sought w))
-search-answers b s w d one =
+-- what the search finds on a sound index that the question suits, its dates being in the calendar
+pub search-answers : (b : List ℕ) → SoundIndex b → (w : Question) → Suited (viewOf b .d) w → 1 ≤ w .k → InCalendars (w .days) → Answers b w (found b (sought w))
+search-answers b s w d one dates =
     let e = sought-exact b s w d one in
     record {
       rows = ap (λ (f : Found). f .rows) e;
@@ -57,6 +63,7 @@ search-answers b s w d one =
       each = live-rows w (viewOf b);
       among = among-live w (viewOf b);
       full = full-live b s w;
+      days = window-days (w .days) dates;
       squared = gap-by (viewOf b .d) w d;
       grid = distance-by (w .weights) (w .point);
       leaves = ap (λ (f : Found). f .leaves) e;

@@ -6,6 +6,9 @@ use Prim.Native.Nat.{ℕ, _+_, _≤_}
 use lib.IntN.{ℤ}
 use lib.ListN.{length, take}
 use Rattle.lists.specs.Basics.{All}
+use Rattle.calendar.specs.declared.Date.{Date}
+use Rattle.calendar.specs.Days.{Days, undated, daysIf}
+use Rattle.calendar.specs.Counting.{windowOf}
 use Rattle.geometry.specs.Points.{distance}
 use Rattle.geometry.specs.Features.{Feature, plain, weighted, weightedDistance}
 use Rattle.geometry.specs.Stored.{inRange}
@@ -32,24 +35,32 @@ abbrev pub weightsIf : Bool → List ℕ → Weights
 weightsIf false ws = unweighed
 weightsIf true ws = weighed ws
 
--- the k nearest of a point, by the weights carried, of the stages in a set (02): six marks, bit s for stage s
+-- the k nearest of a point, by the weights carried, of the stages in a set (02), six marks, bit s for stage s, and of the recording days named
 pub record Question : Type 0 where
   pub point : List ℤ
   pub weights : Weights
   pub k : ℕ
   pub stages : ℕ
+  pub days : Days
 
--- without weights
+-- without weights and without dates
 abbrev pub nearestOf : List ℤ → ℕ → ℕ → Question
-nearestOf p k stages = record { point = p; weights = unweighed; k = k; stages = stages }
+nearestOf p k stages = record { point = p; weights = unweighed; k = k; stages = stages; days = undated }
 
 -- as code is given it: the point and the weights in slices, and the rest
 abbrev pub questionOf : List ℤ → List ℕ → Criteria → Question
-questionOf p ws c = record { point = p; weights = weightsIf (c .weighted) ws; k = c .k; stages = c .stages }
+questionOf p ws c = record { point = p; weights = weightsIf (c .weighted) ws; k = c .k; stages = c .stages; days = daysIf (c .dated) (c .dates) }
+
+-- the criteria of a question without weights and without dates: `questionOf p ws (nearestBy k stages)` is `nearestOf p k stages`
+abbrev pub noDate : Date
+noDate = record { year = 0; month = 0; day = 0 }
+
+abbrev pub nearestBy : ℕ → ℕ → Criteria
+nearestBy k stages = record { k = k; stages = stages; weighted = false; dated = false; dates = record { first = noDate; last = noDate } }
 
 -- which records are looked for
 abbrev pub choiceOf : Question → Choice
-choiceOf w = record { stages = w .stages }
+choiceOf w = record { stages = w .stages; window = windowOf (w .days) }
 
 -- each coordinate by itself: its gap has the weight carried for it, and without weights the weight 1
 abbrev pub featuresBy : Weights → List ℤ → List Feature

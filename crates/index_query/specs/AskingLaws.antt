@@ -1,6 +1,6 @@
 -- The search's promises, of a question.
 use mathlib.Core.Path.{_≡_, refl, sym, ap, ap₂, _∙_, subst}
-use mathlib.Core.Bool.{true}
+use mathlib.Core.Bool.{true, _&&_}
 use mathlib.Core.List.{List, [], _∷_, _++_, map}
 use Prim.Native.Nat.{ℕ, suc, _≤_}
 use lib.IntN.{ℤ}
@@ -10,6 +10,8 @@ use Rattle.lists.specs.Counts.{mult}
 use Rattle.lists.specs.Sorting.{count, filter}
 use Rattle.lists.specs.SortingLaws.{filter-append}
 use Rattle.lists.specs.ConcatMapLaws.{map-append}
+use Rattle.calendar.specs.Days.{Days, undated}
+use Rattle.calendar.specs.Counting.{windowOf, inWindow}
 use Rattle.geometry.specs.Features.{distTo}
 use Rattle.geometry.proofs.SliceLaws.{plain-distance}
 use Rattle.geometry.proofs.WeightLaws.{weighted-distance}
@@ -20,7 +22,7 @@ use Rattle.tree_model.specs.Sound.{SoundIndex}
 use Rattle.search_theory.specs.Nearest.{nearest}
 use Rattle.search_rows.specs.Rows.{distance as rowDistance}
 use Rattle.search_model.specs.declared.Choice.{Choice}
-use Rattle.search_model.specs.Asked.{inStages, fullSet, distanceTo, candidate, Askable}
+use Rattle.search_model.specs.Asked.{inStages, fullSet, distanceTo, candidate, LeavesOutNone, Askable}
 use Rattle.search_model.specs.Branches.{rowOf, rowsAmong}
 use Rattle.search_model.specs.Visit.{ranking, found, leavesRead}
 use Rattle.search_model.specs.Questions.{rowsFrom, rowsOf, liveCandidates, Exchanged, AgreeBut, Called, readingOrder, toRead, unreadPages}
@@ -64,8 +66,8 @@ module _ (d : ℕ) (w : Question) (s : Suited d w) where
 -- ---- THE ROWS OF THE LIVE RECORDS
 
 module _ (w : Question) where
-  -- the live records looked for: those whose stage is in the set
-  pub among-live : (v : View) → liveCandidates v (sought w) ≡ filter (λ r. inStages (w .stages) (r .stage)) (live v)
+  -- the live records looked for: those whose stage is in the set and whose stamp in the window
+  pub among-live : (v : View) → liveCandidates v (sought w) ≡ filter (λ r. inStages (w .stages) (r .stage) && inWindow (windowOf (w .days)) (r .stamp)) (live v)
   unfolding candidate
   among-live v = refl
 
@@ -88,9 +90,12 @@ module _ (w : Question) where
   live-rows v =
       bare-rows 0 (leaves (v .level) (treeOf v)) ∙ ap (λ (rs : List Record). map (bareOf w) (filter (candidate (sought w)) rs)) (sym (records-leaves (v .level) (treeOf v)))
 
--- with the full set none is left out of a sound index
-pub full-live : (b : List ℕ) → SoundIndex b → (w : Question) → w .stages ≡ fullSet → liveCandidates (viewOf b) (sought w) ≡ live (viewOf b)
-full-live b s w e = live-full b s (sought w) e
+-- with the full set and no dates none is left out of a sound index
+leaves-none : (w : Question) → w .stages ≡ fullSet → w .days ≡ undated → LeavesOutNone (choiceOf w)
+leaves-none w e f = (e, ap (λ (d : Days). windowOf d .bounded) f)
+
+pub full-live : (b : List ℕ) → SoundIndex b → (w : Question) → w .stages ≡ fullSet → w .days ≡ undated → liveCandidates (viewOf b) (sought w) ≡ live (viewOf b)
+full-live b s w e f = live-full b s (sought w) (leaves-none w e f)
 
 -- ---- WHAT THE SEARCH FINDS
 
@@ -106,9 +111,9 @@ module _ (b : List ℕ) (s : SoundIndex b) (w : Question) (d : Suited (viewOf b 
     pub sought-exact : found b (sought w) ≡ record { rows = nearest ranking (w .k) (rowsOf (viewOf b) (sought w)); leaves = count (toRead (viewOf b) (sought w)) (leavesOf (viewOf b)) }
     sought-exact = found-exact b s (sought w) suits one
 
-    -- with the full set what 01 calls for (02), but for the tie rule
-    pub full-exact : w .stages ≡ fullSet → found b (sought w) ≡ plainDue ranking (viewOf b) (sought w)
-    full-exact e = full-set b s (sought w) e suits one
+    -- with the full set and no dates what 01 calls for (02), but for the tie rule
+    pub full-exact : w .stages ≡ fullSet → w .days ≡ undated → found b (sought w) ≡ plainDue ranking (viewOf b) (sought w)
+    full-exact e f = full-set b s (sought w) (leaves-none w e f) suits one
 
     -- whatever the stamps, the distances and the count that 01's tie rule calls for (02, Q-9), and where they are equal, its rows
     pub any-stamp-exact : (map rowDistance (found b (sought w) .rows) ≡ map rowDistance (dueById (viewOf b) (sought w) .rows)) × (found b (sought w) .leaves ≡ dueById (viewOf b) (sought w) .leaves)
@@ -118,8 +123,8 @@ module _ (b : List ℕ) (s : SoundIndex b) (w : Question) (d : Suited (viewOf b 
     one-stamp-exact t a = found-one-stamp b s (sought w) suits one t a
 
     -- with both, 01's own answer
-    pub plain-exact : w .stages ≡ fullSet → (t : ℕ) → OneStampLive (viewOf b) t → found b (sought w) ≡ plainDue idRanking (viewOf b) (sought w)
-    plain-exact e t a = found-plain b s (sought w) e suits one t a
+    pub plain-exact : w .stages ≡ fullSet → w .days ≡ undated → (t : ℕ) → OneStampLive (viewOf b) t → found b (sought w) ≡ plainDue idRanking (viewOf b) (sought w)
+    plain-exact e f t a = found-plain b s (sought w) (leaves-none w e f) suits one t a
 
     pub read-ordered : leavesRead b (sought w) ≡ readingOrder (viewOf b) (sought w)
     read-ordered = leaves-read b s (sought w) suits one

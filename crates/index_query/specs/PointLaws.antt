@@ -8,6 +8,9 @@ use lib.IntN.{ℤ}
 use lib.ListN.{length, take, replicate, length-map, length-replicate}
 use Rattle.lists.specs.Basics.{All, none, also, if}
 use Rattle.lists.specs.Tests.{false-true}
+use Rattle.calendar.specs.declared.Window.{Window}
+use Rattle.calendar.specs.Days.{daysIf}
+use Rattle.calendar.specs.Counting.{windowOf}
 use Rattle.geometry.specs.Features.{weighted}
 use Rattle.geometry.specs.Numbers.{maxWeight}
 use Rattle.geometry_slices.specs.Questions.{featuresOf, askedOf, Packed, LaidOut}
@@ -66,8 +69,8 @@ module _ (p : List ℤ) (ws : List ℕ) (what : Criteria) (slots features : List
   abbrev laid : List ℕ
   laid = if (what .weighted) ws (replicate n 1)
 
-  pub query-for : (set : ℕ) → set ≡ what .stages → LaidOut (take n slots) (take n slots) (if (what .weighted) ws (replicate (length (take n slots)) 1)) features → QueryFor (questionOf p ws what) (record { features = features; d = n; k = what .k; choice = record { stages = set } })
-  query-for set e h =
+  pub query-for : (set : ℕ) → set ≡ what .stages → (window : Window) → window ≡ windowOf (daysIf (what .dated) (what .dates)) → LaidOut (take n slots) (take n slots) (if (what .weighted) ws (replicate (length (take n slots)) 1)) features → QueryFor (questionOf p ws what) (record { features = features; d = n; k = what .k; choice = record { stages = set; window = window } })
+  query-for set e window f h =
       let asked = take (48 + n) features in
       let cut : take (48 + length (take n slots)) features ≡ asked = ap (λ (m : ℕ). take (48 + m) features) own-length in
       let same : askedOf asked ≡ weighted laid p =
@@ -79,5 +82,5 @@ module _ (p : List ℤ) (ws : List ℕ) (what : Criteria) (slots features : List
         few = can .most;
         seekable = seekable-point asked laid p (subst Packed cut (h .packed)) same (laid-length ws (what .weighted) n (can .weights))
             (laid-light ws (what .weighted) n (can .light)) (in-range p (can .ranges)) (can .features);
-        is = λ i. record { features = (same ∙ laid-features ws (what .weighted) p) i; k = what .k; choice = record { stages = e i } };
+        is = λ i. record { features = (same ∙ laid-features ws (what .weighted) p) i; k = what .k; choice = record { stages = e i; window = f i } };
       }

@@ -5,7 +5,10 @@ ghost use Prim.Native.Nat.{_≤_};
 ghost use lib.ListN.{length, replicate};
 ghost use Rattle.lists.specs.Basics.{if};
 ghost use Rattle.geometry_slices.specs.Questions.{LaidOut};
-ghost use Rattle.index_query.specs.Asking.{questionOf, Searchable, QueryFor};
+ghost use Rattle.index_query.specs.Asking.{nearestBy, questionOf, Searchable, QueryFor};
+use calendar::Date;
+use calendar::Dates;
+use calendar::window_of;
 use geometry::MAX_FEATURES;
 use geometry::points::slots_of;
 use geometry_slices::asked::ask;
@@ -13,10 +16,34 @@ use search::Query;
 use search_model::Choice;
 
 // What is asked of a point.
+#[repr(C)]
 pub struct Criteria {
     pub k: usize, // how many of its nearest
     pub stages: u8, // of which stages: bit s for stage s
     pub weighted: bool, // whether weights are carried
+    pub dated: bool, // whether recording days are named
+    pub dates: Dates, // from which date to which
+}
+
+// What is asked of a point without weights and without dates.
+pub fn nearest_of(k: usize, stages: u8) -> Criteria
+    ensures { λ r. ⌜ r ≡ nearestBy k stages ⌝ }
+{
+    let none = Date {
+        year: 0,
+        month: 0,
+        day: 0,
+    };
+    Criteria {
+        k: k,
+        stages: stages,
+        weighted: false,
+        dated: false,
+        dates: Dates {
+            first: none,
+            last: none,
+        },
+    }
 }
 
 // The features of a point whose coordinates are as stored: each of the weight carried for it, or of weight 1.
@@ -42,6 +69,7 @@ pub fn query_of(point: &[i16], weights: &[u16], what: Criteria) -> Query
     let features = features_by(&slots[..n], weights, what.weighted);
     let choice = Choice {
         stages: what.stages,
+        window: window_of(what.dated, what.dates),
     };
     Query {
         features: features,

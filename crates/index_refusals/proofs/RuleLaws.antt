@@ -9,13 +9,15 @@ use lib.IntN.{ℤ}
 use lib.ListN.{length, getD}
 use Rattle.lists.specs.Basics.{All}
 use Rattle.lists.specs.Tests.{false-true, decide, three}
+use Rattle.calendar.specs.declared.Dates.{Dates}
+use Rattle.calendar.specs.Days.{dated, daysIf}
 use Rattle.geometry.specs.Stored.{inRange}
 use Rattle.pagestore.specs.Store.{viewOf, fieldAt, features, total}
 use Rattle.geometry.specs.Numbers.{maxWeight}
 use Rattle.index_query.specs.Asking.{Weights, weightsIf, Question, AsMany, Light}
 use Rattle.tree_model.specs.Sound.{maxStage}
 use Rattle.index_refusals.specs.declared.Epoch.{Epoch}
-use Rattle.index_refusals.specs.Refusals.{Rule, First, badFeatures, badCoordinate, badWeight, zeroId, badStage, askedRules}
+use Rattle.index_refusals.specs.Refusals.{Rule, First, badFeatures, badCoordinate, badWeight, zeroId, badStage, dayRules, askedRules}
 use Rattle.index_refusals.specs.RefusalLaws.{Hold, numbered, all-hold, refused-before, refused-after, later}
 use Rattle.lists.specs.Judges.{Decides, pass, fault}
 use Rattle.index_refusals.specs.Trusted.{Suits, trustedNumber, trustedPoint, trustedInsert, trustedQuestion, weighingRules, pairRules}
@@ -67,6 +69,17 @@ module _ (ws : List ℕ) where
   -- one weight more
   pub light-more : (m : ℕ) → ((i : ℕ) → i < m → getD ws i 0 ≤ maxWeight) → getD ws m 0 ≤ maxWeight → (i : ℕ) → i < m + 1 → getD ws i 0 ≤ maxWeight
   light-more m h l i k = decide i m (λ e. rw e l) (λ n. h i (omega (arith, n)))
+
+-- ---- DATES
+
+module _ (dates : Dates) where
+  pub days-none : (t : Bool) → t ≡ false → First (dayRules (daysIf t dates)) 0
+  days-none true e = false-true (sym e)
+  days-none false e = inr (tt, inr (tt, refl))
+
+  pub days-given : (t : Bool) → t ≡ true → (n : ℕ) → First (dayRules (dated dates)) n → First (dayRules (daysIf t dates)) n
+  days-given true e n f = f
+  days-given false e n f = false-true e
 
 -- ---- RULES OF WHICH NONE REFUSES
 

@@ -12,6 +12,7 @@ use borrow.Author.Tests.{leb-true}
 use Rattle.lists.specs.Basics.{if}
 use Rattle.lists.specs.Counts.{mult, mult-more, absent}
 use Rattle.lists.specs.Tests.{false-true}
+use Rattle.calendar.specs.Days.{InCalendars, InOrder}
 use Rattle.geometry.specs.Stored.{inRange}
 use Rattle.pagestore.specs.Store.{viewOf}
 use Rattle.tree_model.specs.Sound.{RecordOk, SoundIndex}
@@ -31,12 +32,13 @@ first-one (rule ∷ rules) m n (inr e) (inr f) = first-one rules m n (e .1) (f .
 
 -- ---- THE NUMBERS
 
--- the order of each act (01, "Order", without 12: Q-7; 14 after a question's 4: Q-1; 15 after an insert's 5, 16 after a question's 11: Q-2)
+-- the order of each act (01, "Order", without 12: Q-7; 14 after a question's 4: Q-1; 15 after an insert's 5, 16 after a question's 11: Q-2;
+-- 17 and 18 after 16: Q-4)
 pub orders : (bytes d : ℕ) (b : List ℕ) (e : Epoch) (i : ℕ) (p : List ℤ) (w : Question) (n : ℕ)
     → (numbers (makeRules bytes d) ≡ 1 ∷ 3 ∷ [])
     × (numbers (insertRules b e p) ≡ 1 ∷ 2 ∷ 3 ∷ 4 ∷ 5 ∷ 15 ∷ 6 ∷ 8 ∷ 9 ∷ [])
     × (numbers (deleteRules b i) ≡ 1 ∷ 2 ∷ 5 ∷ 7 ∷ [])
-    × (numbers (questionRules b w n) ≡ 1 ∷ 2 ∷ 3 ∷ 4 ∷ 14 ∷ 10 ∷ 11 ∷ 16 ∷ [])
+    × (numbers (questionRules b w n) ≡ 1 ∷ 2 ∷ 3 ∷ 4 ∷ 14 ∷ 10 ∷ 11 ∷ 16 ∷ 17 ∷ 18 ∷ [])
     × (numbers (checkRules b) ≡ 1 ∷ 2 ∷ [])
 orders bytes d b e i p w n = (refl, refl, refl, refl, refl)
 
@@ -113,13 +115,15 @@ pub record Carried (d : ℕ) (w : Question) (n : ℕ) : Type 0 where
   pub most : w .k ≤ maxRows
   pub lent : w .k ≤ n
   pub set : (1 ≤ w .stages) × (w .stages ≤ fullSet)
+  pub dates : InCalendars (w .days)
+  pub order : InOrder (w .days)
 
 pub asked-carried : (d : ℕ) (w : Question) (n : ℕ) → Suited d w → inRange (w .point) ≡ true → Light (w .weights) → Hold (askedRules w n) → Carried d w n
-asked-carried d w n e r l h = record { features = e; ranges = r; light = l; some = h .0 .0; most = h .0 .1; lent = h .1 .0; set = h .1 .1 .0 }
+asked-carried d w n e r l h = record { features = e; ranges = r; light = l; some = h .0 .0; most = h .0 .1; lent = h .1 .0; set = h .1 .1 .0; dates = h .1 .1 .1 .0; order = h .1 .1 .1 .1 .0 }
 
 -- and conversely
 pub carried-asked : (d : ℕ) (w : Question) (n : ℕ) → Carried d w n → Hold (askedRules w n)
-carried-asked d w n h = ((h .some, h .most), (h .lent, (h .set, tt)))
+carried-asked d w n h = ((h .some, h .most), (h .lent, (h .set, (h .dates, (h .order, tt)))))
 
 module _ (b : List ℕ) (w : Question) (n : ℕ) (h : First (questionRules b w n) 0) where
   pub question-sound : SoundIndex b

@@ -8,6 +8,7 @@ use Prim.Native.Nat.{ℕ, _≤_, _<_}
 use lib.IntN.{ℤ}
 use lib.ListN.{length}
 use Rattle.lists.specs.Counts.{mult}
+use Rattle.calendar.specs.Days.{Days, InCalendars, InOrder}
 use Rattle.geometry.specs.Stored.{slotsOf, inRange}
 use Rattle.geometry.specs.Numbers.{maxFeatures}
 use Rattle.pagestore_page.specs.declared.Record.{Record}
@@ -85,6 +86,12 @@ badStage = 15
 abbrev pub badStageSet : ℕ
 badStageSet = 16
 
+abbrev pub badDate : ℕ
+badDate = 17
+
+abbrev pub datesReversed : ℕ
+datesReversed = 18
+
 -- b: the bytes lent. d: features. e: an epoch. i: an identifier. p: a point. w: a question. n: rows lent.
 
 abbrev pub makeRules : ℕ → ℕ → List Rule
@@ -114,13 +121,20 @@ deleteRules b i =
     ∷ (notLive, 0 < liveTimes b i)
     ∷ []
 
+-- those of the recording days that a question names (02, Q-4)
+abbrev pub dayRules : Days → List Rule
+dayRules days =
+    (badDate, InCalendars days)
+    ∷ (datesReversed, InOrder days)
+    ∷ []
+
 -- those of a question that look at no index and not at its point or its weights
 abbrev pub askedRules : Question → ℕ → List Rule
 askedRules w n =
     (badK, (1 ≤ w .k) × (w .k ≤ maxRows))
     ∷ (fewRows, w .k ≤ n)
     ∷ (badStageSet, (1 ≤ w .stages) × (w .stages ≤ fullSet))
-    ∷ []
+    ∷ dayRules (w .days)
 
 abbrev pub questionRules : List ℕ → Question → ℕ → List Rule
 questionRules b w n =

@@ -9,10 +9,14 @@ ghost use Rattle.pagestore.specs.Store.{freeAt};
 ghost use Rattle.tree_model.specs.Sound.{Permitted};
 ghost use Rattle.lists.specs.Basics.{All};
 ghost use Rattle.geometry.specs.Numbers.{maxWeight};
+ghost use Rattle.calendar.specs.Days.{daysIf};
 ghost use Rattle.index_query.specs.Asking.{weightsIf, AsMany, Light, questionOf};
-ghost use Rattle.index_refusals.specs.Refusals.{First, makeRules, recordOf};
+ghost use Rattle.index_refusals.specs.Refusals.{First, makeRules, dayRules, recordOf};
 ghost use Rattle.lists.specs.Judges.{Decides};
 ghost use Rattle.index_refusals.specs.Trusted.{trustedNumber, trustedPoint, weighingRules, pairRules, epochRules, roomRules, trustedInsert, trustedQuestion};
+use calendar::Dates;
+use calendar::comes_before;
+use calendar::in_calendar;
 use geometry::MAX_FEATURES;
 use geometry::MAX_WEIGHT;
 use geometry::points::slots_of;
@@ -64,6 +68,10 @@ pub const BAD_WEIGHT: u32 = 14; // a weight is above 1,000
 pub const BAD_STAGE: u32 = 15; // the stage is above 5
 
 pub const BAD_STAGE_SET: u32 = 16; // the stage set is 0 or above 63
+
+pub const BAD_DATE: u32 = 17; // a date does not exist or lies outside 1 January 2000 to 31 December 2099
+
+pub const DATES_REVERSED: u32 = 18; // the last date is before the first
 
 // What an insert brings besides its point: the identifier, the stage, and the stamp, seconds since 1 January 2000 00:00 by the lab clock.
 pub struct Epoch {
@@ -203,6 +211,25 @@ fn refuse_weighing(index: &[u8], point: &[i16], weights: &[u16], weighted: bool)
     0
 }
 
+// The first of 17 and 18 that applies to the dates, where they are given.
+fn refuse_days(dated: bool, dates: Dates) -> u32
+    ensures { λ r. ⌜ First (dayRules (daysIf dated dates)) r ⌝ }
+{
+    if !dated {
+        return 0;
+    }
+    if !in_calendar(dates.first) {
+        return BAD_DATE;
+    }
+    if !in_calendar(dates.last) {
+        return BAD_DATE;
+    }
+    if comes_before(dates.last, dates.first) {
+        return DATES_REVERSED;
+    }
+    0
+}
+
 // The number of a question with some rows lent.
 pub fn refuse_question(
     index: &[u8],
@@ -232,7 +259,7 @@ pub fn refuse_question(
     if ALL_STAGES < what.stages {
         return BAD_STAGE_SET;
     }
-    0
+    refuse_days(what.dated, what.dates)
 }
 
 // The record of an epoch and its point.

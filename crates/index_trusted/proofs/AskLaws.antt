@@ -81,4 +81,4 @@ module _ (b : List ℕ) (w : Question) (lent n : ℕ) (f : First (trustedQuestio
 
   -- and what is found on a sound index
   pub trusted-answers : AnswersIfSound b w (found b (sought w))
-  trusted-answers s = let c = trusted-carried b w lent (subst (First (trustedQuestion b w lent)) e f) in search-answers b s w (c .features) (c .some)
+  trusted-answers s = let c = trusted-carried b w lent (subst (First (trustedQuestion b w lent)) e f) in search-answers b s w (c .features) (c .some) (c .dates)

@@ -21,3 +21,4 @@ pub mod Leading
 pub mod Lengths
 pub mod Equal
 pub mod Judges
+pub mod Below

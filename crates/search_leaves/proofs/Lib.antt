@@ -1,4 +1,4 @@
 pub mod WordLaws
 pub mod ColumnLaws
 pub mod LeafLaws
-pub mod StageLaws
+pub mod CandidateLaws

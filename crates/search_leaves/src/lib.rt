@@ -14,6 +14,7 @@ ghost use Rattle.search_leaves.specs.Offering.{Tells, Offers, OfferedRec
 ghost use Rattle.pagestore_page.specs.Layout.{maxItems, pageSize};
 use crate::columns::add_columns;
 use crate::columns::add_weighted_columns;
+use calendar::in_window;
 use geometry_slices::REACHES_FROM;
 use geometry_slices::WEIGHTS_FROM;
 use pagestore::MAX_ITEMS;
@@ -103,7 +104,10 @@ fn is_candidate(page: &[u8], i: usize, choice: Choice) -> bool
     requires { ⌜ (length (now page) ≡ pageSize) × (i < maxItems) ⌝ }
     ensures { λ r. ⌜ Tells (now (page .entry)) i choice r ⌝ }
 {
-    in_stages(choice.stages, read_stage(page, i))
+    if !in_stages(choice.stages, read_stage(page, i)) {
+        return false;
+    }
+    in_window(choice.window, read_stamp(page, i))
 }
 
 // The row of the record in slot i of a leaf page at a position, whose distance is told.

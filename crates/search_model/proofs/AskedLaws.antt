@@ -1,6 +1,6 @@
 -- What is asked: a set of stages by its marks, the full set, a question for a point suits an index of as many features, and its tables can be made.
 use mathlib.Core.Path.{_≡_, refl, sym, ap, _∙_}
-use mathlib.Core.Bool.{Bool, true, false}
+use mathlib.Core.Bool.{Bool, true, false, _&&_}
 use mathlib.Core.List.{List, [], _∷_, map}
 use Prim.Native.Nat.{ℕ, zero, suc, _+_, _*_, _/_, _%_, _^_, _≤_, _<_}
 use native.Mathlib.Omega.{arith}
@@ -14,6 +14,7 @@ use Rattle.lists.specs.Tests.{by-cases}
 use Rattle.lists.specs.Choices.{indicator-le}
 use Rattle.lists.specs.Sorting.{filter}
 use Rattle.lists.specs.SortingLaws.{filter-all}
+use Rattle.calendar.proofs.WindowLaws.{window-open}
 use Rattle.geometry.specs.Points.{InRange}
 use Rattle.geometry.specs.Features.{Feature, weighted}
 use Rattle.geometry.specs.Numbers.{maxWeight}
@@ -26,7 +27,7 @@ use Rattle.geometry.proofs.WeightLaws.{weighted-length, weighted-ordered, weigh
 use Rattle.pagestore_page.specs.declared.Record.{Record}
 use Rattle.tree_model.specs.Sound.{maxStage, RecordOk}
 use Rattle.search_model.specs.declared.Choice.{Choice}
-use Rattle.search_model.specs.Asked.{Asked, setOf, inStages, fullSet, plainly, candidate, Askable}
+use Rattle.search_model.specs.Asked.{Asked, setOf, inStages, fullSet, plainly, candidate, LeavesOutNone, Askable}
 use Rattle.search_model.specs.Asked.{lowEnds, weightsIn, Seekable}
 use Rattle.search_model.proofs.RecordLaws.{in-range}
 
@@ -80,10 +81,15 @@ full-marks s h =
     let all : fullSet ≡ setOf (λ s. true) = omega arith in
     rw all (marks-read (λ s. true) s h)
 
--- so on a sound index each record is a candidate of a question for the full set
-pub candidates-full : (q : Asked) → q .choice .stages ≡ fullSet → (d : ℕ) (rs : List Record) → All (RecordOk d) rs → filter (candidate q) rs ≡ rs
+-- so on a sound index each record is a candidate of a question for the full set without dates
+full-candidate : (q : Asked) → LeavesOutNone (q .choice) → (r : Record) → r .stage ≤ maxStage → candidate q r ≡ true
 unfolding candidate
-candidates-full q e d rs a = filter-all (candidate q) rs (all-map (λ r (h : RecordOk d r). rw e (full-marks (r .stage) (h .stage))) a)
+full-candidate q e r h =
+    let staged : inStages (q .choice .stages) (r .stage) ≡ true = rw (e .0) (full-marks (r .stage) h) in
+    λ i. staged i && sym (window-open (q .choice .window) (r .stamp) (e .1)) i
+
+pub candidates-full : (q : Asked) → LeavesOutNone (q .choice) → (d : ℕ) (rs : List Record) → All (RecordOk d) rs → filter (candidate q) rs ≡ rs
+candidates-full q e d rs a = filter-all (candidate q) rs (all-map (λ r (h : RecordOk d r). full-candidate q e r (h .stage)) a)
 
 -- ---- A QUESTION FOR A POINT
 

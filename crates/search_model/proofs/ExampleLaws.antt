@@ -10,6 +10,7 @@ use Rattle.lists.specs.Basics.{All, none, also, rangeFrom}
 use Rattle.lists.specs.Sorting.{filter, count, insertBy, sort}
 use Rattle.lists.specs.Orders.{lex}
 use Rattle.lists.specs.Ascending.{headOr, lastOr}
+use Rattle.calendar.specs.Counting.{inWindow}
 use Rattle.geometry.specs.Points.{heightOf, axisAt, axisOf, pyramidOf}
 use Rattle.geometry.specs.Features.{gapOf, distTo, plain}
 use Rattle.geometry.specs.Slices.{sideBy, sliceBy, axisNo, signNo, sliceAt, leastFrom, leastIn, boundTo, boundOf}
@@ -17,7 +18,7 @@ use Rattle.geometry.specs.Stored.{pointOf, slotsOf}
 use Rattle.search_theory.specs.Nearest.{candidates, nearest, kth, inSet}
 use Rattle.pagestore.specs.Store.{viewOf}
 use Rattle.tree_model.specs.Trees.{Item, keyOf, firstKey, lastKey, leavesOf}
-use Rattle.search_model.specs.Asked.{Asked, inStages, fullSet, plainly, distanceTo, candidate, spanBound}
+use Rattle.search_model.specs.Asked.{Asked, inStages, everyRecord, plainly, distanceTo, candidate, spanBound}
 use Rattle.search_model.specs.Branches.{rowOf, rowsAmong}
 use Rattle.search_model.specs.Visit.{ranking, Answer}
 use Rattle.search_model.specs.Questions.{rowsFrom, rowsOf, leafBound, toReadBy}
@@ -30,7 +31,7 @@ abbrev pair : (ℕ → ℕ) → ℕ → ℕ → List (Item 1)
 pair stamp a b = (a, map (recordNo stamp) (rangeFrom 1 9)) ∷ (b, map (recordNo stamp) (rangeFrom 10 8)) ∷ []
 
 abbrev asked : ℕ → ℕ → Asked
-asked n k = plainly (pos n ∷ []) k (record { stages = fullSet })
+asked n k = plainly (pos n ∷ []) k everyRecord
 
 -- the identifiers that demand 2 calls for, and the number of leaves that demand 3 does
 abbrev rowsFor : (ℕ → ℕ) → ℕ → ℕ → ℕ → ℕ → List ℕ
@@ -54,7 +55,7 @@ holds stamp n k rows read one e f b s h =
 
 -- every example of the list holds
 pub answers-hold : All (Holds unstamped) examples
-unfolding rangeFrom filter count insertBy sort lex headOr lastOr heightOf axisAt axisOf pyramidOf gapOf distTo plain sideBy sliceBy axisNo signNo sliceAt leastFrom leastIn boundTo boundOf pointOf slotsOf candidates nearest kth inSet keyOf firstKey lastKey distanceTo inStages candidate spanBound rowOf rowsAmong rowsFrom leafBound recordNo
+unfolding rangeFrom filter count insertBy sort lex headOr lastOr heightOf axisAt axisOf pyramidOf gapOf distTo plain sideBy sliceBy axisNo signNo sliceAt leastFrom leastIn boundTo boundOf pointOf slotsOf candidates nearest kth inSet keyOf firstKey lastKey distanceTo inStages inWindow candidate spanBound rowOf rowsAmong rowsFrom leafBound recordNo
 answers-hold =
     also (holds unstamped 9 1 (9 ∷ []) 1 (lit≤ tt) (λ a b. refl) (λ a b. refl))
     (also (holds unstamped 9 2 (9 ∷ 8 ∷ []) 2 (lit≤ tt) (λ a b. refl) (λ a b. refl))
@@ -64,7 +65,7 @@ answers-hold =
     none))))
 
 pub stamps-hold : All (Holds mixed) stampedExamples
-unfolding rangeFrom filter count insertBy sort lex headOr lastOr heightOf axisAt axisOf pyramidOf gapOf distTo plain sideBy sliceBy axisNo signNo sliceAt leastFrom leastIn boundTo boundOf pointOf slotsOf candidates nearest kth inSet keyOf firstKey lastKey distanceTo inStages candidate spanBound rowOf rowsAmong rowsFrom leafBound recordNo
+unfolding rangeFrom filter count insertBy sort lex headOr lastOr heightOf axisAt axisOf pyramidOf gapOf distTo plain sideBy sliceBy axisNo signNo sliceAt leastFrom leastIn boundTo boundOf pointOf slotsOf candidates nearest kth inSet keyOf firstKey lastKey distanceTo inStages inWindow candidate spanBound rowOf rowsAmong rowsFrom leafBound recordNo
 stamps-hold =
     also (holds mixed 9 6 (9 ∷ 8 ∷ 10 ∷ 7 ∷ 11 ∷ 12 ∷ []) 2 (lit≤ tt) (λ a b. refl) (λ a b. refl))
     (also (holds mixed 9 18 (9 ∷ 8 ∷ 10 ∷ 7 ∷ 11 ∷ 12 ∷ 6 ∷ 13 ∷ 5 ∷ 4 ∷ 14 ∷ 3 ∷ 15 ∷ 2 ∷ 16 ∷ 17 ∷ 1 ∷ []) 2 (lit≤ tt) (λ a b. refl) (λ a b. refl))

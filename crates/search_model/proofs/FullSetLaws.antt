@@ -1,4 +1,4 @@
--- The full set returns what 01 does (02), with Q-9's tie rule: on a sound index each live record is then a candidate.
+-- The full set without dates returns what 01 does (02), with Q-9's tie rule: on a sound index each live record is then a candidate.
 use mathlib.Core.Path.{_≡_, refl, ap, ap₂, _∙_}
 use mathlib.Core.Bool.{Bool, _&&_}
 use mathlib.Core.List.{List, [], _∷_, _++_, map}
@@ -14,7 +14,7 @@ use Rattle.pagestore.specs.Store.{View, viewOf}
 use Rattle.tree_model.specs.Trees.{Item, treeOf, live, leavesOf}
 use Rattle.tree_model.specs.Sound.{RecordOk, SoundIndex}
 use Rattle.search_model.specs.declared.Choice.{Choice}
-use Rattle.search_model.specs.Asked.{Asked, distanceTo, spanBound, fullSet, Askable}
+use Rattle.search_model.specs.Asked.{Asked, distanceTo, spanBound, LeavesOutNone, Askable}
 use Rattle.search_model.specs.Branches.{rowOf, rowsAmong}
 use Rattle.search_model.specs.Visit.{ranking, found}
 use Rattle.search_model.specs.Questions.{rowsFrom, rowsOf, leafBound, liveCandidates, toReadBy, toRead}
@@ -24,7 +24,7 @@ use Rattle.search_model.proofs.FrameLaws.{parts-right}
 use Rattle.search_model.proofs.SoundLaws.{leafItems, records-leaves}
 use Rattle.search_model.proofs.ExactLaws.{found-exact}
 
-rows-full : (q : Asked) → q .choice .stages ≡ fullSet → (d p : ℕ) (us : List (Item 1)) → All (λ u. All (RecordOk d) (leafItems u)) us → rowsFrom q p us ≡ allRowsFrom q p us
+rows-full : (q : Asked) → LeavesOutNone (q .choice) → (d p : ℕ) (us : List (Item 1)) → All (λ u. All (RecordOk d) (leafItems u)) us → rowsFrom q p us ≡ allRowsFrom q p us
 unfolding rowsFrom rowsAmong allRowsFrom
 rows-full q e d p [] none = refl
 rows-full q e d p (u ∷ us) (also h a) =
@@ -48,7 +48,7 @@ module _ (r : Ranking Row) (fs : List Feature) (k : ℕ) (c e : Choice) where
   unfolding allRows
   plain-choice v = λ i. record { rows = nearest r k (same-rows 0 (leavesOf v) i); leaves = count (same-leaves v i) (leavesOf v) }
 
-module _ (b : List ℕ) (s : SoundIndex b) (q : Asked) (e : q .choice .stages ≡ fullSet) where
+module _ (b : List ℕ) (s : SoundIndex b) (q : Asked) (e : LeavesOutNone (q .choice)) where
   -- each live record is looked for
   pub live-full : liveCandidates (viewOf b) q ≡ live (viewOf b)
   live-full = candidates-full q e (viewOf b .d) (live (viewOf b)) (s .ranges)

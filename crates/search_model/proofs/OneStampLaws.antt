@@ -17,18 +17,18 @@ use Rattle.search_rows.specs.RowLaws.{one-stamp, tie-idle}
 use Rattle.pagestore.specs.Store.{View, viewOf}
 use Rattle.tree_model.specs.Trees.{Item, treeOf, live, leavesOf}
 use Rattle.tree_model.specs.Sound.{SoundIndex}
-use Rattle.search_model.specs.Asked.{Asked, candidate, fullSet, Askable}
+use Rattle.search_model.specs.Asked.{Asked, candidate, LeavesOutNone, Askable}
 use Rattle.search_model.specs.Branches.{rowOf, rowsAmong}
 use Rattle.search_model.specs.Visit.{ranking, Answer, found}
-use Rattle.search_model.specs.Questions.{rowsFrom, rowsOf, leafBound, toReadBy, toRead}
+use Rattle.search_model.specs.Questions.{rowsFrom, rowsOf, leafBound, liveCandidates, toReadBy, toRead}
 use Rattle.search_model.specs.FullSet.{inPlainSet, plainDue}
 use Rattle.search_model.specs.OneStamp.{idRanking, dueById, OneStamp, OneStampLive}
 use Rattle.search_model.proofs.SoundLaws.{leafItems, records-leaves}
 use Rattle.search_model.proofs.ExactLaws.{found-exact}
 use Rattle.search_model.proofs.FullSetLaws.{all-rows}
 
-module _ (q : Asked) (s : ℕ) where
-  rows-stamp : (p : ℕ) (us : List (Item 1)) → All (λ r. r .stamp ≡ s) (filter (candidate q) (concatMap leafItems us)) → All (λ x. stamp x ≡ s) (rowsFrom q p us)
+module _ (q : Asked) (P : ℕ → Type 0) where
+  rows-stamp : (p : ℕ) (us : List (Item 1)) → All (λ r. P (r .stamp)) (filter (candidate q) (concatMap leafItems us)) → All (λ x. P (stamp x)) (rowsFrom q p us)
   unfolding rowsFrom rowsAmong rowOf concatMap filter
   rows-stamp p [] a = none
   rows-stamp p (u ∷ us) a =
@@ -37,13 +37,14 @@ module _ (q : Asked) (s : ℕ) where
       all-append (all-mapped (rowOf q p) (filter c (u .1)) (all-left (filter c (u .1)) (filter c (concatMap leafItems us)) b))
       (rows-stamp (suc p) us (all-right (filter c (u .1)) (filter c (concatMap leafItems us)) b))
 
-  -- the rows have the candidates' stamp
-  one-stamp-rows : (v : View) → OneStamp v q s → All (λ x. stamp x ≡ s) (rowsOf v q)
+  -- what holds of the candidates' stamps holds of the rows'
+  pub rows-stamped : (v : View) → All (λ r. P (r .stamp)) (liveCandidates v q) → All (λ x. P (stamp x)) (rowsOf v q)
   unfolding rowsOf leavesOf live
-  one-stamp-rows v a = rows-stamp 0 (leavesOf v) (rw (records-leaves (v .level) (treeOf v)) at a)
+  rows-stamped v a = rows-stamp 0 (leavesOf v) (rw (records-leaves (v .level) (treeOf v)) at a)
 
+module _ (q : Asked) (s : ℕ) where
   same-nearest : (v : View) → OneStamp v q s → nearest ranking (q .k) (rowsOf v q) ≡ nearest idRanking (q .k) (rowsOf v q)
-  same-nearest v a = one-stamp (λ x. true) s (q .k) (rowsOf v q) (one-stamp-rows v a)
+  same-nearest v a = one-stamp (λ x. true) s (q .k) (rowsOf v q) (rows-stamped q (λ n. n ≡ s) v a)
 
 -- ---- WHATEVER THE STAMPS
 
@@ -77,13 +78,13 @@ found-any-stamp b w q suits one =
 
 -- ---- ONE STAMP
 
--- found-one-stamp: whichever stages are asked for, the candidates having one stamp
+-- found-one-stamp: whichever stages and days are asked for, the candidates having one stamp
 pub found-one-stamp : (b : List ℕ) → SoundIndex b → (q : Asked) → Askable (viewOf b .d) q → 1 ≤ q .k → (s : ℕ) → OneStamp (viewOf b) q s → found b q ≡ dueById (viewOf b) q
 found-one-stamp b w q suits one s a =
     found-exact b w q suits one ∙ (λ i. record { rows = same-nearest q s (viewOf b) a i; leaves = count (same-set (viewOf b) q i) (leavesOf (viewOf b)) })
 
--- and with the full set 01's own answer
-pub found-plain : (b : List ℕ) → SoundIndex b → (q : Asked) → q .choice .stages ≡ fullSet → Askable (viewOf b .d) q → 1 ≤ q .k → (s : ℕ) → OneStampLive (viewOf b) s → found b q ≡ plainDue idRanking (viewOf b) q
+-- and with the full set and no dates 01's own answer
+pub found-plain : (b : List ℕ) → SoundIndex b → (q : Asked) → LeavesOutNone (q .choice) → Askable (viewOf b .d) q → 1 ≤ q .k → (s : ℕ) → OneStampLive (viewOf b) s → found b q ≡ plainDue idRanking (viewOf b) q
 unfolding toReadBy inPlainSet
 found-plain b w q e suits one s a =
     let v = viewOf b in

@@ -1,13 +1,15 @@
 -- What is asked, as one value, and what it means: how far a record is, whether it is looked for at all, and the bound of a span; the
 -- order of rows is `rowOrder`, of the crate search_rows. Every statement about a question goes over this value.
 use mathlib.Core.Path.{_≡_}
-use mathlib.Core.Bool.{Bool}
+use mathlib.Core.Bool.{Bool, false, _&&_}
 use mathlib.Core.List.{List}
 use Prim.Native.Nat.{ℕ, _+_, _*_, _/_, _%_, _^_, _≤_}
 use lib.Dec.{eqb}
 use lib.ListN.{length, take}
 use Rattle.lists.specs.Basics.{All, indicator}
 use lib.IntN.{ℤ}
+use Rattle.calendar.specs.Days.{undated}
+use Rattle.calendar.specs.Counting.{windowOf, inWindow}
 use Rattle.geometry.specs.declared.Key.{Key}
 use Rattle.geometry.specs.Features.{Feature, distTo, plain, weighted, Ordered}
 use Rattle.geometry.specs.Slices.{boundOf}
@@ -45,10 +47,17 @@ inStages set s = eqb (set / 2 ^ s % 2) 1
 abbrev pub fullSet : ℕ
 fullSet = 63
 
--- whether a record is looked for: its stage is in the set (02)
+-- whether a record is looked for: its stage is in the set, and its stamp in the window (02)
 unfoldable pub candidate : Asked → Record → Bool
-unfolding inStages
-candidate q r = inStages (q .choice .stages) (r .stage)
+unfolding inStages inWindow
+candidate q r = inStages (q .choice .stages) (r .stage) && inWindow (q .choice .window) (r .stamp)
+
+-- a choice that leaves out no record of a sound index: the full set, and no dates
+abbrev pub LeavesOutNone : Choice → Type 0
+LeavesOutNone c = (c .stages ≡ fullSet) × (c .window .bounded ≡ false)
+
+abbrev pub everyRecord : Choice
+everyRecord = record { stages = fullSet; window = windowOf undated }
 
 -- the bound (01) of the span from a first to a last key
 unfoldable pub spanBound : Asked → Key → Key → ℕ

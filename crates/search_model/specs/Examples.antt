@@ -9,7 +9,7 @@ use Rattle.pagestore_page.specs.declared.Record.{Record}
 use Rattle.pagestore.specs.Store.{View, viewOf}
 use Rattle.tree_model.specs.Trees.{leavesOf}
 use Rattle.tree_model.specs.Sound.{SoundIndex}
-use Rattle.search_model.specs.Asked.{Asked, fullSet, plainly}
+use Rattle.search_model.specs.Asked.{Asked, everyRecord, plainly}
 use Rattle.search_model.specs.Visit.{found}
 
 -- identifier n at n, with its stamp
@@ -31,7 +31,7 @@ pub record Example : Type 0 where
   pub read : ℕ
 
 abbrev pub asked : Example → Asked
-asked e = plainly (pos (e .point) ∷ []) (e .k) (record { stages = fullSet })
+asked e = plainly (pos (e .point) ∷ []) (e .k) everyRecord
 
 -- what an example says of every sound index with these leaves
 abbrev pub Holds : (ℕ → ℕ) → Example → Type 0

@@ -3,18 +3,16 @@
 // asks first; the lengths 2,047 and 2,048 are lent. The index of 2,048 bytes goes from act to act by value.
 ghost use mathlib.Core.Path.{_≡_};
 ghost use lib.ListN.{length};
+use crate::common::SHORTEST;
+use crate::common::answer_to;
 use index_answer::Answer;
-use index_query::Criteria;
+use index_query::nearest_of;
 use index_refusals::Epoch;
 use pagestore::PAGE_SIZE;
-use search_rows::MAX_ROWS;
 use test_parts::FULL_SET;
 use test_parts::answers::show_answer;
 use test_parts::show::line;
 use test_parts::show::text;
-
-// The bytes of the shortest index: 2 pages.
-pub const SHORTEST: usize = 2048;
 
 // 1 if a length is not permitted.
 fn refused_length(bytes: usize) -> u64 {
@@ -32,35 +30,11 @@ fn show_permitted() {
     line(b"length 16778240", refused_length(16778240), 1);
 }
 
-// A question that carries no weights.
-pub fn unweighted(k: usize, stages: u8) -> Criteria {
-    Criteria {
-        k: k,
-        stages: stages,
-        weighted: false,
-    }
-}
-
-// The answer to a question with so many rows lent.
-fn answer_to(index: &[u8], point: &[i16], k: usize, lent: usize) -> Answer {
-    let none = [0u16; 0];
-    let mut highs = [0u64; MAX_ROWS];
-    let mut lows = [0u64; MAX_ROWS];
-    index::question_outcome(
-        index,
-        point,
-        &none,
-        unweighted(k, FULL_SET),
-        lent,
-        &mut highs,
-        &mut lows,
-    )
-}
-
 // A question of two coordinates with some rows lent.
 fn ask(index: &[u8], x: i16, k: usize, lent: usize) -> Answer {
     let point = [x, 0];
-    answer_to(index, &point, k, lent)
+    let none = [0u16; 0];
+    answer_to(index, &point, &none, nearest_of(k, FULL_SET), lent)
 }
 
 fn try_question(what: &[u8], index: &[u8], x: i16, k: usize, lent: usize, said: u64) {
@@ -71,7 +45,8 @@ fn try_question(what: &[u8], index: &[u8], x: i16, k: usize, lent: usize, said: 
 // A question of one coordinate, in an index of two.
 fn try_short_question(what: &[u8], index: &[u8], said: u64) {
     let point = [0i16];
-    let answer = answer_to(index, &point, 0, 0);
+    let none = [0u16; 0];
+    let answer = answer_to(index, &point, &none, nearest_of(0, FULL_SET), 0);
     line(what, answer.code as u64, said);
 }
 

@@ -1,10 +1,10 @@
 // The public question, in rows and with a tally that the program lends.
 ghost use Prim.Native.Nat.{_≤_};
-use crate::codes::unweighted;
 use geometry::MAX_COORDINATE;
 use index::Returned;
 use index::ask;
 use index_answer::Tally;
+use index_query::nearest_of;
 use search_rows::MAX_ROWS;
 use search_rows::Row;
 use test_parts::FULL_SET;
@@ -22,7 +22,7 @@ fn ask_at(index: &[u8], n: u16, k: usize, rows: [Row; MAX_ROWS], tally: Tally) -
 {
     let point = [coordinate(MAX_COORDINATE + n)];
     let none = [0u16; 0];
-    ask(index, &point, &none, unweighted(k, FULL_SET), rows, tally)
+    ask(index, &point, &none, nearest_of(k, FULL_SET), rows, tally)
 }
 
 fn show_row_at(row: Row, id: u64, distance: u64, position: u64, stamp: u64) {

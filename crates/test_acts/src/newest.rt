@@ -1,12 +1,13 @@
 // Newest first among equals (Q-9), through the acts: points at one distance, in rows that the program lends. The index of 2,048 bytes goes from act to
 // act by value.
-use crate::codes::SHORTEST;
-use crate::codes::unweighted;
+use crate::common::SHORTEST;
+use crate::common::insert;
+use crate::common::made;
 use crate::lent::lent_rows;
 use crate::lent::no_tally;
 use index::Returned;
 use index::ask;
-use index_refusals::Epoch;
+use index_query::nearest_of;
 use search_rows::Row;
 use test_parts::FULL_SET;
 use test_parts::answers::show_answer;
@@ -15,42 +16,16 @@ use test_parts::show::line;
 use test_parts::show::ordered;
 use test_parts::show::text;
 
-fn insert(
-    index: [u8; SHORTEST],
-    what: &[u8],
-    id: u32,
-    stamp: u32,
-    point: &[i16],
-) -> [u8; SHORTEST] {
-    let epoch = Epoch {
-        id: id,
-        stage: 0,
-        stamp: stamp,
-    };
-    let mut bytes = index;
-    line(what, index::insert(&mut bytes, epoch, point) as u64, 0);
-    bytes
-}
-
 fn delete(index: [u8; SHORTEST], what: &[u8], id: u32) -> [u8; SHORTEST] {
     let mut bytes = index;
     line(what, index::delete(&mut bytes, id) as u64, 0);
     bytes
 }
 
-fn made() -> [u8; SHORTEST] {
-    let mut bytes = [0u8; SHORTEST];
-    line(
-        b"make in 2048 bytes, d 2",
-        index::make(&mut bytes, 2) as u64,
-        0,
-    );
-    bytes
-}
-
 // Five points at distance 25, two of them with stamp 1, and a farther one with the latest stamp.
 fn filled() -> [u8; SHORTEST] {
-    let a = insert(made(), b"insert of 1 with stamp 0", 1, 0, &[3i16, -4]);
+    let empty = made(b"make in 2048 bytes, d 2", 2);
+    let a = insert(empty, b"insert of 1 with stamp 0", 1, 0, &[3i16, -4]);
     let b = insert(a, b"insert of 6 with stamp 1", 6, 1, &[3i16, 4]);
     let c = insert(b, b"insert of 5 with stamp 1", 5, 1, &[4i16, -3]);
     let e = insert(c, b"insert of 7 with stamp 2", 7, 2, &[-5i16, 0]);
@@ -83,7 +58,7 @@ fn ask_centre(index: &[u8], k: usize) -> Returned {
         index,
         &point,
         &none,
-        unweighted(k, FULL_SET),
+        nearest_of(k, FULL_SET),
         lent_rows(),
         no_tally(),
     )

@@ -1,9 +1,10 @@
 // Stages, sets of stages and stamps (Q-2), through the acts: their refusals, and questions for some stages. The index of 2,048 bytes goes from act
 // to act by value.
-use crate::codes::SHORTEST;
 use crate::codes::changed;
-use crate::codes::unweighted;
+use crate::common::SHORTEST;
+use crate::common::answer_to;
 use index_query::Criteria;
+use index_query::nearest_of;
 use index_refusals::Epoch;
 use search_rows::MAX_ROWS;
 use search_rows::row_of;
@@ -34,24 +35,22 @@ fn refused_stages(index: [u8; SHORTEST]) -> [u8; SHORTEST] {
 
 fn try_set(what: &[u8], index: &[u8], asked: Criteria, lent: usize, said: u64) {
     let point = [0i16, 0];
-    let mut highs = [0u64; MAX_ROWS];
-    let mut lows = [0u64; MAX_ROWS];
     let none = [0u16; 0];
-    let answer = index::question_outcome(index, &point, &none, asked, lent, &mut highs, &mut lows);
+    let answer = answer_to(index, &point, &none, asked, lent);
     staged(what, answer.code as u64, said);
 }
 
 // 16 comes after 10 and 11.
 fn refused_sets(index: &[u8]) {
-    let none = unweighted(1, 0);
+    let none = nearest_of(1, 0);
     try_set(b"question with set 0", index, none, 64, 16);
-    let seventh = unweighted(1, 64);
+    let seventh = nearest_of(1, 64);
     try_set(b"question with set 64", index, seventh, 64, 16);
-    let eight = unweighted(1, 255);
+    let eight = nearest_of(1, 255);
     try_set(b"question with set 255", index, eight, 64, 16);
-    let k_zero = unweighted(0, 0);
+    let k_zero = nearest_of(0, 0);
     try_set(b"question with set 0, k 0", index, k_zero, 64, 10);
-    let three = unweighted(3, 0);
+    let three = nearest_of(3, 0);
     try_set(
         b"question with set 0, k 3, 2 rows lent",
         index,
@@ -95,9 +94,9 @@ fn ask_last_stage(index: &[u8]) {
         distance: 1000000,
     };
     text(b"from 1000, k 1, stage 5\n");
-    try_question(index, &point, unweighted(1, 32), said);
+    try_question(index, &point, nearest_of(1, 32), said);
     text(b"from 1000, k 2, stage 5\n");
-    try_question(index, &point, unweighted(2, 32), said);
+    try_question(index, &point, nearest_of(2, 32), said);
 }
 
 // No live record has stage 1: all leaves that hold records are read.
@@ -109,7 +108,7 @@ fn ask_missing(index: &[u8], point: &[i16], leaves: u64) {
         distance: 0,
     };
     text(b"from 0, k 1, stage 1\n");
-    try_question(index, point, unweighted(1, 2), said);
+    try_question(index, point, nearest_of(1, 2), said);
 }
 
 // On the index of 1 to 17, whose records have stage 0.
@@ -128,7 +127,7 @@ fn ask_other_stages(index: &[u8]) {
         distance: 1000000,
     };
     text(b"from 0, k 1, stages 0 to 4\n");
-    try_question(index, &point, unweighted(1, 31), said);
+    try_question(index, &point, nearest_of(1, 31), said);
     ask_missing(index, &point, 1);
 }
 

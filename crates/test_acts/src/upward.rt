@@ -2,12 +2,12 @@
 ghost use mathlib.Core.Path.{_≡_};
 ghost use Prim.Native.Nat.{_≤_, _<_};
 ghost use lib.ListN.{length};
-use crate::codes::unweighted;
 use crate::lent;
 use crate::stages;
 use crate::weights;
 use geometry::MAX_COORDINATE;
 use index_answer::Answer;
+use index_query::nearest_of;
 use index_refusals::Epoch;
 use pagestore::PAGE_SIZE;
 use pagestore::free_count;
@@ -24,15 +24,25 @@ use test_parts::places::coordinate;
 use test_parts::show::line;
 use test_parts::show::text;
 
+// The stamp of n: 0, or the midnight that ends n January 2000.
+fn stamp_of(n: u16, daily: bool) -> u32
+    requires { ⌜ n ≤ 17 ⌝ }
+{
+    if daily {
+        return 86400 * n as u32;
+    }
+    0
+}
+
 // Inserts identifier n at n.
-fn insert_one(index: &mut [u8], n: u16) -> u32
+fn insert_one(index: &mut [u8], n: u16, daily: bool) -> u32
     requires { ⌜ n ≤ 17 ⌝ }
 {
     let point = [coordinate(MAX_COORDINATE + n)];
     let epoch = Epoch {
         id: n as u32,
         stage: 0,
-        stamp: 0,
+        stamp: stamp_of(n, daily),
     };
     index::insert(index, epoch, &point)
 }
@@ -44,14 +54,14 @@ fn carried_out(code: u32) -> u64
 }
 
 // Inserts 1 to n. Returns how many were carried out.
-fn insert_up_to(index: &mut [u8], n: u16) -> u64
+fn insert_up_to(index: &mut [u8], n: u16, daily: bool) -> u64
     requires { ⌜ n ≤ 17 ⌝ }
 {
     let mut done: u64 = 0;
     let mut i: u16 = 0;
     while i < n {
         i += 1;
-        done += carried_out(insert_one(index, i));
+        done += carried_out(insert_one(index, i, daily));
     }
     done
 }
@@ -76,14 +86,14 @@ fn show_one(index: &[u8]) {
 }
 
 // The 17 inserts; `said` is what 01 says of the last one.
-fn fill(index: &mut [u8], said: u64) {
+pub fn fill(index: &mut [u8], daily: bool, said: u64) {
     line(b"make", index::make(index, 1) as u64, 0);
     line(
         b"inserts of 1 to 16 carried out",
-        insert_up_to(index, 16),
+        insert_up_to(index, 16, daily),
         16,
     );
-    line(b"insert of 17", insert_one(index, 17) as u64, said);
+    line(b"insert of 17", insert_one(index, 17, daily) as u64, said);
 }
 
 fn show_check(index: &[u8]) {
@@ -98,7 +108,7 @@ fn ask(index: &[u8], n: u16, k: usize, highs: &mut [u64], lows: &mut [u64]) -> A
 {
     let point = [coordinate(MAX_COORDINATE + n)];
     let none = [0u16; 0];
-    let what = unweighted(k, FULL_SET);
+    let what = nearest_of(k, FULL_SET);
     index::question_outcome(index, &point, &none, what, MAX_ROWS, highs, lows)
 }
 
@@ -141,20 +151,20 @@ fn delete_two(index: &mut [u8]) {
 
 // Space set free is used again.
 fn insert_again(index: &mut [u8]) {
-    line(b"insert of 16", insert_one(index, 16) as u64, 0);
-    line(b"insert of 17", insert_one(index, 17) as u64, 0);
+    line(b"insert of 16", insert_one(index, 16, false) as u64, 0);
+    line(b"insert of 17", insert_one(index, 17, false) as u64, 0);
     show_two(index, 9);
 }
 
 fn three_pages(index: &mut [u8]) {
     text(b"3 pages, d 1, identifiers 1 to 17 at 1 to 17\n");
-    fill(index, 9);
+    fill(index, false, 9);
     show_check(index);
 }
 
 fn four_pages(index: &mut [u8]) {
     text(b"4 pages, the same\n");
-    fill(index, 0);
+    fill(index, false, 0);
     show_check(index);
     show_two(index, 9);
 }

@@ -1,45 +1,32 @@
 // Weights (Q-1), through the acts: their refusals, and questions whose rows they order. An index of 2,048 bytes goes from act to act by value.
 ghost use Prim.Native.Nat.{_≤_};
-use crate::codes::SHORTEST;
 use crate::codes::damage;
-use crate::codes::unweighted;
+use crate::common::SHORTEST;
+use crate::common::answer_to;
+use crate::common::insert;
+use crate::common::made;
 use crate::lent::lent_rows;
 use crate::lent::no_tally;
 use geometry::MAX_FEATURES;
 use index::Returned;
 use index::ask;
 use index_query::Criteria;
-use index_refusals::Epoch;
+use index_query::nearest_of;
 use search_rows::MAX_ROWS;
 use search_rows::Row;
 use search_rows::row_of;
 use test_parts::FULL_SET;
 use test_parts::answers::show_answer;
 use test_parts::answers::show_tally;
-use test_parts::show::line;
 use test_parts::show::number;
 use test_parts::show::text;
-
-// What was done, what came of it, and what Q-1 says.
-fn weighed(what: &[u8], came: u64, said: u64) {
-    text(what);
-    text(b": ");
-    number(came);
-    text(b", Q-1 says ");
-    number(said);
-    if came != said {
-        text(b" DIFFERS");
-    }
-    text(b"\n");
-}
+use test_parts::show::weighed;
 
 // A question that carries weights.
 fn weighted(k: usize, stages: u8) -> Criteria {
-    Criteria {
-        k: k,
-        stages: stages,
-        weighted: true,
-    }
+    let mut asked = nearest_of(k, stages);
+    asked.weighted = true;
+    asked
 }
 
 // Refusals, in the index with three points at the ends of the ranges
@@ -55,17 +42,7 @@ fn try_code(
     said: u64,
 ) {
     let point = [x, 0];
-    let mut highs = [0u64; MAX_ROWS];
-    let mut lows = [0u64; MAX_ROWS];
-    let answer = index::question_outcome(
-        index,
-        &point,
-        weights,
-        asked,
-        lent,
-        &mut highs,
-        &mut lows,
-    );
+    let answer = answer_to(index, &point, weights, asked, lent);
     weighed(what, answer.code as u64, said);
 }
 
@@ -108,17 +85,7 @@ fn refused_both(index: &[u8]) {
     try_one(b"question with 3 weights of 1001", index, 0, &above, 3);
     let two = [1u16, 1];
     let point = [0i16];
-    let mut highs = [0u64; MAX_ROWS];
-    let mut lows = [0u64; MAX_ROWS];
-    let answer = index::question_outcome(
-        index,
-        &point,
-        &two,
-        weighted(1, FULL_SET),
-        64,
-        &mut highs,
-        &mut lows,
-    );
+    let answer = answer_to(index, &point, &two, weighted(1, FULL_SET), 64);
     weighed(
         b"question of 1 coordinate with 2 weights",
         answer.code as u64,
@@ -238,7 +205,7 @@ fn try_disregarded(what: &[u8], index: &[u8], weights: &[u16]) {
         index,
         &point,
         weights,
-        unweighted(1, FULL_SET),
+        nearest_of(1, FULL_SET),
         64,
         &mut highs,
         &mut lows,
@@ -264,29 +231,6 @@ fn disregarded(index: &[u8]) {
 fn show_row(row: Row, id: u64, distance: u64) {
     weighed(b"  identifier of a row", row.id as u64, id);
     weighed(b"  its distance", row.distance, distance);
-}
-
-fn insert(
-    index: [u8; SHORTEST],
-    what: &[u8],
-    id: u32,
-    stamp: u32,
-    point: &[i16],
-) -> [u8; SHORTEST] {
-    let epoch = Epoch {
-        id: id,
-        stage: 0,
-        stamp: stamp,
-    };
-    let mut bytes = index;
-    line(what, index::insert(&mut bytes, epoch, point) as u64, 0);
-    bytes
-}
-
-fn made(what: &[u8], d: u8) -> [u8; SHORTEST] {
-    let mut bytes = [0u8; SHORTEST];
-    line(what, index::make(&mut bytes, d) as u64, 0);
-    bytes
 }
 
 // Four points, two of them with stamp 20.
@@ -329,7 +273,7 @@ fn try_weights(index: &[u8], x: u16, y: u16, ids: [u64; 4], distances: [u64; 4])
 fn order_same(index: &[u8]) {
     let none = [0u16; 0];
     text(b"from 0, k 4, no weights\n");
-    let kept = ask_centre(index, &none, unweighted(4, FULL_SET));
+    let kept = ask_centre(index, &none, nearest_of(4, FULL_SET));
     show_four(kept, [3, 1, 4, 2], [8, 9, 10, 16]);
     try_weights(index, 1, 1, [3, 1, 4, 2], [8, 9, 10, 16]);
     try_weights(index, 1000, 1000, [3, 1, 4, 2], [8000, 9000, 10000, 16000]);

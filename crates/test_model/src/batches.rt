@@ -2,6 +2,9 @@
 ghost use Prim.Native.Nat.{_<_};
 use crate::Batch;
 use crate::Seen;
+use crate::Wanted;
+use crate::days::any_day;
+use crate::days::drawn_days;
 use crate::numbers::CLUSTERED;
 use crate::numbers::TIED;
 use crate::numbers::WIDE;
@@ -10,6 +13,13 @@ use search_rows::MAX_ROWS;
 use std::num::wrapping_add_u64;
 use test_parts::FULL_SET;
 use test_parts::show;
+
+// The questions of a round are asked in three ways: without weights, with them, and with dates, every other time with weights.
+pub const PLAIN: u32 = 0;
+
+pub const WEIGHTED: u32 = 1;
+
+pub const DATED: u32 = 2;
 
 // Every fourth question of a batch is asked from anywhere.
 pub fn asked_kind(kind: u32, seed: u64) -> u32 {
@@ -39,6 +49,19 @@ pub fn asked_stages(seed: u64) -> u8 {
         return single(drawn % 6);
     }
     FULL_SET
+}
+
+// The points that a question is about.
+pub fn asked_points(way: u32, seed: u64) -> Wanted {
+    let stages = asked_stages(seed);
+    let mut days = any_day();
+    if way == DATED {
+        days = drawn_days(seed);
+    }
+    Wanted {
+        stages: stages,
+        days: days,
+    }
 }
 
 pub fn both(a: Seen, b: Seen) -> Seen {
@@ -91,5 +114,12 @@ pub fn report_weighted(b: Batch, seen: Seen, n: u32, differences: u64) {
     show_seen(b, seen);
     show::field(b"ones beside none", n as u64);
     show::field(b"differences", differences);
+    show::text(b"\n");
+}
+
+// The same questions with dates.
+pub fn report_dated(b: Batch, seen: Seen) {
+    show::text(b"  with dates:");
+    show_seen(b, seen);
     show::text(b"\n");
 }

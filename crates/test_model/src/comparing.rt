@@ -5,6 +5,7 @@ ghost use lib.ListN.{length};
 ghost use Rattle.test_model.specs.Comparing.{Counts, Lent, Points, Weighs, pairs};
 use crate::Asked;
 use crate::Seen;
+use crate::Wanted;
 use crate::leaves::fill_table;
 use crate::leaves::holds;
 use crate::leaves::set_count;
@@ -137,7 +138,7 @@ pub fn compare(
     }
 }
 
-// Works out what a full scan says of the point q, with a weight for each coordinate, and some stages.
+// Works out what a full scan says of the point q, with a weight for each coordinate, and the points wanted.
 pub fn prepare(
     distances: &mut [u64],
     table: &mut [u64],
@@ -145,13 +146,13 @@ pub fn prepare(
     marks: &[u64],
     q: &[u16],
     weights: &[u16],
-    stages: u8,
+    wanted: Wanted,
 )
     requires { ⌜ Weighs (now weights) (now q) × Points (now places) (now marks) × (length (now distances) ≡ length (now marks)) ⌝ }
     ensures { λ r. ⌜
         (length (now (distances .exit)) ≡ length (now (distances .entry))) × (length (now (table .exit)) ≡ length (now (table .entry)))
         ⌝ }
 {
-    measure(distances, places, marks, q, weights, stages);
+    measure(distances, places, marks, q, weights, wanted);
     fill_table(table, q, weights);
 }

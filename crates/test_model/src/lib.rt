@@ -1,9 +1,11 @@
 // What a question must give, worked out apart from the index and its search: points drawn by a generator of numbers, a full scan of them,
 // the leaves whose bound is at most a distance, and an answer compared with these.
+use crate::days::Days;
 use geometry::MAX_FEATURES;
 
 pub mod batches;
 pub mod comparing;
+pub mod days;
 pub mod leaves;
 pub mod marks;
 pub mod numbers;
@@ -18,12 +20,17 @@ pub const HEIGHTS: usize = 1001;
 // The pairs of a pyramid and a height.
 pub const PAIRS: usize = 2 * MAX_FEATURES * HEIGHTS;
 
-// What a question asks for: the features, k, the set of stages and whether it carries weights; the number of live points whose stage is in the set,
-// and of leaves.
+// The points that a question is about: those of a set of stages and of some days.
+pub struct Wanted {
+    pub stages: u8,
+    pub days: Days,
+}
+
+// What a question asks for: the features, k, which points and whether it carries weights; the number of live points among them, and of leaves.
 pub struct Asked {
     pub d: usize,
     pub k: usize,
-    pub stages: u8,
+    pub wanted: Wanted,
     pub weighted: bool,
     pub candidates: usize,
     pub leaves: usize,

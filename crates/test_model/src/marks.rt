@@ -1,5 +1,8 @@
 // The mark of a point: 0 unless it is live, else its stage and its stamp in one odd number. A question's set of stages is tried by halving.
 ghost use Prim.Native.Nat.{_≤_, _<_};
+use crate::Wanted;
+use crate::days::in_days;
+use crate::days::noon_stamp;
 use crate::numbers::next;
 
 // The first stamp of the later half, and the last one.
@@ -38,11 +41,11 @@ fn drawn_stage(n: u64) -> u8 {
     if x < 144 { 0 } else { 2 }
 }
 
-// The stamp that a number draws: a quarter each of the first 20, of 20 in the middle and of the last 20, which many points share, and of all that are
-// even; a number drawn has 31 bits.
+// The stamp that a number draws: a fifth each of the first 20, of 20 in the middle and of the last 20, which many points share, of noons, and of all
+// that are even; a number drawn has 31 bits.
 fn drawn_stamp(n: u64) -> u32 {
-    let turn = n % 4;
-    let shared = (n / 4 % 20) as u32;
+    let turn = n % 5;
+    let shared = (n / 5 % 20) as u32;
     if turn == 0 {
         return shared;
     }
@@ -51,6 +54,9 @@ fn drawn_stamp(n: u64) -> u32 {
     }
     if turn == 2 {
         return LAST_STAMP - shared;
+    }
+    if turn == 3 {
+        return noon_stamp(n / 5);
     }
     next(n) as u32 * 2
 }
@@ -71,10 +77,13 @@ fn marks_stage(set: u8, stage: u8) -> bool {
     rest % 2 == 1
 }
 
-// Whether a point is live and its stage in the set.
-pub fn chosen(mark: u64, set: u8) -> bool {
+// Whether a point is live and wanted.
+pub fn chosen(mark: u64, wanted: Wanted) -> bool {
     if mark == 0 {
         return false;
     }
-    marks_stage(set, stage_in(mark))
+    if !marks_stage(wanted.stages, stage_in(mark)) {
+        return false;
+    }
+    in_days(wanted.days, stamp_in(mark))
 }

@@ -1,14 +1,17 @@
 // A full scan of the points, written apart from the index and its search: every distance, and the nearest by repeated minimum; among equals the
-// newest goes first. `marks` has a mark for each point; points that are not live, or whose stage is not asked for, are passed over. `weights` has a
-// weight for each coordinate of q.
+// newest goes first. `marks` has a mark for each point; points that are not live, or not wanted, are passed over. `weights` has a weight for each
+// coordinate of q.
 ghost use mathlib.Core.Path.{_≡_};
 ghost use Prim.Native.Nat.{_≤_, _<_, _*_, _+_, max};
 ghost use lib.ListN.{length};
 ghost use Rattle.test_model.specs.Comparing.{Weighs};
+use crate::Wanted;
+use crate::days::any_day;
 use crate::marks::chosen;
 use crate::marks::stamp_in;
 use crate::numbers::id_of;
 use geometry::MAX_FEATURES;
+use test_parts::FULL_SET;
 
 // The distance of a point that is passed over, or was taken.
 pub const FAR: u64 = 18446744073709551615;
@@ -62,14 +65,14 @@ fn distance_if(wanted: bool, places: &[u16], at: usize, q: &[u16], weights: &[u1
     FAR
 }
 
-// The distances of all points of some stages from q.
+// The distances of all points wanted from q.
 pub fn measure(
     distances: &mut [u64],
     places: &[u16],
     marks: &[u64],
     q: &[u16],
     weights: &[u16],
-    stages: u8,
+    wanted: Wanted,
 )
     requires { ⌜ Weighs (now weights) (now q) × (length (now places) ≡ 16 * length (now marks)) × (length (now distances) ≡ length (now marks)) ⌝ }
     ensures { λ r. ⌜ length (now (distances .exit)) ≡ length (now (distances .entry)) ⌝ }
@@ -77,7 +80,7 @@ pub fn measure(
     let mut p = 0;
     while p < marks.len() {
         distances[p] = distance_if(
-            chosen(marks[p], stages),
+            chosen(marks[p], wanted),
             places,
             p * MAX_FEATURES,
             q,
@@ -150,17 +153,26 @@ pub fn take(distances: &mut [u64], marks: &[u64]) -> Near
     }
 }
 
-// How many live points have a stage of the set.
-pub fn candidate_count(marks: &[u64], stages: u8) -> usize
+// How many live points are wanted.
+pub fn candidate_count(marks: &[u64], wanted: Wanted) -> usize
     ensures { λ r. ⌜ r ≤ length (now (marks .entry)) ⌝ }
 {
     let mut n = 0;
     let mut p = 0;
     while p < marks.len() {
-        if chosen(marks[p], stages) {
+        if chosen(marks[p], wanted) {
             n += 1;
         }
         p += 1;
     }
     n
+}
+
+pub fn live_count(marks: &[u64]) -> usize {
+    let days = any_day();
+    let all = Wanted {
+        stages: FULL_SET,
+        days: days,
+    };
+    candidate_count(marks, all)
 }

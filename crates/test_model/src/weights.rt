@@ -2,6 +2,8 @@
 ghost use mathlib.Core.Path.{_≡_};
 ghost use Prim.Native.Nat.{_≤_};
 ghost use lib.ListN.{length};
+use crate::batches::DATED;
+use crate::batches::PLAIN;
 use crate::numbers::next;
 use geometry::MAX_WEIGHT;
 
@@ -30,13 +32,24 @@ pub const DRAWN: u32 = 7;
 // How many weights there are: 0 to 1,000.
 const WEIGHTS: u64 = MAX_WEIGHT as u64 + 1;
 
-// The pattern of question i: each in turn, drawn ones twice, if weights are carried.
-pub fn asked_pattern(weighted: bool, i: u64) -> u32 {
-    if !weighted {
-        return NONE;
-    }
+// Each pattern of weights in turn, drawn ones twice.
+fn carried_pattern(i: u64) -> u32 {
     let turn = (i % 8) as u32;
     if turn < ONES { DRAWN } else { turn }
+}
+
+// The pattern of question i.
+pub fn asked_pattern(way: u32, i: u64) -> u32 {
+    if way == PLAIN {
+        return NONE;
+    }
+    if way == DATED {
+        if i % 2 == 0 {
+            return NONE;
+        }
+        return carried_pattern(i / 2);
+    }
+    carried_pattern(i)
 }
 
 // The weight that all coordinates have.

@@ -37,9 +37,19 @@ pub fn line(what: &[u8], came: u64, said: u64) {
     compared(what, b"01", came, said);
 }
 
+// Beside what the change request on weights says.
+pub fn weighed(what: &[u8], came: u64, said: u64) {
+    compared(what, b"Q-1", came, said);
+}
+
 // Beside what the change request on stages says.
 pub fn staged(what: &[u8], came: u64, said: u64) {
     compared(what, b"Q-2", came, said);
+}
+
+// Beside what the change request on recording days says.
+pub fn dated(what: &[u8], came: u64, said: u64) {
+    compared(what, b"Q-4", came, said);
 }
 
 // Beside what the change request on the order of rows says.

@@ -10,6 +10,7 @@ use test_model::Asked;
 use test_model::Seen;
 use test_model::comparing::compare;
 use test_model::comparing::prepare;
+use test_model::days::dates_of;
 use test_model::numbers::point_at;
 
 // The question for the nearest of the point with these places, by these weights if it carries them.
@@ -26,6 +27,35 @@ pub fn ask(
 {
     let point = point_at(q, 0);
     index::question_outcome(index, &point[..d], weights, what, MAX_ROWS, highs, lows)
+}
+
+// What a question asks for, as the index takes it.
+fn criteria_of(asked: Asked) -> Criteria {
+    let wanted = asked.wanted;
+    let days = wanted.days;
+    let dates = dates_of(days);
+    Criteria {
+        k: asked.k,
+        stages: wanted.stages,
+        weighted: asked.weighted,
+        dated: days.given,
+        dates: dates,
+    }
+}
+
+// The same for what is to be compared.
+fn ask_as(
+    index: &[u8],
+    q: &[u16],
+    weights: &[u16],
+    asked: Asked,
+    highs: &mut [u64],
+    lows: &mut [u64],
+) -> Answer
+    requires { ⌜ (asked .d ≤ 16) × (16 ≤ length (now q)) × Lent (now highs) (now lows) ⌝ }
+{
+    let what = criteria_of(asked);
+    ask(index, q, weights, asked.d, what, highs, lows)
 }
 
 // Asks one question, from the point q; the scan goes by the weights.
@@ -47,15 +77,10 @@ pub fn ask_from(
 {
     let d = asked.d;
     let own = &weights[..d];
-    prepare(distances, table, places, marks, &q[..d], own, asked.stages);
+    prepare(distances, table, places, marks, &q[..d], own, asked.wanted);
     let mut highs = [0u64; MAX_ROWS];
     let mut lows = [0u64; MAX_ROWS];
-    let what = Criteria {
-        k: asked.k,
-        stages: asked.stages,
-        weighted: asked.weighted,
-    };
-    let answer = ask(index, q, own, d, what, &mut highs, &mut lows);
+    let answer = ask_as(index, q, own, asked, &mut highs, &mut lows);
     compare(
         index,
         pages,

@@ -2,7 +2,7 @@
 ghost use mathlib.Core.Path.{_≡_};
 ghost use Prim.Native.Nat.{_≤_, _<_};
 ghost use lib.ListN.{length};
-ghost use Rattle.test_model.specs.Comparing.{Arrays, Fits};
+ghost use Rattle.test_model.specs.Comparing.{Arrays, Counts, Fits};
 use crate::asking::ask_from;
 use crate::filling::delete_points;
 use crate::filling::insert_points;
@@ -14,12 +14,16 @@ use test_model::Batch;
 use test_model::PAIRS;
 use test_model::POINTS;
 use test_model::Seen;
+use test_model::batches::DATED;
+use test_model::batches::PLAIN;
+use test_model::batches::WEIGHTED;
 use test_model::batches::asked_k;
 use test_model::batches::asked_kind;
-use test_model::batches::asked_stages;
+use test_model::batches::asked_points;
 use test_model::batches::batch_seed;
 use test_model::batches::both;
 use test_model::batches::report;
+use test_model::batches::report_dated;
 use test_model::batches::report_weighted;
 use test_model::numbers::CLUSTERED;
 use test_model::numbers::TIED;
@@ -27,10 +31,10 @@ use test_model::numbers::WIDE;
 use test_model::numbers::draw;
 use test_model::numbers::leap;
 use test_model::scan::candidate_count;
+use test_model::scan::live_count;
 use test_model::weights::NONE;
 use test_model::weights::asked_pattern;
 use test_model::weights::draw_weights;
-use test_parts::FULL_SET;
 use test_parts::listing::MAX_LEAVES;
 use test_parts::listing::list_leaves;
 
@@ -46,38 +50,38 @@ fn weights_by(pattern: u32, d: usize, seed: u64) -> [u16; MAX_FEATURES]
 }
 
 // What a question asks for.
-fn asked_of(marks: &[u64], b: Batch, leaves: usize, pattern: u32, seed: u64) -> Asked
+fn asked_of(marks: &[u64], b: Batch, leaves: usize, way: u32, weighted: bool, seed: u64) -> Asked
     ensures { λ r. ⌜ (r .d ≡ b .d) × (r .leaves ≡ leaves) ⌝ }
 {
-    let stages = asked_stages(seed);
+    let wanted = asked_points(way, seed);
     Asked {
         d: b.d,
         k: asked_k(seed),
-        stages: stages,
-        weighted: pattern != NONE,
-        candidates: candidate_count(marks, stages),
+        wanted: wanted,
+        weighted: weighted,
+        candidates: candidate_count(marks, wanted),
         leaves: leaves,
     }
 }
 
 // Asks one question, with arrays of its own.
-fn ask_one(
+fn ask_drawn(
     index: &[u8],
     places: &[u16],
     marks: &[u64],
     pages: &[u32],
-    b: Batch,
-    leaves: usize,
+    asked: Asked,
+    kind: u32,
     pattern: u32,
     seed: u64,
 ) -> Seen
-    requires { ⌜ Fits b × (leaves ≤ length (now pages)) × Arrays (now places) (now marks) ⌝ }
+    requires { ⌜ Counts asked (now pages) × Arrays (now places) (now marks) ⌝ }
 {
     let mut q = [0u16; MAX_FEATURES];
     let mut distances = [0u64; POINTS];
     let mut table = [0u64; PAIRS];
-    draw(&mut q, asked_kind(b.kind, seed), (seed % 5) as usize, seed);
-    let weights = weights_by(pattern, b.d, seed);
+    draw(&mut q, kind, (seed % 5) as usize, seed);
+    let weights = weights_by(pattern, asked.d, seed);
     ask_from(
         index,
         places,
@@ -87,11 +91,31 @@ fn ask_one(
         &mut table,
         &q,
         &weights,
-        asked_of(marks, b, leaves, pattern, seed),
+        asked,
     )
 }
 
-// Asks the questions of a batch, with weights or without.
+// Asks question i of a batch in one of three ways.
+fn ask_one(
+    index: &[u8],
+    places: &[u16],
+    marks: &[u64],
+    pages: &[u32],
+    b: Batch,
+    leaves: usize,
+    way: u32,
+    i: u64,
+    seed: u64,
+) -> Seen
+    requires { ⌜ Fits b × (leaves ≤ length (now pages)) × Arrays (now places) (now marks) ⌝ }
+{
+    let kind = asked_kind(b.kind, seed);
+    let pattern = asked_pattern(way, i);
+    let asked = asked_of(marks, b, leaves, way, pattern != NONE, seed);
+    ask_drawn(index, places, marks, pages, asked, kind, pattern, seed)
+}
+
+// Asks the questions of a batch in one way.
 fn ask_all(
     index: &[u8],
     places: &[u16],
@@ -99,7 +123,7 @@ fn ask_all(
     pages: &[u32],
     b: Batch,
     leaves: usize,
-    weighted: bool,
+    way: u32,
     seed: u64,
 ) -> Seen
     requires { ⌜ Fits b × (leaves ≤ length (now pages)) × Arrays (now places) (now marks) ⌝ }
@@ -114,14 +138,44 @@ fn ask_all(
     let mut i = 0;
     while i < n {
         s = leap(s);
-        let pattern = asked_pattern(weighted, i);
         seen = both(
             seen,
-            ask_one(index, places, marks, pages, b, leaves, pattern, s),
+            ask_one(index, places, marks, pages, b, leaves, way, i, s),
         );
         i += 1;
     }
     seen
+}
+
+fn ask_weighted(
+    index: &[u8],
+    places: &[u16],
+    marks: &[u64],
+    pages: &[u32],
+    b: Batch,
+    leaves: usize,
+    seed: u64,
+)
+    requires { ⌜ Fits b × (leaves ≤ length (now pages)) × Arrays (now places) (now marks) ⌝ }
+{
+    let seen = ask_all(index, places, marks, pages, b, leaves, WEIGHTED, seed);
+    let n = b.questions / 4;
+    report_weighted(b, seen, n, ones_and_none(index, b, n, seed));
+}
+
+fn ask_dated(
+    index: &[u8],
+    places: &[u16],
+    marks: &[u64],
+    pages: &[u32],
+    b: Batch,
+    leaves: usize,
+    seed: u64,
+)
+    requires { ⌜ Fits b × (leaves ≤ length (now pages)) × Arrays (now places) (now marks) ⌝ }
+{
+    let seen = ask_all(index, places, marks, pages, b, leaves, DATED, seed);
+    report_dated(b, seen);
 }
 
 // Questions on an index as it is, after acts of which some were refused.
@@ -130,11 +184,10 @@ fn round(index: &[u8], places: &[u16], marks: &[u64], b: Batch, refused: u64, se
 {
     let mut pages = [0u32; MAX_LEAVES];
     let leaves = list_leaves(index, &mut pages);
-    let seen = ask_all(index, places, marks, &pages, b, leaves, false, seed);
-    report(b, candidate_count(marks, FULL_SET), refused, seen);
-    let weighted = ask_all(index, places, marks, &pages, b, leaves, true, seed);
-    let n = b.questions / 4;
-    report_weighted(b, weighted, n, ones_and_none(index, b, n, seed));
+    let seen = ask_all(index, places, marks, &pages, b, leaves, PLAIN, seed);
+    report(b, live_count(marks), refused, seen);
+    ask_weighted(index, places, marks, &pages, b, leaves, seed);
+    ask_dated(index, places, marks, &pages, b, leaves, seed);
 }
 
 // All points are inserted.

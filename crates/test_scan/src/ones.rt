@@ -7,6 +7,7 @@ use crate::asking::ask;
 use geometry::MAX_FEATURES;
 use index_answer::Answer;
 use index_query::Criteria;
+use index_query::nearest_of;
 use search_rows::MAX_ROWS;
 use test_model::Batch;
 use test_model::batches::asked_k;
@@ -62,11 +63,8 @@ fn ask_ones(
     requires { ⌜ (d ≤ 16) × (length (now q) ≡ 16) × Lent (now highs) (now lows) ⌝ }
 {
     let ones = [1u16; MAX_FEATURES];
-    let what = Criteria {
-        k: asked.k,
-        stages: asked.stages,
-        weighted: true,
-    };
+    let mut what = asked;
+    what.weighted = true;
     ask(index, q, &ones[..d], d, what, highs, lows)
 }
 
@@ -103,11 +101,7 @@ fn ask_one(index: &[u8], b: Batch, seed: u64) -> u64
 {
     let mut q = [0u16; MAX_FEATURES];
     draw(&mut q, asked_kind(b.kind, seed), (seed % 5) as usize, seed);
-    let asked = Criteria {
-        k: asked_k(seed),
-        stages: asked_stages(seed),
-        weighted: false,
-    };
+    let asked = nearest_of(asked_k(seed), asked_stages(seed));
     ask_both(index, &q, b.d, asked)
 }
 

@@ -1,6 +1,6 @@
 //! One act on the library and on the model, with everything that it leaves compared.
 
-use crate::ffi;
+use crate::ffi::{self, Handed};
 use crate::judge;
 use crate::layout::*;
 use crate::model::{Answer, Asked, Model, Row, Tally};
@@ -25,6 +25,18 @@ pub fn lent_rows() -> [Row; ROWS] {
         distance: 0xFEDC_BA98_0000_0000 + i as u64,
         position: 0x5A5A_5A5A_5A5A_0000 + i as u64,
         stamp: 0xC3C3_0000 + i as u32,
+    })
+}
+
+/// What comes of a question: its answer, and the rows and the tally that it leaves.
+pub type Outcome = (Answer, [Row; ROWS], Tally);
+
+/// With the check and without, refused or not, with these weights and dates handed over.
+pub fn outcomes(lib: &[u8], asked: &Asked, handed: Handed, lent: usize) -> [Outcome; 2] {
+    [false, true].map(|trusted| {
+        let (mut rows, mut tally) = (lent_rows(), Tally { questions: 3, leaves: 4 });
+        let answer = ffi::question_handed(lib, asked, handed, &mut rows, lent, &mut tally, trusted);
+        (answer, rows, tally)
     })
 }
 

@@ -2,6 +2,7 @@
 
 use crate::acts::{lent_rows, Act};
 use crate::built::{built, Plan, Shape};
+use crate::calendar::{Date, Dates};
 use crate::data::{Kind, Rng};
 use crate::ffi;
 use crate::layout::*;
@@ -24,6 +25,9 @@ struct Given {
 /// Some of the stages.
 const SOME: u8 = 0b01_0110;
 
+/// Some of the days: about half of all stamps lie in them.
+const DAYS: Dates = Dates { first: Date::new(2008, 7, 3), last: Date::new(2077, 2, 28) };
+
 fn given(s: &mut Series) -> Given {
     let x = s.point();
     let old = s.live.first().copied().unwrap_or(5);
@@ -35,9 +39,9 @@ fn given(s: &mut Series) -> Given {
         Act::Insert(new, x.clone()),
         Act::Delete(old),
         Act::Question(Asked::new(&x, 5, ALL_STAGES), 7, tally),
-        Act::Question(Asked::new(&x, 5, SOME).by(&weights), 7, tally),
+        Act::Question(Asked::new(&x, 5, SOME).by(&weights).within(DAYS), 7, tally),
         Act::Insert(Tag { stage: 6, ..Tag::of(0) }, vec![]),
-        Act::Question(Asked::new(&[], 0, 0).by(&[1001]), 0, tally),
+        Act::Question(Asked::new(&[], 0, 0).by(&[1001]).within(Dates { first: DAYS.last, last: DAYS.first }), 0, tally),
     ];
     Given { acts, new, old: Tag::of(old), x, weights }
 }
@@ -95,7 +99,7 @@ fn unchecked(run: &mut Run, lib: &mut Lent, bytes: &[u8], given: &Given) {
     let start = Instant::now();
     let high = bytes[LEVEL] > 4;
     run.counts.high += high as u64;
-    for asked in [Asked::new(&given.x, 1, ALL_STAGES), Asked::new(&given.x, 64, SOME).by(&given.weights)] {
+    for asked in [Asked::new(&given.x, 1, ALL_STAGES), Asked::new(&given.x, 64, SOME).by(&given.weights).within(DAYS)] {
         let (mut rows, k) = (lent_rows(), asked.k);
         let got = ffi::search(lib, &asked, &mut rows, k);
         run.counts.searches += 1;

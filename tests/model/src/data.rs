@@ -1,5 +1,6 @@
 //! Chosen numbers: the same in every run.
 
+use crate::calendar::{every, Date, Dates, WIDEST};
 use crate::layout::Tag;
 
 /// SplitMix64.
@@ -50,8 +51,8 @@ pub const KINDS: [Kind; 4] = [Kind::Uniform, Kind::Clustered, Kind::Tied, Kind::
 /// The stages that the epochs of an index have, as sets: all six, some, one.
 pub const MIXES: [u8; 6] = [0b11_1111, 0b11_1111, 0b01_1110, 0b00_1100, 0b10_0001, 0b00_1000];
 
-/// Stamps that many epochs share, and that differ in a bit or two.
-const STAMPS: [u32; 8] = [0, 1, 8, 16, 1 << 28, 1 << 31, u32::MAX - 1, u32::MAX];
+/// Stamps that many epochs share: such as differ in a bit or two, and both ends of the first recording day and of the last.
+const STAMPS: [u32; 12] = [0, 1, 8, 16, 43_199, 43_200, 1 << 28, 1 << 31, 3_155_803_199, 3_155_803_200, u32::MAX - 1, u32::MAX];
 
 /// An epoch of some stage of a mix, with any stamp or one of a few.
 pub fn tag(rng: &mut Rng, id: u32, mix: u8) -> Tag {
@@ -79,6 +80,39 @@ pub fn weights(rng: &mut Rng, d: usize) -> Vec<u16> {
         }
     };
     (0..d).map(&mut weight).collect()
+}
+
+/// A first and a last date that nothing refuses: all days, one, many, such as shared stamps lie in or miss by a day.
+pub fn dates(rng: &mut Rng) -> Dates {
+    let (way, every) = (rng.below(6), every());
+    let shared = |rng: &mut Rng| Date::of(rng.pick(&STAMPS)).and_then(|date| every.binary_search(&date).ok()).unwrap_or(0);
+    let (a, b) = match way {
+        0 => return WIDEST,
+        1 | 2 => (rng.below(every.len()), rng.below(every.len())),
+        3 => (shared(rng), rng.below(every.len())),
+        4 => (shared(rng), shared(rng)),
+        _ => {
+            let at = shared(rng) + rng.below(3);
+            (at.saturating_sub(1), at.saturating_sub(1))
+        }
+    };
+    let last = every.len() - 1;
+    Dates { first: every[a.min(b).min(last)], last: every[a.max(b).min(last)] }
+}
+
+/// Dates that are refused, but for one day turned round: one of them does not exist or lies outside, or the last is before the first.
+pub fn bad_dates(rng: &mut Rng) -> Dates {
+    let wrong =
+        [(2001, 2, 29), (2100, 2, 29), (2024, 4, 31), (2024, 0, 5), (2024, 13, 5), (1999, 12, 31), (2100, 1, 1), (2050, 7, 0), (0, 0, 0)];
+    let Dates { first, last } = dates(rng);
+    let (year, month, day) = rng.pick(&wrong);
+    let other = Date { year, month, day };
+    match rng.below(4) {
+        0 => Dates { first: other, last },
+        1 => Dates { first, last: other },
+        2 => Dates { first: last, last: other },
+        _ => Dates { first: last, last: first },
+    }
 }
 
 /// A point in range.

@@ -1,6 +1,7 @@
 //! Lengths, and indexes up to the limits.
 
 use crate::acts::Act;
+use crate::calendar::{Date, Dates, WIDEST};
 use crate::data::{Kind, Rng};
 use crate::ffi;
 use crate::layout::*;
@@ -8,6 +9,9 @@ use crate::model::{Asked, Model, Tally};
 use crate::run::Run;
 use crate::series::{Ids, Series};
 use crate::unread;
+
+/// From the last day to the first.
+const REVERSED: Dates = Dates { first: WIDEST.last, last: WIDEST.first };
 
 fn lengths(run: &mut Run) {
     let mut bytes = Rng(3).bytes(16_778_240);
@@ -34,6 +38,9 @@ fn lengths(run: &mut Run) {
             Act::Question(Asked::new(&[-3], 1, ALL_STAGES).by(&[7]), 1, Tally::default()),
             Act::Question(Asked::new(&[-3], 0, 64).by(&[1001]), 0, Tally::default()),
             Act::Question(Asked::new(&[-1001], 0, 64).by(&[1001, 0]), 0, Tally::default()),
+            Act::Question(Asked::new(&[-3], 1, ALL_STAGES).within(WIDEST), 1, Tally::default()),
+            Act::Question(Asked::new(&[-3], 1, ALL_STAGES).within(REVERSED), 1, Tally::default()),
+            Act::Question(Asked::new(&[-3], 1, 64).within(REVERSED), 1, Tally::default()),
             Act::Delete(9),
             Act::Check,
         ];
@@ -101,6 +108,7 @@ fn limit(run: &mut Run, s: &mut Series) {
     let tally = Tally { questions: 1, leaves: u32::MAX };
     let heavy: Vec<u16> = (0..x.len() as u16).map(|m| MOST_WEIGHT - 31 * m).collect();
     let sixth = |id| Tag { stage: 6, ..Tag::of(id) };
+    let years = Dates { first: Date::new(2030, 1, 1), last: Date::new(2049, 12, 31) };
     let acts = [
         Act::Check,
         Act::Insert(Tag::of(MOST_POINTS + 1), x.clone()),
@@ -112,13 +120,15 @@ fn limit(run: &mut Run, s: &mut Series) {
         Act::Question(Asked::new(&x, 64, 1 << 2), 64, tally),
         Act::Question(Asked::new(&x, 64, ALL_STAGES).by(&heavy), 64, tally),
         Act::Question(Asked::new(&x, 64, ALL_STAGES).by(&vec![0; x.len()]), 64, tally),
+        Act::Question(Asked::new(&x, 64, 1 << 2).by(&heavy).within(years), 64, tally),
+        Act::Question(Asked::new(&x, 64, ALL_STAGES).within(REVERSED), 64, tally),
         Act::Delete(again),
         Act::Delete(again),
         Act::Insert(Tag::of(again), x.clone()),
         Act::Insert(Tag::of(u32::MAX), x),
     ];
     let codes: Vec<u32> = acts.iter().map(|act| s.act(run, act)).collect();
-    run.expect(codes == [0, 8, 6, 15, 15, 5, 0, 0, 0, 0, 0, 7, 0, 8], || format!("codes at the limit: {codes:?}"));
+    run.expect(codes == [0, 8, 6, 15, 15, 5, 0, 0, 0, 0, 0, 18, 0, 7, 0, 8], || format!("codes at the limit: {codes:?}"));
 }
 
 fn full(run: &mut Run, d: usize, kind: Kind, upward: bool, each: bool) {

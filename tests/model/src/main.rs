@@ -3,8 +3,11 @@
 mod acts;
 mod bounds;
 mod built;
+mod calendar;
 mod damage;
 mod data;
+mod days;
+mod faults;
 mod ffi;
 mod geometry;
 mod judge;
@@ -12,6 +15,7 @@ mod large;
 mod layout;
 mod lent;
 mod model;
+mod platform;
 mod rules;
 mod run;
 mod series;
@@ -35,6 +39,7 @@ fn main() {
     stages::all(&mut run);
     ties::all(&mut run);
     weights::all(&mut run);
+    days::all(&mut run);
     unread::all(&mut run);
     unused::all(&mut run);
     rules::all(&mut run);

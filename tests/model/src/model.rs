@@ -1,5 +1,6 @@
 //! The five acts over the model's own bytes, from the specification's words.
 
+use crate::calendar::Dates;
 use crate::geometry::{distance, Key, Slices};
 use crate::judge;
 use crate::layout::*;
@@ -27,19 +28,21 @@ pub struct Tally {
     pub leaves: u32,
 }
 
-/// What is asked: a point, the weights of its coordinates, if any are carried, how many rows, and the stages looked among, bit s for stage s.
+/// What is asked: a point, the weights of its coordinates, if any are carried, how many rows, the stages looked among, bit s for stage s, and
+/// the recording days looked among, if any are named.
 #[derive(Clone, PartialEq, Eq, Debug)]
 pub struct Asked {
     pub x: Vec<i16>,
     pub weights: Option<Vec<u16>>,
     pub k: usize,
     pub stages: u8,
+    pub dates: Option<Dates>,
 }
 
 impl Asked {
-    /// Without weights.
+    /// Without weights and dates.
     pub fn new(x: &[i16], k: usize, stages: u8) -> Asked {
-        Asked { x: x.to_vec(), weights: None, k, stages }
+        Asked { x: x.to_vec(), weights: None, k, stages, dates: None }
     }
 
     /// The same by weights.
@@ -47,9 +50,27 @@ impl Asked {
         Asked { weights: Some(weights.to_vec()), ..self.clone() }
     }
 
+    /// The same within dates.
+    pub fn within(&self, dates: Dates) -> Asked {
+        Asked { dates: Some(dates), ..self.clone() }
+    }
+
     /// Whether a record is looked for.
-    fn seeks(&self, r: &Record) -> bool {
-        (0..=MOST_STAGE).any(|stage| self.stages & (1 << stage) != 0 && r.tag.stage == stage)
+    pub fn seeks(&self, r: &Record) -> bool {
+        let staged = (0..=MOST_STAGE).any(|stage| self.stages & (1 << stage) != 0 && r.tag.stage == stage);
+        staged && self.dates.is_none_or(|dates| dates.hold(r.tag.stamp))
+    }
+
+    /// 17 or 18 where the dates are refused.
+    fn misdated(&self) -> Option<u32> {
+        let Dates { first, last } = self.dates?;
+        if !first.permitted() || !last.permitted() {
+            Some(17)
+        } else if last < first {
+            Some(18)
+        } else {
+            None
+        }
     }
 }
 
@@ -434,6 +455,9 @@ impl Model {
         }
         if !(1..=ALL_STAGES).contains(&asked.stages) {
             return refusal(16);
+        }
+        if let Some(code) = asked.misdated() {
+            return refusal(code);
         }
         let found = self.search(asked);
         rows[..found.rows.len()].copy_from_slice(&found.rows);

@@ -12,7 +12,7 @@ pub struct Counts {
     pub trusted: u64,
     /// Of these, the inserts and deletes whose caller vouches for the identifier.
     pub vouched: u64,
-    pub codes: [u64; 17],
+    pub codes: [u64; 19],
     pub rows: u64,
     pub bytes: u64,
     pub damaged: u64,
@@ -132,7 +132,7 @@ impl Run {
     pub fn finish(self) -> bool {
         let c = &self.counts;
         println!(
-            "acts compared: {} ({} without the check, {} of them vouched), codes 0 to 16: {:?}",
+            "acts compared: {} ({} without the check, {} of them vouched), codes 0 to 18: {:?}",
             c.acts, c.trusted, c.vouched, c.codes
         );
         println!("rows compared: {}, bytes compared: {}", c.rows, c.bytes);

@@ -1,7 +1,8 @@
 //! Series of acts, refused ones among them, compared after each act.
 
 use crate::acts::{Act, ROWS};
-use crate::data::{point, tag, weights, Kind, Rng, KINDS, MIXES};
+use crate::calendar::Dates;
+use crate::data::{bad_dates, dates, point, tag, weights, Kind, Rng, KINDS, MIXES};
 use crate::layout::*;
 use crate::lent::Lent;
 use crate::model::{Asked, Model, Tally};
@@ -57,6 +58,17 @@ impl Series {
             _ => (),
         }
         code
+    }
+
+    /// A question, with the check and without; its code.
+    pub fn ask(&mut self, run: &mut Run, asked: &Asked, lent: usize) -> u32 {
+        let act = Act::Question(asked.clone(), lent, Tally { questions: 8, leaves: 9 });
+        let codes = [false, true].map(|trusted| {
+            run.trusted = trusted;
+            self.act(run, &act)
+        });
+        run.trusted = false;
+        codes[0]
     }
 
     pub fn new_id(&mut self) -> u32 {
@@ -129,6 +141,20 @@ impl Series {
         Some(weights)
     }
 
+    /// Dates, or none.
+    pub fn dates(&mut self) -> Option<Dates> {
+        self.rng.one_in(2).then(|| dates(&mut self.rng))
+    }
+
+    /// Dates or none, sometimes such as are refused.
+    fn some_dates(&mut self) -> Option<Dates> {
+        if self.rng.one_in(20) {
+            Some(bad_dates(&mut self.rng))
+        } else {
+            self.dates()
+        }
+    }
+
     /// A point, sometimes one that is refused.
     fn some_point(&mut self) -> Vec<i16> {
         let mut x = self.point();
@@ -183,7 +209,8 @@ impl Series {
             let lent = if self.rng.one_in(15) { self.rng.below(most.max(1)) } else { most + self.rng.below(ROWS - most + 1) };
             let start = self.rng.pick(&[0, 5, u32::MAX - 1, u32::MAX]);
             let leaves = self.rng.pick(&[0, 77, u32::MAX - 2, u32::MAX]);
-            let asked = Asked { x: self.some_point(), weights: self.some_weights(), k, stages: self.some_set() };
+            let (weights, dates) = (self.some_weights(), self.some_dates());
+            let asked = Asked { x: self.some_point(), weights, k, stages: self.some_set(), dates };
             Act::Question(asked, lent, Tally { questions: start, leaves })
         } else {
             Act::Check
@@ -236,7 +263,7 @@ fn series(run: &mut Run, pages: usize, d: usize, kind: Kind, ids: Ids, steps: us
         s.act(run, &Act::Delete(id));
     }
     s.act(run, &Act::Delete(1));
-    let asked = Asked { x: s.point(), weights: s.weights(), k: 1, stages: s.set() };
+    let asked = Asked { x: s.point(), weights: s.weights(), k: 1, stages: s.set(), dates: s.dates() };
     s.act(run, &Act::Question(asked, 1, Tally::default()));
 }
 

@@ -36,12 +36,13 @@ fn lowest_first(a: &Near, b: &Near) -> Ordering {
     a.distance.cmp(&b.distance).then(a.id.cmp(&b.id))
 }
 
-/// The first k in some order of the records of the stages asked for.
+/// The first k in some order of the records of the stages and days asked for.
 fn nearest(records: &[Record], asked: &Asked, order: fn(&Near, &Near) -> Ordering) -> Vec<Near> {
     let from: Vec<i64> = asked.x.iter().map(|&c| c.into()).collect();
     let far = |r: &Record| distance(asked.weights.as_deref(), &r.point(from.len()), &from);
     let near = |r: &Record| Near { distance: far(r), stamp: r.tag.stamp, id: r.tag.id };
-    let mut all: Vec<Near> = records.iter().filter(|r| asked.stages >> r.tag.stage & 1 == 1).map(near).collect();
+    let sought = |r: &Record| asked.stages >> r.tag.stage & 1 == 1 && asked.dates.is_none_or(|dates| dates.hold(r.tag.stamp));
+    let mut all: Vec<Near> = records.iter().filter(|r| sought(r)).map(near).collect();
     all.sort_by(order);
     all.truncate(asked.k);
     all
@@ -156,7 +157,7 @@ fn stamped(run: &mut Run, model: &Model, kind: Kind, stamp: impl Fn(u32) -> u32,
     let mut s = Series::over(model.retagged(|tag| Tag { stamp: stamp(tag.id), ..tag }), kind, Ids::Any, 7);
     let records = s.model.records();
     for _ in 0..if run.long { 100 } else { 10 } {
-        let asked = Asked { x: s.point(), weights: s.weights(), k: 1 + s.rng.below(64), stages: s.set() };
+        let asked = Asked { x: s.point(), weights: s.weights(), k: 1 + s.rng.below(64), stages: s.set(), dates: s.dates() };
         let want = nearest(&records, &asked, order);
         gives(run, &mut s, asked, &want);
     }
@@ -239,7 +240,7 @@ fn each_set(run: &mut Run, d: usize, points: usize) {
 
 /// Other stamps in the same records: the same distances from the same leaves, of which the unread are then overwritten.
 fn same_leaves(run: &mut Run, s: &mut Series) {
-    let asked = Asked { x: asked_point(s), weights: s.weights(), k: 1 + s.rng.below(12), stages: s.set() };
+    let asked = Asked { x: asked_point(s), weights: s.weights(), k: 1 + s.rng.below(12), stages: s.set(), dates: None };
     let found = s.model.search(&asked);
     let few = s.rng.one_in(2);
     let stamp = |rng: &mut Rng| if few { rng.below(3) as u32 } else { rng.next() as u32 };

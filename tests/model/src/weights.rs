@@ -1,13 +1,15 @@
 //! Weights: distances, rows and leaves by them, and the refusals 3 and 14 in their places. Questions are asked with the check and without.
 
-use crate::acts::{lent_rows, Act, ROWS};
+use crate::acts::{self, lent_rows, Act, Outcome, ROWS};
 use crate::built::{built, Plan, Shape};
+use crate::calendar::{Date, Dates, WIDEST};
 use crate::data::{weights, Kind, Rng, KINDS};
-use crate::ffi;
+use crate::faults::{self, Fault, FAULTS};
+use crate::ffi::Handed;
 use crate::geometry::Slices;
 use crate::layout::*;
 use crate::lent::Lent;
-use crate::model::{Answer, Asked, Model, Row, Tally};
+use crate::model::{Asked, Model, Row, Tally};
 use crate::run::Run;
 use crate::series::{Ids, Series};
 use crate::unread::{asked_point, each_way};
@@ -19,21 +21,10 @@ fn some_index(d: usize, kind: Kind, points: usize) -> Series {
     Series::over(built(&mut Rng(seed), plan), kind, Ids::Any, seed)
 }
 
-/// A question by these weights from a point of the index's kind, for some rows of some stages.
+/// A question by these weights from a point of the index's kind, for some rows of some stages, of any days.
 fn some_question(s: &mut Series, weights: &[u16]) -> Asked {
     let k = 1 + if s.rng.one_in(3) { s.rng.below(64) } else { s.rng.below(8) };
     Asked::new(&asked_point(s), k, s.set()).by(weights)
-}
-
-/// A question, with the check and without, against the model; its code.
-fn ask(run: &mut Run, s: &mut Series, asked: &Asked, lent: usize) -> u32 {
-    let act = Act::Question(asked.clone(), lent, Tally { questions: 8, leaves: 9 });
-    let codes = [false, true].map(|trusted| {
-        run.trusted = trusted;
-        s.act(run, &act)
-    });
-    run.trusted = false;
-    codes[0]
 }
 
 /// A question, with the check and without, gives these rows, but for the leaves that hold them, and reads so many leaves.
@@ -43,16 +34,22 @@ fn gives(run: &mut Run, s: &mut Series, asked: &Asked, want: &[(u64, Reverse<u32
         run.expect(rows.iter().map(Row::order).eq(want.iter().copied()), || format!("{asked:?}: {rows:?}, not {want:?}"));
         run.expect(leaves.is_none_or(|leaves| read == leaves), || format!("{asked:?}: {read} leaves, not {leaves:?}"));
     }
-    ask(run, s, asked, ROWS);
+    s.ask(run, asked, ROWS);
 }
 
-/// Answer, rows and tally of a question, with the check and without, refused or not, with these weights handed over.
-fn outcomes(lib: &[u8], asked: &Asked, handed: &[u16], lent: usize) -> [(Answer, [Row; ROWS], Tally); 2] {
-    [false, true].map(|trusted| {
-        let (mut rows, mut tally) = (lent_rows(), Tally { questions: 3, leaves: 4 });
-        let answer = ffi::question_handed(lib, asked, handed, &mut rows, lent, &mut tally, trusted);
-        (answer, rows, tally)
-    })
+/// What comes of a question with these weights handed over.
+fn outcomes(lib: &[u8], asked: &Asked, weights: &[u16], lent: usize) -> [Outcome; 2] {
+    acts::outcomes(lib, asked, Handed { weights, ..Handed::of(asked) }, lent)
+}
+
+/// A question by these weights, of two rows, that is refused with a number, or with none: with any other fault besides.
+fn refused(run: &mut Run, s: &mut Series, weights: &[u16], number: u32) {
+    let good = Asked::new(&s.point(), 2, ALL_STAGES).by(weights);
+    let dates: [Fault; 2] = [
+        (18, |asked, _| asked.dates = Some(Dates { first: WIDEST.last, last: WIDEST.first })),
+        (17, |asked, _| asked.dates = Some(Dates::one(Date::new(2001, 2, 29)))),
+    ];
+    faults::refused(run, s, &good, number, &[&FAULTS[..], &dates].concat());
 }
 
 /// Bounds worked out on paper.
@@ -118,8 +115,8 @@ fn any(run: &mut Run, d: usize, points: usize) {
         let mut s = some_index(d, kind, points);
         for _ in 0..if run.long { 300 } else { 30 } {
             let weights = weights(&mut s.rng, d);
-            let asked = some_question(&mut s, &weights);
-            ask(run, &mut s, &asked, ROWS);
+            let asked = Asked { dates: s.dates(), ..some_question(&mut s, &weights) };
+            s.ask(run, &asked, ROWS);
         }
     }
 }
@@ -129,7 +126,7 @@ fn ones(run: &mut Run, d: usize) {
     for kind in KINDS {
         let mut s = some_index(d, kind, 200);
         for i in 0..if run.long { 200 } else { 20 } {
-            let mut asked = some_question(&mut s, &vec![1; d]);
+            let mut asked = Asked { dates: s.dates(), ..some_question(&mut s, &vec![1; d]) };
             match i {
                 0 => asked.x.push(0),
                 1 => asked.x[d - 1] = 1001,
@@ -141,7 +138,7 @@ fn ones(run: &mut Run, d: usize) {
             let none = Asked { weights: None, ..asked.clone() };
             let (with, without) = (outcomes(&s.lib, &asked, &vec![1; d], lent), outcomes(&s.lib, &none, &[], lent));
             run.expect(with == without, || format!("{asked:?}: {:?} with ones, {:?} without", with[0].0, without[0].0));
-            ask(run, &mut s, &asked, lent);
+            s.ask(run, &asked, lent);
         }
     }
 }
@@ -177,7 +174,7 @@ fn scaled(run: &mut Run, d: usize) {
                 let got = run.answer(&s.lib, &many, trusted);
                 run.expect(got == (rows, leaves), || format!("{many:?}: not {times} times what {least:?} give"));
             }
-            ask(run, &mut s, &many, ROWS);
+            s.ask(run, &many, ROWS);
         }
     }
 }
@@ -235,7 +232,7 @@ fn tied(run: &mut Run, d: usize, points: usize) {
         let pairs = (0..d).map(|_| s.rng.pick(&[0, 1000])).collect::<Vec<u16>>();
         for weights in [vec![0; d], pairs, some] {
             let k = s.rng.pick(&[1, 2, 7, 30, 64]);
-            ask(run, &mut s, &Asked::new(&x, k, stages).by(&weights), ROWS);
+            s.ask(run, &Asked::new(&x, k, stages).by(&weights), ROWS);
         }
     }
 }
@@ -251,7 +248,7 @@ fn corners(run: &mut Run, d: usize) {
             _ => weights(&mut s.rng, d),
         };
         let asked = Asked { x, ..some_question(&mut s, &weights) };
-        ask(run, &mut s, &asked, ROWS);
+        s.ask(run, &asked, ROWS);
     }
     for end in [-1000, 1000] {
         let mut s = Series::new(run, 2, d, Kind::Edge, Ids::Upward, 1);
@@ -281,34 +278,7 @@ fn from_afar(run: &mut Run, d: usize) {
             _ => weights(&mut s.rng, d),
         };
         let asked = Asked::new(&x, 1 + s.rng.below(8), ALL_STAGES).by(&weights);
-        ask(run, &mut s, &asked, ROWS);
-    }
-}
-
-/// A number, and what makes a question be refused with it.
-type Fault = (u32, fn(&mut Asked, &mut usize));
-
-/// What else can be wrong with a question: a coordinate, k, the rows lent, the set.
-const FAULTS: [Fault; 5] = [
-    (4, |asked, _| *asked.x.last_mut().unwrap() = -1001),
-    (10, |asked, _| asked.k = 0),
-    (10, |asked, _| asked.k = 65),
-    (11, |_, lent| *lent = 1),
-    (16, |asked, _| asked.stages = 64),
-];
-
-/// A question with any of these faults is refused with the first of them, and with a number of its weights in its place.
-fn refused(run: &mut Run, s: &mut Series, weights: &[u16], number: u32) {
-    let place = |code: u32| [3, 4, 14, 10, 11, 16, 0].iter().position(|&c| c == code).unwrap();
-    let good = Asked::new(&s.point(), 2, ALL_STAGES).by(weights);
-    for some in 0..1 << FAULTS.len() {
-        let (mut asked, mut lent, mut want) = (good.clone(), 2, number);
-        for (code, spoil) in (0..).zip(FAULTS).filter(|(i, _)| some >> i & 1 == 1).map(|(_, fault)| fault) {
-            spoil(&mut asked, &mut lent);
-            want = if place(code) < place(want) { code } else { want };
-        }
-        let got = ask(run, s, &asked, lent);
-        run.expect(got == want, || format!("{asked:?}, lent {lent}: {got}, not {want}"));
+        s.ask(run, &asked, ROWS);
     }
 }
 
@@ -324,7 +294,7 @@ fn numbers(run: &mut Run, d: usize) {
         }
         for (coordinates, weights) in [(n, n), (n, d), (0, n), (0, 0), (0, d), (d + 1, d - 1)] {
             let asked = Asked::new(&vec![7; coordinates], 2, ALL_STAGES).by(&vec![1001; weights]);
-            let got = ask(run, &mut s, &asked, ROWS);
+            let got = s.ask(run, &asked, ROWS);
             run.expect(got == 3, || format!("{coordinates} coordinates and {weights} weights of {d}: {got}"));
         }
     }
@@ -381,7 +351,7 @@ fn idle(run: &mut Run, d: usize) {
     for asked in [some_question(&mut s, &[]), Asked::new(&vec![1001; d], 0, 0), Asked::new(&s.point(), 0, ALL_STAGES)] {
         let asked = Asked { weights: None, ..asked };
         let want = outcomes(&s.lib, &asked, &[], ROWS);
-        ask(run, &mut s, &asked, ROWS);
+        s.ask(run, &asked, ROWS);
         for (n, weight) in [0, 1, d, d + 1, 17, 100].into_iter().flat_map(|n| [0, 1, 2, 1000, 1001, u16::MAX].map(|weight| (n, weight))) {
             let got = outcomes(&s.lib, &asked, &vec![weight; n], ROWS);
             run.expect(got == want, || format!("{asked:?} beside {n} weights of {weight}: {:?}", got[0].0));
@@ -400,7 +370,7 @@ fn last_bytes(run: &mut Run, d: usize) {
             let want = outcomes(&s.lib, &asked, &weights, ROWS);
             let got = outcomes(&s.lib, &asked, lent.words(), ROWS);
             run.expect(got == want, || format!("{asked:?}: {:?} at the end of memory", got[0].0));
-            ask(run, &mut s, &asked, ROWS);
+            s.ask(run, &asked, ROWS);
         }
     }
 }
@@ -415,7 +385,7 @@ fn unread(run: &mut Run, pages: usize, d: usize, points: usize) {
             if weights.iter().all(|&w| w == 0) {
                 weights[0] = 1;
             }
-            let asked = Asked { k: 1 + s.rng.below(6), ..some_question(&mut s, &weights) };
+            let asked = Asked { k: 1 + s.rng.below(6), dates: s.dates(), ..some_question(&mut s, &weights) };
             each_way(run, &mut s, asked);
         }
     }

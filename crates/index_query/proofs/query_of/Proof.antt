@@ -29,9 +29,12 @@ features-by-requires c κs = let S = (c .before .before .before) in let O = (c .
       λ t. own-weights (now (S .args .weights)) (S .args .what .weighted) n (S .pre .weights) t ∙ sym (length-take-le n (O .slots-of .result) (omega (arith, S .pre .most))),
     )
 
+window-of-requires : tie.Need-window-of-requires
+window-of-requires c κs = search needs
+
 returns : tie.Need-returns
-returns c = let S = (c .before .before .before .before) in let O = (c .before .before) in
-    query-for (now (S .args .point)) (now (S .args .weights)) (S .args .what) (O .slots-of .result) _ (O .slots-of .ensures) (S .pre) _ (omega arith) (c .features-by .ensures)
+returns c = let S = (c .before .before .before .before .before) in let O = (c .before .before .before) in
+    query-for (now (S .args .point)) (now (S .args .weights)) (S .args .what) (O .slots-of .result) _ (O .slots-of .ensures) (S .pre) _ (omega arith) _ (c .window-of .ensures) (c .before .features-by .ensures)
 
 pub query-of-spec : {M : Type 1} → statement M
 query-of-spec =
@@ -41,4 +44,5 @@ query-of-spec =
     array-share-prefix-slots
     slice-aggregate-features-by
     features-by-requires
+    window-of-requires
     returns)

@@ -45,11 +45,14 @@ returns-6 c =
     question-further (now (a .index)) (questionOf (now (a .point)) (now (a .weights)) (a .what)) (a .lent) _ (c .before .before .before .before .before .before .before .before .before .before .before .refuse-weighing .ensures) (c .before .before .before .before .before .before .before .before .before .before .if1 .left) badStageSet
     (inr ((omega arith, omega arith), inr (omega arith, inl (refl, λ h. let l : a .what .stages ≤ 63 = h .1 in omega arith))))
 
+refuse-days-requires : tie.Need-refuse-days-requires
+refuse-days-requires c κs = search needs
+
 returns-7 : tie.Need-returns-7
 returns-7 c =
-    let a = c .before .before .before .before .before .before .before .before .before .before .before .before .before .before .args in
-    question-further (now (a .index)) (questionOf (now (a .point)) (now (a .weights)) (a .what)) (a .lent) _ (c .before .before .before .before .before .before .before .before .before .before .before .refuse-weighing .ensures) (c .before .before .before .before .before .before .before .before .before .before .if1 .left) 0 (inr ((omega arith, omega arith), inr (omega arith, inr ((omega arith, omega arith), refl))))
+    let a = c .before .before .before .before .before .before .before .before .before .before .before .before .before .before .before .args in
+    question-further (now (a .index)) (questionOf (now (a .point)) (now (a .weights)) (a .what)) (a .lent) _ (c .before .before .before .before .before .before .before .before .before .before .before .before .refuse-weighing .ensures) (c .before .before .before .before .before .before .before .before .before .before .before .if1 .left) _ (inr ((omega arith, omega arith), inr (omega arith, inr ((omega arith, omega arith), c .refuse-days .ensures))))
 
 pub refuse-question-spec : {M : Type 1} → statement M
 refuse-question-spec =
-    tie.close (tie.spec refuse-weighing-requires returns returns-2 returns-3 returns-4 returns-5 returns-6 returns-7)
+    tie.close (tie.spec refuse-weighing-requires returns returns-2 returns-3 returns-4 returns-5 returns-6 refuse-days-requires returns-7)

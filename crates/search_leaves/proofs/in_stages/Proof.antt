@@ -1,7 +1,7 @@
 -- `in_stages` meets its contract: the shift brings the stage's bit to the front, and the mask leaves that bit.
 use native.Mathlib.Omega.{arith}
 use borrow.Author.Needs.{needs}
-use Rattle.search_leaves.proofs.StageLaws.{past-bits, bit-in}
+use Rattle.search_leaves.proofs.CandidateLaws.{past-bits, bit-in}
 use Rattle.search_leaves.proofs.in_stages.Statement.{statement}
 use Rattle.search_leaves.proofs.in_stages.Tie as tie
 

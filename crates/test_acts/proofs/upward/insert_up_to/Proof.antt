@@ -6,10 +6,10 @@ use Rattle.test_acts.proofs.upward.insert_up_to.Statement.{statement}
 use Rattle.test_acts.proofs.upward.insert_up_to.Tie as tie
 
 abbrev Inv-loop : tie.InvT-loop
-Inv-loop index₀ n done₀ i₀ index done i = (n ≤ 17) × (i ≤ n) × (done ≤ i) × (length index ≡ length index₀)
+Inv-loop index₀ n daily done₀ i₀ index done i = (n ≤ 17) × (i ≤ n) × (done ≤ i) × (length index ≡ length index₀)
 
 abbrev μ-loop : tie.MeasureT-loop
-μ-loop index₀ n done₀ i₀ index done i = n - i
+μ-loop index₀ n daily done₀ i₀ index done i = n - i
 
 loop-holds : tie.Need-loop-holds Inv-loop μ-loop
 loop-holds c = search needs

@@ -7,10 +7,10 @@ use Rattle.test_model.proofs.scan.candidate_count.Statement.{statement}
 use Rattle.test_model.proofs.scan.candidate_count.Tie as tie
 
 abbrev Inv-loop : tie.InvT-loop
-Inv-loop marks stages n₀ p₀ n p = (p ≤ length marks) × (n ≤ p)
+Inv-loop marks wanted n₀ p₀ n p = (p ≤ length marks) × (n ≤ p)
 
 abbrev μ-loop : tie.MeasureT-loop
-μ-loop marks stages n₀ p₀ n p = length marks - p
+μ-loop marks wanted n₀ p₀ n p = length marks - p
 
 loop-holds : tie.Need-loop-holds Inv-loop μ-loop
 loop-holds c = search needs

@@ -6,10 +6,10 @@ use Rattle.test_model.proofs.scan.measure.Statement.{statement}
 use Rattle.test_model.proofs.scan.measure.Tie as tie
 
 abbrev Inv-loop : tie.InvT-loop
-Inv-loop distances₀ places marks q weights stages p₀ distances p = (p ≤ length marks) × (length distances ≡ length marks)
+Inv-loop distances₀ places marks q weights wanted p₀ distances p = (p ≤ length marks) × (length distances ≡ length marks)
 
 abbrev μ-loop : tie.MeasureT-loop
-μ-loop distances₀ places marks q weights stages p₀ distances p = length marks - p
+μ-loop distances₀ places marks q weights wanted p₀ distances p = length marks - p
 
 loop-holds : tie.Need-loop-holds Inv-loop μ-loop
 loop-holds c = search needs

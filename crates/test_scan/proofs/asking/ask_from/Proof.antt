@@ -13,14 +13,14 @@ slice-aggregate-prepare c = simp length-take (omega arith)
 prepare-requires : tie.Need-prepare-requires
 prepare-requires c κs = ((simp length-take (omega arith), simp length-take (omega arith)), search needs, search needs)
 
-slice-aggregate-ask : tie.Need-slice-aggregate-ask
-slice-aggregate-ask c = search needs
+slice-aggregate-ask-as : tie.Need-slice-aggregate-ask-as
+slice-aggregate-ask-as c = search needs
 
-slice-aggregate-ask-2 : tie.Need-slice-aggregate-ask-2
-slice-aggregate-ask-2 c = search needs
+slice-aggregate-ask-as-2 : tie.Need-slice-aggregate-ask-as-2
+slice-aggregate-ask-as-2 c = search needs
 
-ask-requires : tie.Need-ask-requires
-ask-requires c κs = search needs
+ask-as-requires : tie.Need-ask-as-requires
+ask-as-requires c κs = search needs
 
 slice-aggregate-compare : tie.Need-slice-aggregate-compare
 slice-aggregate-compare c = search needs
@@ -47,9 +47,9 @@ ask-from-spec =
     slice-aggregate-own
     slice-aggregate-prepare
     prepare-requires
-    slice-aggregate-ask
-    slice-aggregate-ask-2
-    ask-requires
+    slice-aggregate-ask-as
+    slice-aggregate-ask-as-2
+    ask-as-requires
     slice-aggregate-compare
     slice-aggregate-compare-2
     compare-requires

@@ -4,10 +4,10 @@ use Rattle.test_scan.proofs.batches.ask_all.Statement.{statement}
 use Rattle.test_scan.proofs.batches.ask_all.Tie as tie
 
 abbrev Inv-loop : tie.InvT-loop
-Inv-loop index places marks pages b leaves weighted seed n s₀ seen₀ i₀ s seen i = i ≤ n
+Inv-loop index places marks pages b leaves way seed n s₀ seen₀ i₀ s seen i = i ≤ n
 
 abbrev μ-loop : tie.MeasureT-loop
-μ-loop index places marks pages b leaves weighted seed n s₀ seen₀ i₀ s seen i = n - i
+μ-loop index places marks pages b leaves way seed n s₀ seen₀ i₀ s seen i = n - i
 
 cast-n : tie.Need-cast-n Inv-loop μ-loop
 cast-n c = search needs
@@ -20,9 +20,6 @@ loop-holds c = search needs
 
 leap-requires : tie.Need-leap-requires Inv-loop μ-loop
 leap-requires c κs = search needs
-
-asked-pattern-requires : tie.Need-asked-pattern-requires Inv-loop μ-loop
-asked-pattern-requires c κs = search needs
 
 ask-one-requires : tie.Need-ask-one-requires Inv-loop μ-loop
 ask-one-requires c κs = search needs
@@ -52,7 +49,6 @@ ask-all-spec =
     batch-seed-requires
     loop-holds
     leap-requires
-    asked-pattern-requires
     ask-one-requires
     both-requires
     add-i
