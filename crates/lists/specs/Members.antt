@@ -15,6 +15,7 @@ pub data At {A : Type 0} : List A → ℕ → A → Type 0 where
 
 module _ {A : Type 0} where
   pub all_spot : {P : A → Type 0} {xs : List A} {i : ℕ} {x : A} → All P xs → At xs i x → P x
+  all_spot none a = elim a [ ]
   all_spot (also h t) here = h
   all_spot (also h t) (next a) = all_spot t a
 
@@ -40,6 +41,7 @@ module _ {A : Type 0} where
   spot_map f (next a) = next (spot_map f a)
 
   pub map_spot : {B : Type 0} (f : A → B) (xs : List A) {i : ℕ} {y : B} → At (map f xs) i y → (x : A) × At xs i x × (y ≡ f x)
+  map_spot f [] a = elim a [ ]
   map_spot f (x ∷ xs) here = (x, here, refl)
   map_spot f (x ∷ xs) (next a) = let r = map_spot f xs a in (r.0, next r.1, r.2)
 
@@ -55,13 +57,20 @@ unfolding mult
 mult_spot (here {x = x} {xs = xs}) = omega (arith, mult_self x xs)
 mult_spot (next {x = y} {xs = xs} a) = let ih : 1 ≤ mult _ xs = mult_spot a in omega arith
 
-pub mult_two : {xs : List ℕ} {i j x : ℕ} → At xs i x → At xs j x → i ≢ j → 2 ≤ mult x xs
+-- with an equation between the two numbers, so that the cases can be told apart
+mult_two_as : {xs : List ℕ} {i j x y : ℕ} → At xs i x → At xs j y → x ≡ y → i ≢ j → 2 ≤ mult x xs
 unfolding mult
-mult_two here here h = absurd (h refl)
-mult_two (here {x = x} {xs = xs}) (next b) h = let g : 1 ≤ mult x xs = mult_spot b in omega (arith, mult_self x xs)
-mult_two (next {xs = xs} a) (here {x = x}) h = let g : 1 ≤ mult x xs = mult_spot a in omega (arith, mult_self x xs)
-mult_two (next {y = y} {xs = xs} a) (next b) h =
-    let ih : 2 ≤ mult y xs = mult_two a b (λ e. h (ap suc e)) in omega arith
+mult_two_as here here e h = absurd (h refl)
+mult_two_as (here {x = x} {xs = xs}) (next {y = y} b) e h =
+    let g : 1 ≤ mult x xs = subst (λ (z : ℕ). 1 ≤ mult z xs) (sym e) (mult_spot b) in omega (arith, mult_self x xs)
+mult_two_as (next {y = y} {xs = xs} a) (here {x = x}) e h =
+    let g : 1 ≤ mult y xs = mult_spot a in
+    omega (arith, ap indicator (eq-eqb y x e))
+mult_two_as (next {y = y} {xs = xs} a) (next b) e h =
+    let ih : 2 ≤ mult y xs = mult_two_as a b e (λ (z : _ ≡ _). h (ap suc z)) in omega arith
+
+pub mult_two : {xs : List ℕ} {i j x : ℕ} → At xs i x → At xs j x → i ≢ j → 2 ≤ mult x xs
+mult_two a b h = mult_two_as a b refl h
 
 pub mult_find : (q : ℕ) (xs : List ℕ) → 0 < mult q xs → (i : ℕ) × At xs i q
 unfolding mult
