@@ -1,5 +1,6 @@
 // The acts program (01): runs the acts of a text, read from standard input, on a 64-page index, and writes what they print to standard
 // output.
+#![tactic(auto)]
 ghost use Rattle.std.specs.Prelude.{◌≡◌, ◌≤◌, length};
 ghost use Rattle.io.specs.Counts.{IsPrefixLen};
 ghost use Rattle.acts_output.specs.Puts.{most_printed};

@@ -1,4 +1,5 @@
 // Where a run of the acts program stands, and its output buffer: room made for what a line prints, by handing over what stands there.
+#![tactic(auto)]
 ghost use Rattle.std.specs.Prelude.{◌≡◌, true, false, ◌≤◌, length};
 ghost use Rattle.acts_output.specs.Puts.{most_printed};
 ghost use Rattle.acts_buffer.specs.Room.{Placed, Flushed, Open, Full, Cleared};
@@ -11,7 +12,7 @@ const LAST: u64 = 18446744073709551614;
 
 // Where a run stands: whether it goes on, the features named, the number of the current line, how many of its bytes are held, where the
 // chunk goes on, and where the output goes on.
-#[derive(Drop)]
+#[derive(Clone, Copy)]
 pub struct Progress {
     pub going: bool,
     pub d: usize,

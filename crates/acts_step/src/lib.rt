@@ -1,5 +1,6 @@
 // The acts program by the line (01, "The acts program"): what the first line and each line of values do to the index and print, and how a
 // run goes on from chunk to chunk of input.
+#![tactic(auto)]
 mod acting;
 mod input;
 mod lines;
@@ -8,7 +9,7 @@ pub use input::{end_input, end_line, take_line};
 pub use lines::{first_line, step};
 
 // What the first line leaves: the features that it names, 0 where the program ends, and where the output goes on.
-#[derive(Drop)]
+#[derive(Clone, Copy)]
 pub struct Begun {
     pub d: usize,
     pub at: usize,

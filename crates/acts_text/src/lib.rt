@@ -1,5 +1,6 @@
 // The acts text (01, "The acts program"): reads the line of names and the lines of values, and cuts input into lines.
 // Every function takes any bytes; one that writes asks only for room in the lent buffer.
+#![tactic(auto)]
 use lines::MAX_FEATURES;
 
 pub mod input;
@@ -7,7 +8,7 @@ pub mod lines;
 pub mod names;
 
 // What a line of values says. An unreadable line has 0 in every field but the first; slots past d hold 0.
-#[derive(Drop)]
+#[derive(Clone, Copy)]
 pub struct ActLine {
     pub readable: bool,
     pub act: u32,
@@ -20,7 +21,7 @@ pub struct ActLine {
 }
 
 // How far a chunk of input took the current line.
-#[derive(Drop)]
+#[derive(Clone, Copy)]
 pub struct Fed {
     pub ended: bool,
     pub held: usize,

@@ -1,4 +1,6 @@
 // Dates from 1 January 2000 to 31 December 2099, and recording days (Q-4).
+#![tactic(auto)]
+
 ghost use Rattle.std.specs.Prelude.{◌≡◌, true, false, ◌+◌, ◌<◌, ◌≤◌};
 ghost use Rattle.calendar.specs.Dates.{leap as leapYear, month_days};
 ghost use Rattle.calendar.specs.Days.{noon, days_if};
@@ -6,7 +8,7 @@ ghost use Rattle.calendar.specs.Counting.{in_calendar, before, days_of_years, da
 
 // A date as a caller gives it; it need not exist.
 #[repr(C)]
-#[derive(Drop)]
+#[derive(Clone, Copy)]
 pub struct Date {
     pub year: u16,
     pub month: u8,
@@ -15,14 +17,14 @@ pub struct Date {
 
 // A first and a last date.
 #[repr(C)]
-#[derive(Drop)]
+#[derive(Clone, Copy)]
 pub struct Dates {
     pub first: Date,
     pub last: Date,
 }
 
 // The stamps that a question lets pass: all of them, or, bounded, those from one up to, not including, another.
-#[derive(Drop)]
+#[derive(Clone, Copy)]
 pub struct Window {
     pub bounded: bool,
     pub from: u32,

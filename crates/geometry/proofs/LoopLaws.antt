@@ -52,7 +52,7 @@ unfolding height_of axis_at
 axis_later c cs l =
     let e : max (nat_abs c) (height_of cs) ≡ height_of cs = omega arith in
     let n : nat_abs c ≢ height_of cs = omega arith in
-    (e, rw (e, ne_eqb (nat_abs c) (height_of cs) n))
+    (e, rw (e, ne_eqb (nat_abs c) (height_of cs) n) (ap (λ (h : ℕ). suc (axis_at h cs)) e))
 
 lead_first : (n : ℕ) (c : ℤ) (cs : List ℤ) → height_of cs ≤ nat_abs c → top_lead (suc n) cs ≤ height_of cs * 16 + (15 - n)
     → top_lead n (c ∷ cs) ≡ height_of (c ∷ cs) * 16 + (15 - (n + axis_at (height_of (c ∷ cs)) (c ∷ cs)))

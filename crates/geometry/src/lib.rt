@@ -1,4 +1,5 @@
 // The geometry of the index: keys, the pyramid and height of a point, gaps and what they cost.
+#![tactic(auto)]
 pub mod keys;
 pub mod points;
 
@@ -16,21 +17,21 @@ pub const MIN_SIGNED: i16 = -MAX_SIGNED;
 pub const MAX_SIGNED: i16 = MAX_COORDINATE as i16;
 
 // A pyramid number counts regions and a height counts steps from the centre; neither stands for the other.
-#[derive(Drop)]
+#[derive(Clone, Copy)]
 pub struct Pyramid(pub u8);
 
-#[derive(Drop)]
+#[derive(Clone, Copy)]
 pub struct Height(pub u16);
 
 // The pair of a point (01, "Pyramid and height").
-#[derive(Drop)]
+#[derive(Clone, Copy)]
 pub struct Pair {
     pub pyramid: Pyramid,
     pub height: Height,
 }
 
 // A key (01): compared by pyramid, then height, then identifier.
-#[derive(Drop)]
+#[derive(Clone, Copy)]
 pub struct Key {
     pub pyramid: Pyramid,
     pub height: Height,

@@ -1,6 +1,7 @@
 // The least height at which each pyramid is nearest, of all pyramids at once: bisection in lanes, one for each pyramid, without a branch.
 // From height h to h + 1 a distance falls by what its coordinates come down, and rises by what the axis goes on past its range: two
 // weighted sums.
+#![tactic(auto)]
 pub mod bisection;
 mod pulls;
 

@@ -1,4 +1,5 @@
 // A question as the code holds it, and the least distance to the grid points of one pyramid and height.
+#![tactic(auto)]
 pub mod asked;
 pub mod slices;
 pub mod tables;

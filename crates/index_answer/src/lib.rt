@@ -1,4 +1,5 @@
 // What a caller lends to a question: a run of rows, and a tally. Both are changed by thin functions; the rest works on values and shared slices.
+#![tactic(auto)]
 ghost use Rattle.std.specs.Prelude.{◌≡◌, ◌<◌, min, length};
 ghost use Rattle.index_answer.specs.Tallies.{saturated, counted};
 ghost use Rattle.index_answer.specs.Filling.{row_at, rows_lent, filled};
@@ -8,7 +9,7 @@ use search_rows::{Row, row_of};
 
 // A caller's tally (01): the questions carried out, and the leaves that they read.
 #[repr(C)]
-#[derive(Drop)]
+#[derive(Clone, Copy)]
 pub struct Tally {
     pub questions: u32,
     pub leaves: u32,
@@ -83,7 +84,7 @@ pub fn fill_rows(rows: &mut [Row], highs: &[u64], lows: &[u64], count: usize)
 
 // What a question returns: its number, how many rows, and how many leaves were read.
 #[repr(C)]
-#[derive(Drop)]
+#[derive(Clone, Copy)]
 pub struct Answer {
     pub code: u32,
     pub count: usize,

@@ -1,4 +1,5 @@
 // What a caller asks, as the search takes it; its definitions say when a question is answered.
+#![tactic(auto)]
 ghost use Rattle.std.specs.Prelude.{◌≡◌, true, ◌≤◌, length, replicate};
 ghost use Rattle.lists.specs.Basics.{if};
 ghost use Rattle.geometry_slices.specs.Questions.{LaidOut};
@@ -15,7 +16,7 @@ use search_rows::marks::past_of;
 
 // What is asked of a point.
 #[repr(C)]
-#[derive(Drop)]
+#[derive(Clone, Copy)]
 pub struct Criteria {
     pub k: usize, // how many of its nearest
     pub stages: u8, // of which stages: bit s for stage s

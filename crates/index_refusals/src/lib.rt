@@ -1,5 +1,6 @@
 // The refusal table: which number an act gives, tested in its order. Of the bytes nothing is known here, and number 2 goes by the header's level
 // alone.
+#![tactic(auto)]
 ghost use Rattle.std.specs.Prelude.{◌≡◌, true, ◌≤◌, ◌<◌, length};
 ghost use Rattle.geometry.specs.Stored.{in_range};
 ghost use Rattle.pagestore.specs.Store.{free_at};
@@ -58,7 +59,7 @@ pub const BAD_DATE: u32 = 17; // a date does not exist or lies outside 1 January
 pub const DATES_REVERSED: u32 = 18; // the last date is before the first
 
 // What an insert brings besides its point: the identifier, the stage, and the stamp, seconds since 1 January 2000 00:00 by the lab clock.
-#[derive(Drop)]
+#[derive(Clone, Copy)]
 pub struct Epoch {
     pub id: u32,
     pub stage: u8,

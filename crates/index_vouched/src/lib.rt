@@ -3,6 +3,7 @@
 // (`vouched_same`), in the time of one way down the tree. An insert of an identifier that is live leaves an index that is not sound, with
 // the identifier in it twice. A delete of a record that is not there is refused, so that a wrong word does no harm. On any bytes each ends
 // without a fault, and what it returns and leaves is stated.
+#![tactic(auto)]
 ghost use Rattle.index_refusals.specs.Refusals.{First};
 ghost use Rattle.index_vouched.specs.Vouched.{vouched_insert, VouchedInserted, VouchedDeleted};
 

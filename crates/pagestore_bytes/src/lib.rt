@@ -1,4 +1,5 @@
 // Numbers in bytes, little-endian.
+#![tactic(auto)]
 ghost use Rattle.std.specs.Prelude.{◌≡◌, [], ◌∷◌, ◌+◌, ◌<◌, ◌≤◌, length, replicate};
 ghost use Rattle.pagestore_bytes.specs.Bytes.{byte_at, le_at, le_bytes, put};
 

@@ -1,4 +1,5 @@
 // Free pages: taking one, and freeing one.
+#![tactic(auto)]
 ghost use Rattle.std.specs.Prelude.{◌≡◌};
 ghost use Rattle.pagestore.specs.Store.{page_taken, take_page, free_page};
 

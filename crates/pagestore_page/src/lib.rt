@@ -1,5 +1,6 @@
 // One page in bytes: keys, entries and records, leaf, inner and freed pages. docs/LAYOUT.md has the table of offsets. Each function is handed a
 // page's part of the index, 1,024 bytes; which part that is, is the affair of `pagestore`.
+#![tactic(auto)]
 use geometry::{Key, MAX_FEATURES};
 
 mod inners;
@@ -35,7 +36,7 @@ pub use links::{read_link, write_freed};
 
 // A record as it is stored: its identifier, its stage and its stamp, and 16 coordinate slots, each a coordinate with 1,000 added. A page
 // keeps 11 bits of each.
-#[derive(Drop)]
+#[derive(Clone, Copy)]
 pub struct Record {
     pub id: u32,
     pub stage: u8,
@@ -44,14 +45,14 @@ pub struct Record {
 }
 
 // A leaf page. The count is as stored and may be above 16; there are 16 slots.
-#[derive(Drop)]
+#[derive(Clone, Copy)]
 pub struct Leaf {
     pub count: usize,
     pub records: [Record; MAX_ITEMS],
 }
 
 // An inner entry: a child with its first and last key.
-#[derive(Drop)]
+#[derive(Clone, Copy)]
 pub struct Entry {
     pub child: u32,
     pub first: Key,
@@ -59,7 +60,7 @@ pub struct Entry {
 }
 
 // An inner page. Level and count are as stored; there are 16 slots.
-#[derive(Drop)]
+#[derive(Clone, Copy)]
 pub struct Inner {
     pub level: u8,
     pub count: usize,

@@ -3,6 +3,7 @@
 // Best first (01, "A question"): a heap holds branches, pages of every level, by bound, position of the first leaf, level
 // from the highest on, and page. The first one is taken until its bound exceeds the k-th distance: an inner page gives its
 // entries to the heap, a leaf page is handed to the one function that reads leaf pages.
+#![tactic(auto)]
 ghost use Rattle.search.specs.Steps.{asks, Seeks, Looks, Searches, Searched};
 ghost use Rattle.search_model.specs.Asked.{asking};
 
@@ -19,7 +20,7 @@ mod visit;
 
 // What is asked: the features, laid out in one list as `geometry_slices::asked::ask` does it, their number, how many rows, and of
 // which records.
-#[derive(Drop)]
+#[derive(Clone, Copy)]
 pub struct Query {
     pub features: [u16; ASKED_PLACES],
     pub d: usize,
@@ -28,7 +29,7 @@ pub struct Query {
 }
 
 // What a search has seen: the number of rows held in the arrays lent to it, and the number of leaves read.
-#[derive(Drop)]
+#[derive(Clone, Copy)]
 pub struct Seen {
     pub rows: usize,
     pub leaves: u32,

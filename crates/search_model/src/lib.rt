@@ -1,5 +1,6 @@
 // What is asked of an index, the visit that answers it, and what is promised of its answer. All of it is in specs/ and proofs/; this
 // file holds no function, only the numbers and the choice of which they speak.
+#![tactic(auto)]
 use calendar::Window;
 use search_rows::Past;
 
@@ -29,7 +30,7 @@ pub const ALL_STAGES: u8 = 63;
 
 // Which records are looked for: those whose stage is in the set, bit s for stage s, whose stamp lies in the window, and which are past the
 // mark, where one is carried.
-#[derive(Drop)]
+#[derive(Clone, Copy)]
 pub struct Choice {
     pub stages: u8,
     pub window: Window,

@@ -1,4 +1,5 @@
 // The best rows of a question so far, in row order, held in two lent arrays; marks, and which rows are past them (`marks`).
+#![tactic(auto)]
 ghost use Rattle.std.specs.Prelude.{◌≡◌, ◌+◌, ◌≤◌, length};
 ghost use Rattle.search_rows.specs.Rows.{row_order, row_of, age_of, high_of, low_of, distance_in, FitsWords};
 ghost use Rattle.search_rows.specs.Held.{behind_all, GivesWay, Held, Offered};
@@ -11,7 +12,7 @@ pub const MAX_ROWS: usize = 64;
 // A row (01, 02): the squared distance, weighted where weights are asked for, the identifier and the stamp of a record, and the position of the leaf that holds it.
 // Its 24 bytes have no gap.
 #[repr(C)]
-#[derive(Drop)]
+#[derive(Clone, Copy)]
 pub struct Row {
     pub distance: u64,
     pub id: u32,
@@ -21,7 +22,7 @@ pub struct Row {
 
 // A mark (02, Q-6): a distance, a stamp and an identifier. It need not be a record's.
 #[repr(C)]
-#[derive(Drop)]
+#[derive(Clone, Copy)]
 pub struct Mark {
     pub distance: u64,
     pub stamp: u32,
@@ -29,7 +30,7 @@ pub struct Mark {
 }
 
 // Which rows are looked for: those past the mark in row order, where one is carried, else all.
-#[derive(Drop)]
+#[derive(Clone, Copy)]
 pub struct Past {
     pub marked: bool,
     pub mark: Mark,

@@ -1,6 +1,7 @@
 // Two ways to the lowest page that holds a repeated identifier, both by buckets. Few identifiers are compared with those of their bucket as they come,
 // with at most nine each. Where that does not settle it, and for more identifiers, the buckets are walked one after the other, and a last-seen
 // table says where the high 18 bits of each identifier were met last: two of a bucket with the same high bits are the same.
+#![tactic(auto)]
 ghost use Rattle.std.specs.Prelude.{true, ◌≡◌, ◌+◌, ◌≤◌, ◌<◌, ◌/◌, length, get_or};
 ghost use Rattle.sound_chains.specs.Repeats.{lowest_repeat};
 ghost use Rattle.sound_chains.specs.Chains.{buckets, max_idents, bucket_of, latest, Heads, Chained, Room, Blank};
@@ -20,7 +21,7 @@ const PASSES: usize = 8;
 const SLOTS: usize = 262144;
 
 // What comparing within the buckets found: the lowest page, if settled.
-#[derive(Drop)]
+#[derive(Clone, Copy)]
 pub struct Attempt {
     pub settled: bool,
     pub page: u16,

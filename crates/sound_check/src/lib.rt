@@ -3,6 +3,7 @@
 // In phases, each of which ends at the first fault: the header; the chain of freed pages, which are marked; the root; `reach`, the only
 // recursion, which marks the pages that are followed; these pages in turn, each by itself; their entries; the total; pages in no state;
 // identifiers. Linear on any bytes.
+#![tactic(auto)]
 ghost use Rattle.std.specs.Prelude.{◌≡◌, ◌≤◌, eqb};
 ghost use Rattle.lists.specs.Basics.{if};
 ghost use Rattle.pagestore.specs.Store.{view_of};
@@ -30,7 +31,7 @@ const SMALL_PAGES: u32 = 1024;
 const SMALL_POINTS: u32 = 4096;
 
 // The answer: code 0, or 2 with a page at which soundness fails.
-#[derive(Drop)]
+#[derive(Clone, Copy)]
 pub struct Checked {
     pub code: u8,
     pub page: u32,

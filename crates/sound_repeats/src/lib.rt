@@ -1,6 +1,7 @@
 // The lowest page that holds a repeated identifier, among up to 65,535 identifiers with the page of each, in linear time whatever they are.
 //
 // Where all differ by their low 12 or 16 bits, they are distinct. Else they go by buckets.
+#![tactic(auto)]
 ghost use Rattle.std.specs.Prelude.{true, ◌≡◌, ◌≤◌, ◌<◌, length, take};
 ghost use Rattle.lists.specs.Distinct.{Distinct};
 ghost use Rattle.sound_chains.specs.Repeats.{lowest_repeat};

@@ -1,5 +1,6 @@
 // The visit of the followed pages in turn: each is judged by itself, its first and last key are kept, and the identifiers of a leaf are
 // collected, each with its page.
+#![tactic(auto)]
 ghost use Rattle.std.specs.Prelude.{◌≡◌, map, ◌+◌, ◌<◌, ◌≤◌, length};
 ghost use Rattle.pagestore.specs.Store.{view_of, leaf_at, records_in};
 ghost use Rattle.tree_model.specs.Trees.{ident_of};
@@ -13,7 +14,7 @@ use sound_links::place;
 use sound_pages::keep_page;
 
 // What the visit gives: a page that is not fine by itself, or 0, and the number of records.
-#[derive(Drop)]
+#[derive(Clone, Copy)]
 pub struct Findings {
     pub page: u32,
     pub points: usize,

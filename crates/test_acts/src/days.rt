@@ -115,7 +115,7 @@ fn ask_nights(index: &[u8]) {
 // Leaves, on an index of 1 to 17 with stamps: n at the midnight that ends n January 2000
 
 // What a question should give: how many rows and leaves, and the identifier of row k.
-#[derive(Drop)]
+#[derive(Clone, Copy)]
 struct Said {
     rows: u64,
     leaves: u64,

@@ -57,7 +57,7 @@ fn refused_sets(index: &[u8]) {
 }
 
 // What a question should give: how many rows and leaves, and its first row, if it has one.
-#[derive(Drop)]
+#[derive(Clone, Copy)]
 struct Said {
     rows: u64,
     leaves: u64,

@@ -5,7 +5,7 @@ use crate::numbers::next;
 use calendar::{Date, Dates};
 
 // The days asked for, if any are.
-#[derive(Drop)]
+#[derive(Clone, Copy)]
 pub struct Days {
     pub given: bool,
     pub first: u32,

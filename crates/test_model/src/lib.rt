@@ -1,5 +1,6 @@
 // What a question must give, worked out apart from the index and its search: points drawn by a generator of numbers, a full scan of them,
 // the leaves whose bound is at most a distance, and an answer compared with these.
+#![tactic(auto)]
 use crate::days::Days;
 use crate::reading::Reading;
 use geometry::MAX_FEATURES;
@@ -23,7 +24,7 @@ pub const HEIGHTS: usize = 1001;
 pub const PAIRS: usize = 2 * MAX_FEATURES * HEIGHTS;
 
 // The points that a question is about: those of a set of stages and of some days, from where it reads on.
-#[derive(Drop)]
+#[derive(Clone, Copy)]
 pub struct Wanted {
     pub stages: u8,
     pub days: Days,
@@ -31,7 +32,7 @@ pub struct Wanted {
 }
 
 // What a question asks for: the features, k, which points and whether it carries weights; the way in which it is asked, and the number of leaves.
-#[derive(Drop)]
+#[derive(Clone, Copy)]
 pub struct Asked {
     pub d: usize,
     pub k: usize,
@@ -42,7 +43,7 @@ pub struct Asked {
 }
 
 // What came: the rows and the leaves read, and how many of them differ from the full scan.
-#[derive(Drop)]
+#[derive(Clone, Copy)]
 pub struct Seen {
     pub rows: u64,
     pub leaves: u64,
@@ -50,7 +51,7 @@ pub struct Seen {
 }
 
 // A batch: the features, the points and how they lie, and how many questions are asked in each round.
-#[derive(Drop)]
+#[derive(Clone, Copy)]
 pub struct Batch {
     pub d: usize,
     pub points: usize,

@@ -9,7 +9,7 @@ use search_rows::{MAX_ROWS, Mark, Row, row_of};
 use std::num::{wrapping_add_u64, wrapping_sub_u64};
 
 // The mark, if there is one.
-#[derive(Drop)]
+#[derive(Clone, Copy)]
 pub struct Reading {
     pub given: bool,
     pub mark: Mark,

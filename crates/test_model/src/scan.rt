@@ -135,7 +135,7 @@ fn least(distances: &[u64], labels: &[u64]) -> usize
 }
 
 // What the scan finds next.
-#[derive(Drop)]
+#[derive(Clone, Copy)]
 pub struct Near {
     pub distance: u64,
     pub id: u32,

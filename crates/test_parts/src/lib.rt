@@ -1,4 +1,5 @@
 // What the test programs share: lines of output, coordinates by their places, and the leaves of an index in key order.
+#![tactic(auto)]
 pub mod answers;
 pub mod listing;
 pub mod places;

@@ -77,7 +77,7 @@ fn marked_if(index: &[u8], q: &[u16], weights: &[u16], asked: Asked, seed: u64) 
 }
 
 // What came of a list, where the next one begins, and whether there may be one.
-#[derive(Drop)]
+#[derive(Clone, Copy)]
 struct List {
     seen: Seen,
     last: Mark,

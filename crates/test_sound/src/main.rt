@@ -2,6 +2,7 @@
 //
 // The sound index: 8 pages, one feature. Pages 1 and 2 are leaves of the points 1 .. 8 and 9 .. 16, page 3 is the root over them, page 4 is
 // freed, and pages 5 to 7 were never used.
+#![tactic(auto)]
 ghost use Rattle.std.specs.Prelude.{◌≤◌};
 
 use geometry::{Height, Key, Pyramid};

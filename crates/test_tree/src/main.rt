@@ -1,4 +1,5 @@
 // The tree's examples of 01: d = 1, the identifiers 1 to 17 at 1 to 17, inserted upward.
+#![tactic(auto)]
 ghost use Rattle.std.specs.Prelude.{◌≤◌, ◌<◌};
 
 use geometry::MAX_FEATURES;

@@ -1,4 +1,5 @@
 // Insertion into the tree. Each function is total, whatever the index holds.
+#![tactic(auto)]
 mod insertion;
 mod roots;
 

@@ -1,4 +1,5 @@
 // Items gathered one after the other, up to one more than a page holds, and made into pages.
+#![tactic(auto)]
 use pagestore::{Entry, MAX_ITEMS, MIN_ITEMS, Record};
 
 mod items;
@@ -13,13 +14,13 @@ pub const MAX_GATHERED: usize = MAX_ITEMS + 1;
 
 pub const KEPT_ITEMS: usize = MIN_ITEMS + 1;
 
-#[derive(Drop)]
+#[derive(Clone, Copy)]
 pub struct RecordList {
     pub count: usize,
     pub items: [Record; MAX_GATHERED],
 }
 
-#[derive(Drop)]
+#[derive(Clone, Copy)]
 pub struct EntryList {
     pub count: usize,
     pub items: [Entry; MAX_GATHERED],
