@@ -9,9 +9,9 @@
  * What holds of every function here:
  * - All memory is the caller's. Nothing is allocated, and no pointer is kept after the return. There is no other state, so threads may work
  *   on different indexes, and ask or check the same index, at the same time; a change wants the index for itself.
- * - A run of memory is a pointer and its length in elements. A pointer is not null, even where the length is 0 (but for the weights, the
- *   dates and the mark of epoch_index_question, epoch_index_trusted_question and epoch_index_criteria_of), is aligned for its type and
- *   leads to that many elements. What a function writes (a pointer without const) overlaps nothing else that the call is handed.
+ * - A run of memory is a pointer and its length in elements. A pointer is not null, even where the length is 0 (but for the weights and the
+ *   dates of epoch_index_question, epoch_index_trusted_question and epoch_index_criteria_of), is aligned for its type and leads to that many elements. What a
+ *   function writes (a pointer without const) overlaps nothing else that the call is handed.
  * - Every value of every parameter has a defined outcome; what cannot be done is refused with a code, and a refusal changes no byte.
  * - The bytes of an index may be anything: an act refuses a damaged index (EPOCH_INDEX_UNSOUND) and is never led astray by it.
  * - Stack: up to 1.5 MB for an act, whatever the bytes hold.
@@ -33,9 +33,9 @@ extern "C" {
 
 /* The version of these headers and of the library they declare. */
 #define EPOCH_INDEX_VERSION_MAJOR 0
-#define EPOCH_INDEX_VERSION_MINOR 7
+#define EPOCH_INDEX_VERSION_MINOR 6
 #define EPOCH_INDEX_VERSION_PATCH 0
-#define EPOCH_INDEX_VERSION "0.7.0"
+#define EPOCH_INDEX_VERSION "0.6.0"
 
 /* Limits. A length in bytes is a multiple of the page, EPOCH_INDEX_MIN_PAGES to EPOCH_INDEX_MAX_PAGES of them. */
 #define EPOCH_INDEX_PAGE_BYTES 1024
@@ -125,24 +125,13 @@ typedef struct epoch_index_dates {
     epoch_index_date last;
 } epoch_index_dates;
 
-/* A mark: the distance, the stamp and the identifier of a row, past which a list is read on. It may hold any numbers: no record need have
- * them. */
-typedef struct epoch_index_mark {
-    uint64_t distance;
-    uint32_t stamp;
-    uint32_t id;
-} epoch_index_mark;
-
-/* What is asked of a point, as the library takes it. Its flags hold true or false; where `dated` is false `dates` is disregarded, where
- * `marked` is false `mark` is. */
+/* What is asked of a point, as the library takes it. Its flags hold true or false; where `dated` is false `dates` is disregarded. */
 typedef struct epoch_index_criteria {
     size_t k;
     uint8_t stages;
     bool weighted;
     bool dated;
-    bool marked;
     epoch_index_dates dates;
-    epoch_index_mark mark;
 } epoch_index_criteria;
 
 /* What a question returns: its code, how many rows it wrote, and how many leaves it read; refused, 0 rows and 0 leaves. */
@@ -167,40 +156,26 @@ uint32_t epoch_index_insert(uint8_t *index, size_t index_len, uint32_t id, uint8
  * Refusals: EPOCH_INDEX_BAD_LENGTH, EPOCH_INDEX_UNSOUND, EPOCH_INDEX_ZERO_ID, EPOCH_INDEX_NOT_LIVE. */
 uint32_t epoch_index_delete(uint8_t *index, size_t index_len, uint32_t id);
 
-/* The mark of a row: the last row of a list marks where the list goes on. */
-static inline epoch_index_mark epoch_index_mark_of(const epoch_index_row *row)
-{
-    const epoch_index_mark mark = {row->distance, row->stamp, row->id};
-    return mark;
-}
-
-/* The criteria of `k` records of some stages, by weights, within dates and past a mark, where the pointers to them are not null. */
+/* The criteria of `k` records of some stages, by weights and within dates, where the pointers to them are not null. */
 static inline epoch_index_criteria epoch_index_criteria_of(size_t k, uint8_t stages, const uint16_t *weights,
-                                                           const epoch_index_dates *dates, const epoch_index_mark *mark)
+                                                           const epoch_index_dates *dates)
 {
-    const epoch_index_dates no_dates = {{0, 0, 0}, {0, 0, 0}};
-    const epoch_index_mark no_mark = {0, 0, 0};
-    const epoch_index_criteria what = {k,
-                                       stages,
-                                       weights != NULL,
-                                       dates != NULL,
-                                       mark != NULL,
-                                       dates != NULL ? *dates : no_dates,
-                                       mark != NULL ? *mark : no_mark};
+    const epoch_index_dates none = {{0, 0, 0}, {0, 0, 0}};
+    const epoch_index_criteria what = {k, stages, weights != NULL, dates != NULL, dates != NULL ? *dates : none};
     return what;
 }
 
-/* The question as the library exports it: `what` says whether it carries weights, dates and a mark. Where it carries no weights, what
- * `weights` leads to is disregarded, but the pointer is not null. epoch_index_question, below, says what is asked, and calls it. */
+/* The question as the library exports it: `what` says whether it carries weights and dates. Where it carries no weights, what `weights`
+ * leads to is disregarded, but the pointer is not null. epoch_index_question, below, says what is asked, and calls it. */
 epoch_index_answer epoch_index_ask(const uint8_t *index, size_t index_len, const int16_t *point, size_t point_len, const uint16_t *weights,
                                    size_t weights_len, epoch_index_criteria what, epoch_index_row *rows, size_t rows_len,
                                    epoch_index_tally *tally);
 
-/* Asks for the `k` records nearest to `point` among those whose stage is in the set `stages`, whose stamp lies in the days of `dates` and
- * which come after `mark`; with EPOCH_INDEX_ALL_STAGES, without dates and without a mark that is every record. They are written to the
- * first `count` of the `rows_len` rows lent, nearest first, equal distances by later stamp, then by lower identifier, an order that also
- * decides which are among the k: k of them, or all of these if fewer are live; rows past those keep their contents. The tally counts the
- * question and the leaves it read. Refused, rows and tally stay as they are.
+/* Asks for the `k` records nearest to `point` among those whose stage is in the set `stages` and whose stamp lies in the days of `dates`;
+ * with EPOCH_INDEX_ALL_STAGES and without dates that is every record. They are written to the first `count` of the `rows_len` rows lent,
+ * nearest first, equal distances by later stamp, then by lower identifier, an order that also decides which are among the k: k of them, or
+ * all of these stages and days if fewer are live; rows past those keep their contents. The tally counts the question and the leaves it
+ * read. Refused, rows and tally stay as they are.
  *
  * `weights` leads to a weight for each coordinate, 0 to EPOCH_INDEX_MAX_WEIGHT: distance is then the sum of weight times squared
  * difference. A null pointer carries none, whatever `weights_len` is: such a question gives what weights of 1 give. A pointer that is not
@@ -209,23 +184,16 @@ epoch_index_answer epoch_index_ask(const uint8_t *index, size_t index_len, const
  * `dates` leads to a first and a last date, which may be the same. Only stamps in the recording days from the one to the other pass: none
  * from before noon of 1 January 2000 (below 43,200), none from noon of 1 January 2100 on (3,155,803,200). A null pointer carries no dates:
  * all stamps pass then, these too.
- *
- * `mark` leads to a mark: only records after it in the order of the rows are looked for, by distance, equal distances by later stamp, then
- * by lower identifier, and the first k of these are written. To read on, mark the last row got (epoch_index_mark_of) and ask again with all
- * else equal, until a list has fewer than k rows, which is then the last: on an unchanged index the lists join up to the list that a larger
- * k would give, also beyond EPOCH_INDEX_MAX_K. Each is a question of its own, which reads the leaves up to its last row again, also those
- * before the mark; one of fewer than k rows reads every leaf that holds records. No mark is refused. A null pointer carries none: the list
- * begins with the nearest.
  * Refusals: EPOCH_INDEX_BAD_LENGTH, EPOCH_INDEX_UNSOUND, EPOCH_INDEX_BAD_FEATURES, EPOCH_INDEX_BAD_COORDINATE, EPOCH_INDEX_BAD_WEIGHT,
  * EPOCH_INDEX_BAD_K, EPOCH_INDEX_FEW_ROWS, EPOCH_INDEX_BAD_STAGE_SET, EPOCH_INDEX_BAD_DATE, EPOCH_INDEX_DATES_REVERSED. */
 static inline epoch_index_answer epoch_index_question(const uint8_t *index, size_t index_len, const int16_t *point, size_t point_len,
                                                       const uint16_t *weights, size_t weights_len, size_t k, uint8_t stages,
-                                                      const epoch_index_dates *dates, const epoch_index_mark *mark,
-                                                      epoch_index_row *rows, size_t rows_len, epoch_index_tally *tally)
+                                                      const epoch_index_dates *dates, epoch_index_row *rows, size_t rows_len,
+                                                      epoch_index_tally *tally)
 {
     const uint16_t none = 0;
     return epoch_index_ask(index, index_len, point, point_len, weights != NULL ? weights : &none, weights != NULL ? weights_len : 0,
-                           epoch_index_criteria_of(k, stages, weights, dates, mark), rows, rows_len, tally);
+                           epoch_index_criteria_of(k, stages, weights, dates), rows, rows_len, tally);
 }
 
 /* Checks whether an index is sound: it looks at every page. With EPOCH_INDEX_UNSOUND `*page` is a page at which soundness fails, else 0.

@@ -47,14 +47,13 @@ epoch_index_answer epoch_index_trusted_ask(const uint8_t *index, size_t index_le
  * EPOCH_INDEX_BAD_K, EPOCH_INDEX_FEW_ROWS, EPOCH_INDEX_BAD_STAGE_SET, EPOCH_INDEX_BAD_DATE, EPOCH_INDEX_DATES_REVERSED. */
 static inline epoch_index_answer epoch_index_trusted_question(const uint8_t *index, size_t index_len, const int16_t *point,
                                                               size_t point_len, const uint16_t *weights, size_t weights_len, size_t k,
-                                                              uint8_t stages, const epoch_index_dates *dates,
-                                                              const epoch_index_mark *mark, epoch_index_row *rows, size_t rows_len,
-                                                              epoch_index_tally *tally)
+                                                              uint8_t stages, const epoch_index_dates *dates, epoch_index_row *rows,
+                                                              size_t rows_len, epoch_index_tally *tally)
 {
     const uint16_t none = 0;
     return epoch_index_trusted_ask(index, index_len, point, point_len, weights != NULL ? weights : &none,
-                                   weights != NULL ? weights_len : 0, epoch_index_criteria_of(k, stages, weights, dates, mark), rows,
-                                   rows_len, tally);
+                                   weights != NULL ? weights_len : 0, epoch_index_criteria_of(k, stages, weights, dates), rows, rows_len,
+                                   tally);
 }
 
 /*

@@ -1,12 +1,12 @@
-// The question of all stages that carries nothing, weights, dates that every stamp lies in, or a mark before every record, and the check
-// beside those of the archive before, in one program (bench/run --before): both work on the same bytes and take turns. The archive before is
-// of version 0.6, whose questions carry no mark; its names stand behind `before_`.
+// The question of all stages, without weights and dates, with weights, and with dates that every stamp lies in, and the check beside those
+// of the archive before, in one program (bench/run --before): both work on the same bytes and take turns. The archive before is of version
+// 0.5, whose questions carry no dates; its names stand behind `before_`.
 mod data;
 mod index;
 mod time;
 
 use data::{Kind, Random, Source};
-use epoch_index::{Date, Dates, Mark, SoundIndex, StageSet, Tally, MAX_WEIGHT};
+use epoch_index::{Date, Dates, SoundIndex, StageSet, Tally, MAX_WEIGHT};
 use index::filled;
 use std::hint::black_box;
 use time::{quickest, spread};
@@ -25,9 +25,6 @@ struct FoundRow {
     position: u64,
 }
 
-/// Before every record: those at distance 0 are no later, and have higher identifiers.
-const FIRST: Mark = Mark { distance: 0, stamp: u32::MAX, id: 0 };
-
 #[repr(C)]
 struct Answer {
     code: u32,
@@ -39,19 +36,6 @@ struct Answer {
 #[repr(C)]
 #[derive(Clone, Copy)]
 struct Criteria {
-    k: usize,
-    stages: u8,
-    weighted: bool,
-    dated: bool,
-    marked: bool,
-    dates: Dates,
-    mark: Mark,
-}
-
-/// The same before.
-#[repr(C)]
-#[derive(Clone, Copy)]
-struct CriteriaBefore {
     k: usize,
     stages: u8,
     weighted: bool,
@@ -74,14 +58,16 @@ extern "C" {
         tally: *mut Tally,
     ) -> Answer;
     fn before_epoch_index_check(index: *const u8, index_len: usize, page: *mut u32) -> u32;
-    fn before_epoch_index_trusted_ask(
+    fn before_epoch_index_trusted_weighted_question(
         index: *const u8,
         index_len: usize,
         point: *const i16,
         point_len: usize,
+        weighted: bool,
         weights: *const u16,
         weights_len: usize,
-        what: CriteriaBefore,
+        k: usize,
+        stages: u8,
         rows: *mut FoundRow,
         rows_len: usize,
         tally: *mut Tally,
@@ -98,47 +84,28 @@ fn check_before(bytes: &[u8]) {
     assert_eq!(unsafe { before_epoch_index_check(bytes.as_ptr(), bytes.len(), &mut page) }, 0);
 }
 
-/// What a question carries. Its rows are those of the one before, which carries the same, but no mark: dates and marks leave none out.
+/// What a question carries. Its rows are those of the one before with the same weights: dates leave none out.
 #[derive(Clone, Copy, PartialEq)]
 enum Carried {
     Nothing,
     Weights,
     Dates,
-    Mark,
 }
 
 impl Carried {
-    const ALL: [Carried; 4] = [Carried::Nothing, Carried::Weights, Carried::Dates, Carried::Mark];
+    const ALL: [Carried; 3] = [Carried::Nothing, Carried::Weights, Carried::Dates];
 
     fn name(self) -> &'static str {
         match self {
             Carried::Nothing => "nothing",
             Carried::Weights => "weights",
             Carried::Dates => "dates",
-            Carried::Mark => "mark",
         }
     }
 
     fn dates(self) -> Option<Dates> {
         let all = Dates { first: Date::new(2000, 1, 1), last: Date::new(2099, 12, 31) };
         (self == Carried::Dates).then_some(all)
-    }
-
-    fn mark(self) -> Option<Mark> {
-        (self == Carried::Mark).then_some(FIRST)
-    }
-
-    /// What is asked, now.
-    fn criteria(self, k: usize) -> Criteria {
-        let CriteriaBefore { k, stages, weighted, dated, dates } = self.criteria_before(k);
-        Criteria { k, stages, weighted, dated, marked: self.mark().is_some(), dates, mark: self.mark().unwrap_or(FIRST) }
-    }
-
-    /// The same before, without the mark.
-    fn criteria_before(self, k: usize) -> CriteriaBefore {
-        let (weighted, dates) = (self == Carried::Weights, self.dates());
-        let none = Date::new(0, 0, 0).into();
-        CriteriaBefore { k, stages: StageSet::ALL.bits(), weighted, dated: dates.is_some(), dates: dates.unwrap_or(none) }
     }
 }
 
@@ -165,8 +132,11 @@ impl Case {
 
     /// Rows and leaves of a question of all stages.
     fn ask(&self, (q, weights): (&[i16], &[u16]), carried: Carried, k: usize, rows: &mut [FoundRow], tally: &mut Tally) -> (usize, u32) {
-        let (index, what, lent) = (&self.bytes, carried.criteria(k), (rows.as_mut_ptr(), rows.len()));
-        let (point, weights) = ((q.as_ptr(), q.len()), (weights.as_ptr(), if what.weighted { weights.len() } else { 0 }));
+        let (index, stages, lent) = (&self.bytes, StageSet::ALL.bits(), (rows.as_mut_ptr(), rows.len()));
+        let (weighted, dates) = (carried == Carried::Weights, carried.dates());
+        let none = Date::new(0, 0, 0).into();
+        let what = Criteria { k, stages, weighted, dated: dates.is_some(), dates: dates.unwrap_or(none) };
+        let (point, weights) = ((q.as_ptr(), q.len()), (weights.as_ptr(), if weighted { weights.len() } else { 0 }));
         let answer = unsafe {
             epoch_index_trusted_ask(index.as_ptr(), index.len(), point.0, point.1, weights.0, weights.1, what, lent.0, lent.1, tally)
         };
@@ -174,7 +144,7 @@ impl Case {
         (answer.count, answer.leaves)
     }
 
-    /// The same of the archive before, without the mark.
+    /// The same of the archive before, without dates.
     fn ask_before(
         &self,
         (q, weights): (&[i16], &[u16]),
@@ -183,10 +153,24 @@ impl Case {
         rows: &mut [FoundRow],
         tally: &mut Tally,
     ) -> (usize, u32) {
-        let (index, what, lent) = (&self.bytes, carried.criteria_before(k), (rows.as_mut_ptr(), rows.len()));
-        let (point, weights) = ((q.as_ptr(), q.len()), (weights.as_ptr(), if what.weighted { weights.len() } else { 0 }));
+        let (index, all, weighted) = (&self.bytes, StageSet::ALL.bits(), carried == Carried::Weights);
+        let (point, lent) = ((q.as_ptr(), q.len()), (rows.as_mut_ptr(), rows.len()));
+        let (some, number) = (weights.as_ptr(), if weighted { weights.len() } else { 0 });
         let answer = unsafe {
-            before_epoch_index_trusted_ask(index.as_ptr(), index.len(), point.0, point.1, weights.0, weights.1, what, lent.0, lent.1, tally)
+            before_epoch_index_trusted_weighted_question(
+                index.as_ptr(),
+                index.len(),
+                point.0,
+                point.1,
+                weighted,
+                some,
+                number,
+                k,
+                all,
+                lent.0,
+                lent.1,
+                tally,
+            )
         };
         assert_eq!(answer.code, 0);
         (answer.count, answer.leaves)
@@ -197,8 +181,7 @@ impl Case {
         let mut rows = [FoundRow::default(); 64];
         for (asked, carried) in self.each().flat_map(|asked| Carried::ALL.map(|carried| (asked, carried))) {
             let weights = (carried == Carried::Weights).then_some(asked.1);
-            let (dates, mark) = (carried.dates(), carried.mark());
-            let found = sound.question(asked.0, weights, k, StageSet::ALL, dates, mark, &mut Tally::default()).unwrap();
+            let found = sound.question(asked.0, weights, k, StageSet::ALL, carried.dates(), &mut Tally::default()).unwrap();
             let (count, leaves) = self.ask_before(asked, carried, k, &mut rows, &mut Tally::default());
             assert_eq!((found.rows.len(), found.leaves), (count, leaves));
             for (now, before) in found.rows.iter().zip(&rows) {

@@ -64,7 +64,7 @@ impl Case {
     fn search_all(&self, sound: &SoundIndex<&[u8]>, k: usize, stages: StageSet, dates: Option<Dates>) -> u64 {
         let (mut rows, mut tally) = ([Row::default(); 64], Tally::default());
         for q in self.questions.chunks(self.d) {
-            black_box(sound.question_into(q, None, k, stages, dates, None, &mut rows, &mut tally).unwrap());
+            black_box(sound.question_into(q, None, k, stages, dates, &mut rows, &mut tally).unwrap());
         }
         black_box(rows);
         u64::from(tally.leaves)
@@ -75,7 +75,7 @@ impl Case {
         let index = Index::new(&self.bytes[..]);
         let mut rows = [Row::default(); 64];
         for q in self.questions.chunks(self.d).take(some) {
-            black_box(index.question_into(q, None, k, StageSet::ALL, None, None, &mut rows, &mut Tally::default()).unwrap());
+            black_box(index.question_into(q, None, k, StageSet::ALL, None, &mut rows, &mut Tally::default()).unwrap());
         }
         black_box(rows);
     }
@@ -121,7 +121,7 @@ impl Case {
         let sound = SoundIndex::open(&self.bytes[..]).unwrap();
         let mut kept = Vec::new();
         for q in self.questions.chunks(self.d) {
-            let found = sound.question(q, None, k, StageSet::ALL, None, None, &mut Tally::default()).unwrap();
+            let found = sound.question(q, None, k, StageSet::ALL, None, &mut Tally::default()).unwrap();
             self.scan.ask(q, k, &mut kept);
             assert!(found.rows.iter().map(|r| (r.distance as u32, r.id)).eq(kept.iter().copied()));
         }

@@ -41,8 +41,8 @@ impl Part {
     fn compare(&self, case: &Case, sound: &SoundIndex<&[u8]>, dated: &SoundIndex<&[u8]>, k: usize) {
         let mut kept = Vec::new();
         for q in case.questions.chunks(case.d) {
-            let found = sound.question(q, None, k, ONE.into(), None, None, &mut Tally::default()).unwrap();
-            assert_eq!(dated.question(q, None, k, StageSet::ALL, Some(DAY.into()), None, &mut Tally::default()).as_ref(), Ok(&found));
+            let found = sound.question(q, None, k, ONE.into(), None, &mut Tally::default()).unwrap();
+            assert_eq!(dated.question(q, None, k, StageSet::ALL, Some(DAY.into()), &mut Tally::default()).as_ref(), Ok(&found));
             self.scan.ask(q, k, &mut kept);
             let rows = kept.iter().map(|&(distance, place)| (distance, self.ids[place as usize - 1]));
             assert!(found.rows.iter().map(|r| (r.distance as u32, r.id)).eq(rows));

@@ -49,7 +49,7 @@ fn search_all(case: &Case, sound: &SoundIndex<&[u8]>, weights: Option<&[u16]>, k
     let (mut rows, mut tally) = ([Row::default(); 64], Tally::default());
     for (i, q) in case.questions.chunks(case.d).enumerate() {
         let own = weights.map(|weights| &weights[i * case.d..][..case.d]);
-        black_box(sound.question_into(q, own, k, StageSet::ALL, None, None, &mut rows, &mut tally).unwrap());
+        black_box(sound.question_into(q, own, k, StageSet::ALL, None, &mut rows, &mut tally).unwrap());
     }
     black_box(rows);
     u64::from(tally.leaves)
@@ -74,7 +74,7 @@ fn scan_all_avx2(case: &Case, weights: &[u16], k: usize) {
 /// Holds the search's rows to the scan's, and those of ones to those without weights.
 fn compare(case: &Case, sound: &SoundIndex<&[u8]>, weights: &[u16], k: usize) {
     let (mut kept, ones) = (Vec::new(), vec![1; case.d]);
-    let ask = |q, weights| sound.question(q, weights, k, StageSet::ALL, None, None, &mut Tally::default()).unwrap();
+    let ask = |q, weights| sound.question(q, weights, k, StageSet::ALL, None, &mut Tally::default()).unwrap();
     for (q, own) in case.questions.chunks(case.d).zip(weights.chunks(case.d)) {
         case.scan.ask_weighted(q, own, k, &mut kept);
         assert!(ask(q, Some(own)).rows.iter().map(|r| (r.distance, r.id)).eq(kept.iter().copied()));

@@ -1,5 +1,5 @@
-/* A review: an index in 64 pages, acts that check it each time, questions with weights and dates, a list that is read on, then one check
- * and acts without it, with and without a look for the identifier, then a damaged byte. */
+/* A review: an index in 64 pages, acts that check it each time, questions with weights and dates, then one check and acts without it, with and
+ * without a look for the identifier, then a damaged byte. */
 #include <inttypes.h>
 #include <stdio.h>
 #include <stdlib.h>
@@ -30,9 +30,9 @@ static const epoch_index_dates night = {{2025, 11, 16}, {2025, 11, 16}};
 static void by_stages(const uint8_t *index, epoch_index_row *rows, epoch_index_tally *tally)
 {
     const uint8_t n3 = EPOCH_INDEX_STAGE_BIT(EPOCH_INDEX_N3);
-    print(epoch_index_question(index, LENGTH, asked, 2, NULL, 0, K, EPOCH_INDEX_ALL_STAGES, NULL, NULL, rows, K, tally), rows);
-    print(epoch_index_question(index, LENGTH, asked, 2, NULL, 0, K, n3, NULL, NULL, rows, K, tally), rows);
-    print(epoch_index_question(index, LENGTH, asked, 2, NULL, 0, K, 0, NULL, NULL, rows, K, tally), rows);
+    print(epoch_index_question(index, LENGTH, asked, 2, NULL, 0, K, EPOCH_INDEX_ALL_STAGES, NULL, rows, K, tally), rows);
+    print(epoch_index_question(index, LENGTH, asked, 2, NULL, 0, K, n3, NULL, rows, K, tally), rows);
+    print(epoch_index_question(index, LENGTH, asked, 2, NULL, 0, K, 0, NULL, rows, K, tally), rows);
 }
 
 static void by_weights(const uint8_t *index, epoch_index_row *rows, epoch_index_tally *tally)
@@ -41,12 +41,12 @@ static void by_weights(const uint8_t *index, epoch_index_row *rows, epoch_index_
     /* none counts; one weight is too great */
     const uint16_t zeros[2] = {0, 0}, heavy[2] = {3, EPOCH_INDEX_MAX_WEIGHT + 1};
     const uint8_t all = EPOCH_INDEX_ALL_STAGES;
-    print(epoch_index_question(index, LENGTH, other, 2, NULL, 0, K, all, NULL, NULL, rows, K, tally), rows);
-    print(epoch_index_question(index, LENGTH, other, 2, weights, 2, K, all, NULL, NULL, rows, K, tally), rows);
-    print(epoch_index_question(index, LENGTH, other, 2, zeros, 2, K, all, NULL, NULL, rows, K, tally), rows);
-    print(epoch_index_question(index, LENGTH, other, 2, weights, 1, K, all, NULL, NULL, rows, K, tally), rows);
-    print(epoch_index_question(index, LENGTH, other, 2, weights, 0, K, all, NULL, NULL, rows, K, tally), rows);
-    print(epoch_index_question(index, LENGTH, other, 2, heavy, 2, 0, all, NULL, NULL, rows, K, tally), rows);
+    print(epoch_index_question(index, LENGTH, other, 2, NULL, 0, K, all, NULL, rows, K, tally), rows);
+    print(epoch_index_question(index, LENGTH, other, 2, weights, 2, K, all, NULL, rows, K, tally), rows);
+    print(epoch_index_question(index, LENGTH, other, 2, zeros, 2, K, all, NULL, rows, K, tally), rows);
+    print(epoch_index_question(index, LENGTH, other, 2, weights, 1, K, all, NULL, rows, K, tally), rows);
+    print(epoch_index_question(index, LENGTH, other, 2, weights, 0, K, all, NULL, rows, K, tally), rows);
+    print(epoch_index_question(index, LENGTH, other, 2, heavy, 2, 0, all, NULL, rows, K, tally), rows);
 }
 
 static void by_dates(const uint8_t *index, epoch_index_row *rows, epoch_index_tally *tally)
@@ -55,34 +55,19 @@ static void by_dates(const uint8_t *index, epoch_index_row *rows, epoch_index_ta
     const epoch_index_dates next = {{2025, 11, 17}, {2025, 11, 17}}, bad = {{2025, 2, 29}, {2025, 11, 16}};
     const epoch_index_dates reversed = {{2025, 11, 17}, {2025, 11, 16}};
     const uint8_t all = EPOCH_INDEX_ALL_STAGES;
-    print(epoch_index_question(index, LENGTH, asked, 2, NULL, 0, K, all, &night, NULL, rows, K, tally), rows);
-    print(epoch_index_question(index, LENGTH, asked, 2, NULL, 0, K, all, &next, NULL, rows, K, tally), rows);
-    print(epoch_index_question(index, LENGTH, asked, 2, NULL, 0, K, all, &bad, NULL, rows, K, tally), rows);
-    print(epoch_index_question(index, LENGTH, asked, 2, NULL, 0, K, all, &reversed, NULL, rows, K, tally), rows);
-}
-
-/* Lists of one row, each past the last row of the one before, until one is short; then past a mark that no record has. */
-static void read_on(const uint8_t *index, epoch_index_row *rows, epoch_index_tally *tally)
-{
-    const epoch_index_mark between = {80000, TEN_PM + 15, 1};
-    const uint8_t all = EPOCH_INDEX_ALL_STAGES;
-    epoch_index_answer answer = epoch_index_question(index, LENGTH, asked, 2, NULL, 0, 1, all, NULL, NULL, rows, K, tally);
-    print(answer, rows);
-    while (answer.count == 1) {
-        const epoch_index_mark last = epoch_index_mark_of(&rows[answer.count - 1]);
-        answer = epoch_index_question(index, LENGTH, asked, 2, NULL, 0, 1, all, NULL, &last, rows, K, tally);
-        print(answer, rows);
-    }
-    print(epoch_index_question(index, LENGTH, asked, 2, NULL, 0, K, all, NULL, &between, rows, K, tally), rows);
+    print(epoch_index_question(index, LENGTH, asked, 2, NULL, 0, K, all, &night, rows, K, tally), rows);
+    print(epoch_index_question(index, LENGTH, asked, 2, NULL, 0, K, all, &next, rows, K, tally), rows);
+    print(epoch_index_question(index, LENGTH, asked, 2, NULL, 0, K, all, &bad, rows, K, tally), rows);
+    print(epoch_index_question(index, LENGTH, asked, 2, NULL, 0, K, all, &reversed, rows, K, tally), rows);
 }
 
 /* The acts without the check, of an index that was found sound. */
 static void unchecked(uint8_t *index, epoch_index_row *rows, epoch_index_tally *tally)
 {
     printf("insert 9: code %" PRIu32 "\n", epoch_index_trusted_insert(index, LENGTH, 9, EPOCH_INDEX_N2, TEN_PM, third, 2));
-    print(epoch_index_trusted_question(index, LENGTH, asked, 2, NULL, 0, K, NON_REM, NULL, NULL, rows, K, tally), rows);
-    print(epoch_index_trusted_question(index, LENGTH, asked, 2, weights, 2, K, NON_REM, &night, NULL, rows, K, tally), rows);
-    print(epoch_index_trusted_question(index, LENGTH, asked, 2, weights, 0, K, NON_REM, NULL, NULL, rows, K, tally), rows);
+    print(epoch_index_trusted_question(index, LENGTH, asked, 2, NULL, 0, K, NON_REM, NULL, rows, K, tally), rows);
+    print(epoch_index_trusted_question(index, LENGTH, asked, 2, weights, 2, K, NON_REM, &night, rows, K, tally), rows);
+    print(epoch_index_trusted_question(index, LENGTH, asked, 2, weights, 0, K, NON_REM, NULL, rows, K, tally), rows);
     printf("delete 4: code %" PRIu32 "\n", epoch_index_trusted_delete(index, LENGTH, 4));
     printf("insert 5, which is not live: code %" PRIu32 "\n",
            epoch_index_vouched_insert(index, LENGTH, 5, EPOCH_INDEX_UNSCORED, TEN_PM, second, 2));
@@ -108,7 +93,6 @@ int main(void)
     by_stages(index, rows, &tally);
     by_weights(index, rows, &tally);
     by_dates(index, rows, &tally);
-    read_on(index, rows, &tally);
     printf("delete 7: code %" PRIu32 "\n", epoch_index_delete(index, LENGTH, 7));
 
     code = epoch_index_check(index, LENGTH, &page);
@@ -121,7 +105,7 @@ int main(void)
     index[EPOCH_INDEX_PAGE_BYTES + 1] = 0xff;
     code = epoch_index_check(index, LENGTH, &page);
     printf("check of a damaged page: code %" PRIu32 ", page %" PRIu32 "\n", code, page);
-    print(epoch_index_question(index, LENGTH, asked, 2, NULL, 0, K, EPOCH_INDEX_ALL_STAGES, NULL, NULL, rows, K, &tally), rows);
+    print(epoch_index_question(index, LENGTH, asked, 2, NULL, 0, K, EPOCH_INDEX_ALL_STAGES, NULL, rows, K, &tally), rows);
 
     free(index);
     return 0;

@@ -1,6 +1,5 @@
-//! A review: an index in 64 pages, checked acts, questions with weights and dates, a list that is read on, then the bytes opened once for
-//! acts without the check.
-use epoch_index::{Date, Dates, Epoch, Found, Index, Mark, Refusal, Row, SoundIndex, Stage, StageSet, Tally, PAGE_BYTES};
+//! A review: an index in 64 pages, checked acts, questions with weights and dates, then the bytes opened once for acts without the check.
+use epoch_index::{Date, Dates, Epoch, Found, Index, Refusal, Row, SoundIndex, Stage, StageSet, Tally, PAGE_BYTES};
 
 /// 16 November 2025 22:00 by the lab clock, in seconds since 1 January 2000.
 const TEN_PM: u32 = 816_645_600;
@@ -20,29 +19,17 @@ fn print(asked: Result<Found, Refusal>) {
 /// The first feature is trusted less than the second; none counts; a weight is missing; one is too great.
 fn by_weights(index: &Index<Vec<u8>>, tally: &mut Tally) {
     for weights in [None, Some(&[3, 1_000][..]), Some(&[0, 0]), Some(&[3])] {
-        print(index.question(&[-250, -250], weights, 2, StageSet::ALL, None, None, tally));
+        print(index.question(&[-250, -250], weights, 2, StageSet::ALL, None, tally));
     }
-    print(index.question(&[-250, -250], Some(&[3, 1_001]), 0, StageSet::ALL, None, None, tally));
+    print(index.question(&[-250, -250], Some(&[3, 1_001]), 0, StageSet::ALL, None, tally));
 }
 
 /// The night of the 16th, noon to noon; the next; a date that does not exist; the last before the first.
 fn by_dates(index: &Index<Vec<u8>>, tally: &mut Tally) {
     let (night, next) = (Date::new(2025, 11, 16), Date::new(2025, 11, 17));
     for dates in [night.into(), next.into(), Date::new(2025, 2, 29).into(), Dates { first: next, last: night }] {
-        print(index.question(&[-100, -100], None, 2, StageSet::ALL, Some(dates), None, tally));
+        print(index.question(&[-100, -100], None, 2, StageSet::ALL, Some(dates), tally));
     }
-}
-
-/// A list of one row, and the next past it; then all rows, one after the other.
-fn read_on(index: &Index<Vec<u8>>, tally: &mut Tally) -> Result<(), Refusal> {
-    let first = index.question(&[-100, -100], None, 1, StageSet::ALL, None, None, tally)?;
-    let mark = first.rows.last().map(Mark::from);
-    print(Ok(first));
-    print(index.question(&[-100, -100], None, 1, StageSet::ALL, None, mark, tally));
-    for row in index.rows(&[-100, -100], None, StageSet::ALL, None, None, tally) {
-        println!("read on: id {}", row?.id);
-    }
-    Ok(())
 }
 
 fn main() -> Result<(), Box<dyn std::error::Error>> {
@@ -55,18 +42,17 @@ fn main() -> Result<(), Box<dyn std::error::Error>> {
     if let Err(refusal) = index.insert(fourth, &[5, 5]) {
         println!("insert 4 again refused: {} ({refusal})", refusal.code());
     }
-    print(index.question(&[-100, -100], None, 2, StageSet::ALL, None, None, &mut tally));
-    print(index.question(&[-100, -100], None, 2, StageSet::of(&[Stage::N2, Stage::N3]), None, None, &mut tally));
-    print(index.question(&[-100, -100], None, 2, StageSet::EMPTY, None, None, &mut tally));
+    print(index.question(&[-100, -100], None, 2, StageSet::ALL, None, &mut tally));
+    print(index.question(&[-100, -100], None, 2, StageSet::of(&[Stage::N2, Stage::N3]), None, &mut tally));
+    print(index.question(&[-100, -100], None, 2, StageSet::EMPTY, None, &mut tally));
     by_weights(&index, &mut tally);
     by_dates(&index, &mut tally);
-    read_on(&index, &mut tally)?;
 
     let mut sound = SoundIndex::open(index.into_inner())?;
     sound.delete(7)?;
-    print(sound.question(&[-100, -100], None, 2, StageSet::ALL, None, None, &mut tally));
-    print(sound.question(&[-100, -100], Some(&[3, 1_000]), 2, StageSet::ALL, None, None, &mut tally));
-    print(sound.question(&[-100, -100], None, 65, StageSet::ALL, None, None, &mut tally));
+    print(sound.question(&[-100, -100], None, 2, StageSet::ALL, None, &mut tally));
+    print(sound.question(&[-100, -100], Some(&[3, 1_000]), 2, StageSet::ALL, None, &mut tally));
+    print(sound.question(&[-100, -100], None, 65, StageSet::ALL, None, &mut tally));
     println!("tally: {} questions, {} leaves", tally.questions, tally.leaves);
 
     let mut damaged = sound.into_inner();

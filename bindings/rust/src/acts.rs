@@ -1,6 +1,6 @@
 //! The calls: slices in, results out. The only `unsafe` code of the crate.
 use crate::sys;
-use crate::{Counts, Dates, Epoch, Fault, Mark, Refusal, Row, StageSet, Tally};
+use crate::{Counts, Dates, Epoch, Fault, Refusal, Row, StageSet, Tally};
 
 pub fn make(index: &mut [u8], features: u8) -> Result<(), Refusal> {
     // SAFETY: pointer and length are those of one slice, lent for the call alone; any bytes and any number are allowed.
@@ -32,30 +32,21 @@ pub fn delete_point(index: &mut [u8], id: u32, point: &[i16]) -> Result<(), Refu
     Refusal::of(unsafe { sys::epoch_index_vouched_delete(index.as_mut_ptr(), index.len(), id, point.as_ptr(), point.len()) })
 }
 
-/// What is asked: a point, the weights of its coordinates, if any, how many rows, the stages and days looked among, all days where no dates
-/// are given, and the mark past which rows are looked for, if any.
-#[derive(Clone, Copy, Debug)]
+/// What is asked: a point, the weights of its coordinates, if any, how many rows, and the stages and days looked among, all days where no
+/// dates are given.
+#[derive(Clone, Copy)]
 pub struct Asked<'a> {
     pub point: &'a [i16],
     pub weights: Option<&'a [u16]>,
     pub k: usize,
     pub stages: StageSet,
     pub dates: Option<Dates>,
-    pub mark: Option<Mark>,
 }
 
 pub fn question(act: sys::Question, index: &[u8], asked: Asked, rows: &mut [Row], tally: &mut Tally) -> Result<Counts, Refusal> {
-    let Asked { point, weights, k, stages, dates, mark } = asked;
+    let Asked { point, weights, k, stages, dates } = asked;
     let (weighted, weights) = (weights.is_some(), weights.unwrap_or_default());
-    let what = sys::Criteria {
-        k,
-        stages: stages.bits(),
-        weighted,
-        dated: dates.is_some(),
-        marked: mark.is_some(),
-        dates: dates.unwrap_or(Dates::NONE),
-        mark: mark.unwrap_or(Mark::NONE),
-    };
+    let what = sys::Criteria { k, stages: stages.bits(), weighted, dated: dates.is_some(), dates: dates.unwrap_or(Dates::NONE) };
     // SAFETY: pointers and lengths are those of five borrows, none of them null; `rows` and `tally` are borrowed alone, so they overlap
     // nothing. `Row`, `Tally` and `Criteria` have C's layout. Either question ends within them whatever the index holds.
     let answer = unsafe {

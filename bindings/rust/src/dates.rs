@@ -37,7 +37,7 @@ impl Date {
 /// // 16 November 2025 22:00, and 14 hours later
 /// index.insert(Epoch { id: 1, stage: Stage::N2, stamp: 816_645_600 }, &[5])?;
 /// index.insert(Epoch { id: 2, stage: Stage::N2, stamp: 816_696_000 }, &[6])?;
-/// let of = |dates: Dates| index.question(&[0], None, 2, StageSet::ALL, Some(dates), None, &mut Tally::default());
+/// let of = |dates: Dates| index.question(&[0], None, 2, StageSet::ALL, Some(dates), &mut Tally::default());
 /// let (night, next) = (Date::new(2025, 11, 16), Date::new(2025, 11, 17));
 /// assert_eq!(of(night.into())?.rows[0].id, 1);
 /// assert_eq!(of(next.into())?.rows[0].id, 2);

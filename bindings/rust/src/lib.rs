@@ -3,9 +3,9 @@
 //! An epoch is a point of 1 to 16 whole numbers from -1,000 to 1,000 with an identifier, a sleep stage and a stamp ([`Epoch`]). A question
 //! asks for the epochs nearest to a point among those of some stages ([`StageSet`]); of those at equal distance the one with the later stamp
 //! comes first, then the one with the lower identifier. It may carry a weight for each coordinate, 0 to 1,000; without weights each counts
-//! as 1. It may look among the epochs of some recording days alone ([`Dates`]), and read on past a row ([`Mark`]). An index is whole pages of
-//! 1,024 bytes, 2 to 16,384 of them, and lies in its bytes entirely: they may be stored and read back as they are. The work is done by
-//! libepoch_index.a, each function of which is proved to meet its contract; this crate is a thin safe layer over it.
+//! as 1. It may look among the epochs of some recording days alone ([`Dates`]). An index is whole pages of 1,024 bytes, 2 to 16,384 of them,
+//! and lies in its bytes entirely: they may be stored and read back as they are. The work is done by libepoch_index.a, each function of
+//! which is proved to meet its contract; this crate is a thin safe layer over it.
 //!
 //! - [`Index`]: five acts, each of which checks the whole index first and so is right about any bytes.
 //! - [`SoundIndex`]: checked once, by [`SoundIndex::open`], and changed by nothing but its own methods, which therefore need no check.
@@ -18,16 +18,16 @@
 //! index.insert(Epoch { id: 7, stage: Stage::N3, stamp: 816_645_600 }, &[-300, 100])?;
 //! index.insert(Epoch { id: 4, stage: Stage::Rem, stamp: 816_645_630 }, &[100, -300])?;
 //! let mut tally = Tally::default();
-//! let found = index.question(&[-100, -90], None, 1, StageSet::ALL, None, None, &mut tally)?;
+//! let found = index.question(&[-100, -90], None, 1, StageSet::ALL, None, &mut tally)?;
 //! assert_eq!((found.rows[0].id, found.rows[0].distance, found.leaves), (7, 76_100, 1));
-//! let found = index.question(&[-100, -90], None, 1, Stage::Rem.into(), None, None, &mut tally)?;
+//! let found = index.question(&[-100, -90], None, 1, Stage::Rem.into(), None, &mut tally)?;
 //! assert_eq!((found.rows[0].id, found.rows[0].distance, found.leaves), (4, 84_100, 1));
 //! // the first feature counts half as much as the second
-//! let found = index.question(&[0, 0], Some(&[500, 1_000]), 1, StageSet::ALL, None, None, &mut tally)?;
+//! let found = index.question(&[0, 0], Some(&[500, 1_000]), 1, StageSet::ALL, None, &mut tally)?;
 //! assert_eq!((found.rows[0].id, found.rows[0].distance, found.leaves), (7, 55_000_000, 1));
 //! // both are of the night of 16 November 2025, and none of the next
 //! let next = Date::new(2025, 11, 17);
-//! let found = index.question(&[-100, -90], None, 1, StageSet::ALL, Some(next.into()), None, &mut tally)?;
+//! let found = index.question(&[-100, -90], None, 1, StageSet::ALL, Some(next.into()), &mut tally)?;
 //! assert_eq!((found.rows.len(), found.leaves), (0, 1));
 //! # Ok::<(), Refusal>(())
 //! ```
@@ -40,18 +40,14 @@ mod acts;
 mod bytes;
 mod dates;
 mod epoch;
-mod marks;
 mod refusal;
-mod rows;
 mod sys;
 mod tabled;
 
 pub use bytes::{StableBytes, StableBytesMut};
 pub use dates::{Date, Dates};
 pub use epoch::{Epoch, Stage, StageSet};
-pub use marks::Mark;
 pub use refusal::{Fault, Refusal};
-pub use rows::Rows;
 pub use tabled::TabledIndex;
 
 use acts::Asked;
@@ -101,8 +97,8 @@ pub struct Tally {
 #[derive(Clone, Debug, Default, PartialEq, Eq, Hash)]
 #[non_exhaustive]
 pub struct Found {
-    /// The nearest records of the stages and days asked for, and past the mark, nearest first, equal distances by later stamp, then by lower
-    /// identifier: k of them, or all if fewer are live.
+    /// The nearest records of the stages and days asked for, nearest first, equal distances by later stamp, then by lower identifier: k of
+    /// them, or all if fewer are live.
     pub rows: Vec<Row>,
     /// The number of leaves read.
     pub leaves: u32,
@@ -126,7 +122,7 @@ fn found(act: sys::Question, index: &[u8], asked: Asked, tally: &mut Tally) -> R
     Ok(Found { rows, leaves: counts.leaves })
 }
 
-/// The questions of an index, over one function of the library: their parameters stand here for both kinds of index.
+/// The two questions of an index, over one function of the library: their parameters stand here for both kinds of index.
 macro_rules! questions {
     ($act:path, $(#[$what:meta])+) => {
         $(#[$what])+
@@ -137,10 +133,9 @@ macro_rules! questions {
             k: usize,
             stages: StageSet,
             dates: Option<Dates>,
-            mark: Option<Mark>,
             tally: &mut Tally,
         ) -> Result<Found, Refusal> {
-            found($act, self.as_bytes(), Asked { point, weights, k, stages, dates, mark }, tally)
+            found($act, self.as_bytes(), Asked { point, weights, k, stages, dates }, tally)
         }
 
         /// The same in lent rows, k of them or more. Rows past those written keep their contents.
@@ -151,25 +146,10 @@ macro_rules! questions {
             k: usize,
             stages: StageSet,
             dates: Option<Dates>,
-            mark: Option<Mark>,
             rows: &mut [Row],
             tally: &mut Tally,
         ) -> Result<Counts, Refusal> {
-            acts::question($act, self.as_bytes(), Asked { point, weights, k, stages, dates, mark }, rows, tally)
-        }
-
-        /// All rows that such questions give, one after the other: each list of [`MAX_K`] rows is read on past its last. The tally counts
-        /// every question.
-        pub fn rows<'a>(
-            &'a self,
-            point: &'a [i16],
-            weights: Option<&'a [u16]>,
-            stages: StageSet,
-            dates: Option<Dates>,
-            mark: Option<Mark>,
-            tally: &'a mut Tally,
-        ) -> Rows<'a> {
-            Rows::new($act, self.as_bytes(), Asked { point, weights, k: MAX_K, stages, dates, mark }, tally)
+            acts::question($act, self.as_bytes(), Asked { point, weights, k, stages, dates }, rows, tally)
         }
     };
 }
@@ -198,9 +178,6 @@ impl<B: AsRef<[u8]>> Index<B> {
         sys::epoch_index_ask,
         /// The k records nearest to a point among those of some stages and, where dates are given, of some recording days ([`Dates`]);
         /// without ([`None`]) every stamp will do. The tally counts the question and the leaves it read.
-        ///
-        /// With a mark ([`Mark`]) it looks among the records after the mark in the order of rows; no mark is refused. On an unchanged index
-        /// the lists got by always marking the last row, with all else equal, join up to the list of a larger k, also beyond [`MAX_K`].
         ///
         /// With weights, one for each coordinate and none above [`MAX_WEIGHT`], distance is the sum of weight times squared difference;
         /// without ([`None`]) it is as with weights of 1. No weights at all (`Some(&[])`) are a wrong number of them:
@@ -246,7 +223,7 @@ impl<B: AsRef<[u8]> + AsMut<[u8]>> Index<B> {
 /// let mut bytes = Index::make(vec![0; 2048], 1).unwrap().into_inner();
 /// let sound = SoundIndex::open(&mut bytes[..]).unwrap();
 /// bytes[4] = 2;
-/// sound.question(&[0], None, 1, StageSet::ALL, None, None, &mut Tally::default()).unwrap();
+/// sound.question(&[0], None, 1, StageSet::ALL, None, &mut Tally::default()).unwrap();
 /// ```
 ///
 /// The bytes are a [`StableBytes`]: `Vec<u8>`, `Box<[u8]>`, `&[u8]` or `&mut [u8]`. A type of one's own, which could give other bytes than
@@ -287,8 +264,8 @@ impl<B: StableBytes> SoundIndex<B> {
 
     questions! {
         sys::epoch_index_trusted_ask,
-        /// The k records nearest to a point among those of some stages and days, past a mark or from the nearest on, by weights or without,
-        /// as [`Index::question`] has them. The tally counts the question and the leaves it read.
+        /// The k records nearest to a point among those of some stages and days, by weights or without, as [`Index::question`] has them. The
+        /// tally counts the question and the leaves it read.
     }
 
     /// The index with a table of its live epochs and their points. Every leaf is read once.
@@ -301,7 +278,7 @@ impl<B: StableBytes> SoundIndex<B> {
     /// tabled.insert(epoch, &[-300])?;
     /// assert_eq!(tabled.insert(epoch, &[5]), Err(Refusal::AlreadyLive));
     /// assert_eq!((tabled.len(), tabled.point(7)), (1, Some(&[-300][..])));
-    /// let found = tabled.sound().question(&[0], None, 1, StageSet::ALL, None, None, &mut Tally::default())?;
+    /// let found = tabled.sound().question(&[0], None, 1, StageSet::ALL, None, &mut Tally::default())?;
     /// assert_eq!((found.rows[0].distance, tabled.epoch(found.rows[0].id)), (90_000, Some(epoch)));
     /// # Ok::<(), Refusal>(())
     /// ```

@@ -1,5 +1,5 @@
 //! The functions of libepoch_index.a, as the headers in include/ declare them.
-use crate::{Dates, Mark, Row, Tally};
+use crate::{Dates, Row, Tally};
 
 /// What a question returns.
 #[repr(C)]
@@ -10,7 +10,7 @@ pub struct Answer {
     pub leaves: u32,
 }
 
-/// What is asked of a point. Where `dated` is false `dates` is disregarded, where `marked` is false `mark` is.
+/// What is asked of a point. Where `dated` is false `dates` is disregarded.
 #[repr(C)]
 #[derive(Clone, Copy)]
 pub struct Criteria {
@@ -18,9 +18,7 @@ pub struct Criteria {
     pub stages: u8,
     pub weighted: bool,
     pub dated: bool,
-    pub marked: bool,
     pub dates: Dates,
-    pub mark: Mark,
 }
 
 /// An insert: checked, trusted or vouched.

@@ -1,6 +1,5 @@
 //! The specification's examples, and every refusal that is quick to reach.
 mod dates;
-mod marks;
 mod series;
 mod stack;
 mod stages;
@@ -38,18 +37,10 @@ fn ids(found: &Found) -> Vec<u32> {
     found.rows.iter().map(|row| row.id).collect()
 }
 
-/// The number of leaves that hold records, in an index made of [`bytes`] from which nothing was deleted.
-fn leaves(index: &[u8]) -> u32 {
-    index.chunks(PAGE_BYTES).skip(1).filter(|page| page[0] == 0 && (1..=16).contains(&page[1])).count() as u32
-}
-
 /// All dates that may be asked for.
 const WIDEST: Dates = Dates { first: Date::new(MIN_YEAR, 1, 1), last: Date::new(MAX_YEAR, 12, 31) };
 
-/// A mark before every record.
-const FIRST: Mark = Mark { distance: 0, stamp: u32::MAX, id: 0 };
-
-/// All dates that may be asked for, one after the other.
+/// The same, one after the other.
 fn calendar() -> Vec<Date> {
     let days = |year: u16, month: u8| match month {
         2 => 28 + u8::from(year % 4 == 0),
@@ -115,12 +106,9 @@ fn layout_is_that_of_the_header() {
     assert_eq!((size_of::<Date>(), align_of::<Date>()), (4, 2));
     assert_eq!([offset_of!(Date, year), offset_of!(Date, month), offset_of!(Date, day)], [0, 2, 3]);
     assert_eq!((size_of::<Dates>(), offset_of!(Dates, first), offset_of!(Dates, last)), (8, 0, 4));
-    assert_eq!((size_of::<Mark>(), align_of::<Mark>()), (16, 8));
-    assert_eq!([offset_of!(Mark, distance), offset_of!(Mark, stamp), offset_of!(Mark, id)], [0, 8, 12]);
-    assert_eq!((size_of::<sys::Criteria>(), align_of::<sys::Criteria>()), (40, 8));
+    assert_eq!((size_of::<sys::Criteria>(), align_of::<sys::Criteria>()), (24, 8));
     assert_eq!([offset_of!(sys::Criteria, k), offset_of!(sys::Criteria, stages), offset_of!(sys::Criteria, weighted)], [0, 8, 9]);
-    assert_eq!([offset_of!(sys::Criteria, dated), offset_of!(sys::Criteria, marked)], [10, 11]);
-    assert_eq!([offset_of!(sys::Criteria, dates), offset_of!(sys::Criteria, mark)], [12, 24]);
+    assert_eq!([offset_of!(sys::Criteria, dated), offset_of!(sys::Criteria, dates)], [10, 12]);
 }
 
 #[test]
@@ -156,10 +144,10 @@ fn leaves_read() {
     let mut tally = Tally::default();
     let cases: [(i16, usize, &[u32], u32); 3] = [(9, 1, &[9], 1), (9, 2, &[9, 8], 2), (1, 9, &[1, 2, 3, 4, 5, 6, 7, 8, 9], 1)];
     for (from, k, rows, leaves) in cases {
-        let found = index.question(&[from], None, k, StageSet::ALL, None, None, &mut tally).unwrap();
+        let found = index.question(&[from], None, k, StageSet::ALL, None, &mut tally).unwrap();
         assert_eq!((ids(&found), found.leaves), (rows.to_vec(), leaves));
     }
-    let all = index.question(&[1], None, 18, StageSet::ALL, None, None, &mut tally).unwrap();
+    let all = index.question(&[1], None, 18, StageSet::ALL, None, &mut tally).unwrap();
     assert_eq!((all.rows.len(), all.leaves), (17, 2));
     assert_eq!(all.rows[16], Row { distance: 256, id: 17, position: 1, stamp: 0 });
     assert_eq!(tally, Tally { questions: 4, leaves: 6 });
@@ -171,10 +159,10 @@ fn pages_run_out_and_come_back() {
     assert_eq!(index.insert(epoch(17), &[17]), Err(Refusal::NoPages));
     let mut index = upward(4, 17);
     index.delete(17).unwrap();
-    let all = index.question(&[1], None, 16, StageSet::ALL, None, None, &mut Tally::default()).unwrap();
+    let all = index.question(&[1], None, 16, StageSet::ALL, None, &mut Tally::default()).unwrap();
     assert_eq!(all.rows.iter().filter(|row| row.position == 0).count(), 8);
     index.delete(16).unwrap();
-    assert_eq!(index.question(&[1], None, 16, StageSet::ALL, None, None, &mut Tally::default()).unwrap().leaves, 1);
+    assert_eq!(index.question(&[1], None, 16, StageSet::ALL, None, &mut Tally::default()).unwrap().leaves, 1);
     for id in 16..=17 {
         index.insert(epoch(id), &[id as i16]).unwrap();
     }
@@ -195,16 +183,16 @@ fn refused_acts_change_nothing() {
     assert_eq!(index.delete(0), Err(Refusal::ZeroIdentifier));
     assert_eq!(index.delete(18), Err(Refusal::NotLive));
     for stages in [StageSet::ALL, StageSet::EMPTY] {
-        assert_eq!(index.question_into(&[], None, 1, stages, None, None, &mut rows, &mut tally), Err(Refusal::BadFeatures));
-        assert_eq!(index.question_into(&[-1001], None, 1, stages, None, None, &mut rows, &mut tally), Err(Refusal::BadCoordinate));
-        assert_eq!(index.question_into(&[1], None, 0, stages, None, None, &mut rows, &mut tally), Err(Refusal::BadK));
-        assert_eq!(index.question_into(&[1], None, 65, stages, None, None, &mut rows, &mut tally), Err(Refusal::BadK));
-        assert_eq!(index.question_into(&[1], None, usize::MAX, stages, None, None, &mut [], &mut tally), Err(Refusal::BadK));
-        assert_eq!(index.question_into(&[1], None, 3, stages, None, None, &mut rows, &mut tally), Err(Refusal::FewRows));
-        assert_eq!(index.question(&[1], None, 65, stages, None, None, &mut tally), Err(Refusal::BadK));
+        assert_eq!(index.question_into(&[], None, 1, stages, None, &mut rows, &mut tally), Err(Refusal::BadFeatures));
+        assert_eq!(index.question_into(&[-1001], None, 1, stages, None, &mut rows, &mut tally), Err(Refusal::BadCoordinate));
+        assert_eq!(index.question_into(&[1], None, 0, stages, None, &mut rows, &mut tally), Err(Refusal::BadK));
+        assert_eq!(index.question_into(&[1], None, 65, stages, None, &mut rows, &mut tally), Err(Refusal::BadK));
+        assert_eq!(index.question_into(&[1], None, usize::MAX, stages, None, &mut [], &mut tally), Err(Refusal::BadK));
+        assert_eq!(index.question_into(&[1], None, 3, stages, None, &mut rows, &mut tally), Err(Refusal::FewRows));
+        assert_eq!(index.question(&[1], None, 65, stages, None, &mut tally), Err(Refusal::BadK));
     }
-    assert_eq!(index.question_into(&[1], None, 2, StageSet::EMPTY, None, None, &mut rows, &mut tally), Err(Refusal::BadStageSet));
-    assert_eq!(index.question(&[1], None, 2, StageSet::EMPTY, None, None, &mut tally), Err(Refusal::BadStageSet));
+    assert_eq!(index.question_into(&[1], None, 2, StageSet::EMPTY, None, &mut rows, &mut tally), Err(Refusal::BadStageSet));
+    assert_eq!(index.question(&[1], None, 2, StageSet::EMPTY, None, &mut tally), Err(Refusal::BadStageSet));
     assert_eq!(index.as_bytes(), before);
     assert_eq!(rows, [mark; 2]);
     assert_eq!(tally, Tally { questions: 5, leaves: 6 });
@@ -217,7 +205,7 @@ fn rows_past_those_returned_keep_their_contents() {
     let mark = Row { distance: 7, id: 8, position: 9, stamp: 10 };
     let mut rows = [mark; 3];
     let mut tally = Tally { questions: u32::MAX, leaves: u32::MAX - 1 };
-    assert_eq!(index.question_into(&[4], None, 2, StageSet::ALL, None, None, &mut rows, &mut tally), Ok(Counts { rows: 1, leaves: 1 }));
+    assert_eq!(index.question_into(&[4], None, 2, StageSet::ALL, None, &mut rows, &mut tally), Ok(Counts { rows: 1, leaves: 1 }));
     assert_eq!(rows, [Row { distance: 9, id: 1, position: 0, stamp: epoch(1).stamp }, mark, mark]);
     assert_eq!(tally, Tally { questions: u32::MAX, leaves: u32::MAX });
 }
@@ -233,7 +221,7 @@ fn a_damaged_index_is_refused() {
     assert!((1..4).contains(&fault.page));
     assert_eq!(index.insert(epoch(18), &[18]), Err(Refusal::Unsound));
     assert_eq!(index.delete(1), Err(Refusal::Unsound));
-    assert_eq!(index.question(&[1], None, 1, StageSet::ALL, None, None, &mut Tally::default()), Err(Refusal::Unsound));
+    assert_eq!(index.question(&[1], None, 1, StageSet::ALL, None, &mut Tally::default()), Err(Refusal::Unsound));
     assert_eq!(SoundIndex::open(&copy[..]).unwrap_err(), fault);
     assert_eq!(damaged, copy);
 }
@@ -243,39 +231,31 @@ fn a_sound_index_asks_borrowed_bytes() {
     let stored = upward(4, 17).into_inner();
     let sound = SoundIndex::open(&stored[..]).unwrap();
     let mut tally = Tally::default();
-    assert_eq!(ids(&sound.question(&[9], None, 2, StageSet::ALL, None, None, &mut tally).unwrap()), [9, 8]);
+    assert_eq!(ids(&sound.question(&[9], None, 2, StageSet::ALL, None, &mut tally).unwrap()), [9, 8]);
     let mut rows = [Row::default(); 1];
-    assert_eq!(sound.question_into(&[9], None, 2, StageSet::ALL, None, None, &mut rows, &mut tally), Err(Refusal::FewRows));
-    assert_eq!(sound.question_into(&[9], None, 1, StageSet::ALL, None, None, &mut rows, &mut tally), Ok(Counts { rows: 1, leaves: 1 }));
+    assert_eq!(sound.question_into(&[9], None, 2, StageSet::ALL, None, &mut rows, &mut tally), Err(Refusal::FewRows));
+    assert_eq!(sound.question_into(&[9], None, 1, StageSet::ALL, None, &mut rows, &mut tally), Ok(Counts { rows: 1, leaves: 1 }));
     assert_eq!(tally, Tally { questions: 2, leaves: 3 });
 }
 
-/// Bytes of an index that are damaged the first time they are given, and every other time.
-struct Changing(Cell<usize>, [Vec<u8>; 2]);
-
-impl Changing {
-    fn of(whole: Vec<u8>) -> Changing {
-        let mut damaged = whole.clone();
-        damaged[IN_IDENTIFIER] ^= 0xff;
-        Changing(Cell::new(0), [whole, damaged])
-    }
-}
-
-impl AsRef<[u8]> for Changing {
-    fn as_ref(&self) -> &[u8] {
-        self.0.set(1 - self.0.get());
-        &self.1[self.0.get()]
-    }
-}
-
-/// The acts take any type that gives bytes: each answer is right about the bytes it got.
+/// The acts take any type that gives bytes, here one that gives damaged ones every other time: each answer is right about the bytes it got.
 #[test]
 fn acts_are_right_about_bytes_that_change() {
-    let index = Index::new(Changing::of(upward(4, 17).into_inner()));
+    struct Changing(Cell<usize>, [Vec<u8>; 2]);
+    impl AsRef<[u8]> for Changing {
+        fn as_ref(&self) -> &[u8] {
+            self.0.set(1 - self.0.get());
+            &self.1[self.0.get()]
+        }
+    }
+    let whole = upward(4, 17).into_inner();
+    let mut damaged = whole.clone();
+    damaged[IN_IDENTIFIER] ^= 0xff;
+    let index = Index::new(Changing(Cell::new(0), [whole, damaged]));
     let mut tally = Tally::default();
     for _ in 0..2 {
-        assert_eq!(index.question(&[9], None, 2, StageSet::ALL, None, None, &mut tally), Err(Refusal::Unsound));
-        assert_eq!(ids(&index.question(&[9], None, 2, StageSet::ALL, None, None, &mut tally).unwrap()), [9, 8]);
+        assert_eq!(index.question(&[9], None, 2, StageSet::ALL, None, &mut tally), Err(Refusal::Unsound));
+        assert_eq!(ids(&index.question(&[9], None, 2, StageSet::ALL, None, &mut tally).unwrap()), [9, 8]);
     }
 }
 

@@ -60,7 +60,7 @@ module _ (b : List ℕ) (d : ℕ) (lent : Permitted (length b)) (low : 1 ≤ d) 
   pub text_stands : {n : ℕ} {c t : List ℕ} {ls : List (List ℕ)} → (r : Runs d (new_index b d) n ls c t) → Stands d (held_by d (runs_series r).0 []) c
   text_stands r = series b d lent low high (runs_series r).1
 
--- a question that is carried out on index m prints the k nearest of the records held whose stage is in its set (a text's questions name no days and carry no mark), and the exact number of leaves
+-- a question that is carried out on index m prints the k nearest of the records held whose stage is in its set (a text's questions name no days), and the exact number of leaves
 pub record Told (w : Question) (n : ℕ) (m t : List ℕ) : Type 0 where
   pub found : Found
   pub nearest : Answers m w found

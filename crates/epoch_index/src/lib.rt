@@ -56,8 +56,8 @@ pub extern "C" fn epoch_index_check(index: &[u8], page: &mut u32) -> u32
     checked.code as u32
 }
 
-// The question for the k nearest records of a point among those whose stage is in a set, whose stamp lies in its days and which come after its
-// mark: its rows go to those lent, and the caller's tally counts it.
+// The question for the k nearest records of a point among those whose stage is in a set and whose stamp lies in its days: its rows go to those lent, and the
+// caller's tally counts it.
 #[unsafe(no_mangle)]
 pub extern "C" fn epoch_index_ask(
     index: &[u8],

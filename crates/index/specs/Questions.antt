@@ -8,8 +8,8 @@ use Rattle.index_query.specs.Answers.{Answers}
 use Rattle.index_refusals.specs.Refusals.{question_rules}
 use Rattle.index_trusted.specs.Questions.{QuestionedBy, OutcomeBy}
 
--- Its rules are the table's, and where it is carried out, the rows are the k nearest of the live records whose stage is in the set, whose stamp lies in
--- the days and which come after the mark, and the count is that of demand 3's set.
+-- Its rules are the table's, and where it is carried out, the rows are the k nearest of the live records whose stage is in the set and whose stamp lies in
+-- the days, and the count is that of demand 3's set.
 abbrev pub Questioned : List ℕ → Question → List Row → Tally → Answer → List Row → Tally → Type 0
 Questioned b w lent tally r lent' tally' = QuestionedBy (question_rules b w (length lent)) (Answers b w) b w lent tally r lent' tally'
 

@@ -14,7 +14,7 @@ use Rattle.pagestore_page.specs.declared.Record.{Record}
 use Rattle.pagestore.specs.Store.{View, view_of}
 use Rattle.tree_model.specs.Trees.{live}
 use Rattle.search_rows.specs.Rows.{stamp, newest_first}
-use Rattle.search_model.specs.Asked.{in_stages, distance_to, record_past, candidate}
+use Rattle.search_model.specs.Asked.{in_stages, candidate}
 use Rattle.search_model.specs.Questions.{live_candidates, rows_of}
 use Rattle.search_model.proofs.OneStampLaws.{rows_stamped}
 use Rattle.index_query.specs.Asking.{Question, sought}
@@ -24,36 +24,30 @@ use Rattle.index_laws.specs.Answers.{question_answers}
 
 -- the question without its dates
 abbrev pub any_day : Question → Question
-any_day w = record { point = w.point; weights = w.weights; k = w.k; stages = w.stages; days = undated; mark = w.mark }
+any_day w = record { point = w.point; weights = w.weights; k = w.k; stages = w.stages; days = undated }
 
--- a test in the middle of three taken apart
-and_apart : (a b c : Bool) → a && (b && c) ≡ (a && c) && b
-and_apart true true true = refl
-and_apart true true false = refl
-and_apart true false true = refl
-and_apart true false false = refl
-and_apart false b c = refl
+and_true : (a : Bool) → a && true ≡ a
+and_true true = refl
+and_true false = refl
 
 -- days_narrow: of the candidates without dates those are left whose stamp lies in the window
 pub days_narrow : (w : Question) (v : View) → live_candidates v (sought w) ≡ filter (λ r. in_window (window_of w.days) r.stamp) (live_candidates v (sought (any_day w)))
-unfolding candidate in_window distance_to
+unfolding candidate in_window
 days_narrow w v =
+    let staged : Record → Bool = λ r. in_stages w.stages r.stage in
     let passed : Record → Bool = λ r. in_window (window_of w.days) r.stamp in
-    let apart : candidate (sought w) ≡ (λ r. candidate (sought (any_day w)) r && passed r) =
-    λ i r. and_apart (in_stages w.stages r.stage) (passed r) (record_past (sought w) r) i in
-    ap (λ (f : Record → Bool). filter f (live v)) apart ∙ sym (filter_filter (candidate (sought (any_day w))) passed (live v))
+    let whole : candidate (sought (any_day w)) ≡ staged = λ i r. and_true (staged r) i in
+    sym (ap (λ (f : Record → Bool). filter passed (filter f (live v))) whole ∙ filter_filter staged passed (live v))
 
--- the middle one of three tests
-and_middle : (a b c : Bool) → a && (b && c) ≡ true → b ≡ true
-and_middle true true c e = refl
-and_middle true false c e = e
-and_middle false b c e = false_true e
+and_right : (a b : Bool) → a && b ≡ true → b ≡ true
+and_right true b e = e
+and_right false b e = false_true e
 
 module _ (b : List ℕ) (w : Question) (n : ℕ) (h : First (question_rules b w n) 0) where
   -- every candidate's stamp passes
   looked_in : (r : Record) → candidate (sought w) r ≡ true → Passes w.days r.stamp
   unfolding candidate
-  looked_in r e = ((question_answers b w n h).days r.stamp).1 (and_middle (in_stages w.stages r.stage) (in_window (window_of w.days) r.stamp) (record_past (sought w) r) e)
+  looked_in r e = ((question_answers b w n h).days r.stamp).1 (and_right (in_stages w.stages r.stage) (in_window (window_of w.days) r.stamp) e)
 
   -- rows_in_days: and every row's (02: "only stamps in those days pass")
   pub rows_in_days : All (λ x. Passes w.days (stamp x)) (found_with 0 b w).rows

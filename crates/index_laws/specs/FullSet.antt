@@ -1,6 +1,5 @@
--- full_set_law (02, Q-2: "The full set returns what 01 does"), for the question as an act: with all six stages in the set, no dates and no mark, number, rows and
--- count are those of 01's question, which knows no stages, no weights, no dates and no marks. The tie rule is Q-9's;
--- where all live stamps are equal it is 01's too (`plain_answer`).
+-- full_set_law (02, Q-2: "The full set returns what 01 does"), for the question as an act: with all six marks set and no dates, number, rows and count are
+-- those of 01's question, which knows no stages, no weights and no dates. The tie rule is Q-9's; where all live stamps are equal it is 01's too (`plain_answer`).
 use Rattle.std.specs.Prelude.{◌≡◌, refl, true, List, [], ◌∷◌, ◌++◌, ℕ, ◌≤◌, ℤ, length}
 use Rattle.std.proofs.Common.{sym, subst, inl, inr, lit≤}
 use Rattle.calendar.specs.Days.{undated}
@@ -11,7 +10,7 @@ use Rattle.search_model.specs.Asked.{full_set}
 use Rattle.search_model.specs.Visit.{ranking}
 use Rattle.search_model.specs.FullSet.{plain_due}
 use Rattle.search_model.specs.OneStamp.{id_ranking, OneStampLive}
-use Rattle.index_query.specs.Asking.{Question, nearest_of, sought, Unrestricted, max_rows}
+use Rattle.index_query.specs.Asking.{Question, nearest_of, sought, max_rows}
 use Rattle.index_query.specs.AskingLaws.{full_exact, plain_exact}
 use Rattle.index_refusals.specs.Refusals.{Rule, First, question_rules, bad_length, unsound, bad_features, bad_coordinate, bad_k, few_rows, bad_stage_set, day_rules}
 use Rattle.index_refusals.specs.RefusalLaws.{Hold, first_one, none_fails, question_sound, question_carried}
@@ -71,19 +70,16 @@ module _ (b : List ℕ) (p : List ℤ) (k n : ℕ) where
   plain_code m (inr (l, inr (s, inr (d, inl e)))) = inr (l, inr (s, inr ((d, tt), inl e)))
   plain_code m (inr (l, inr (s, inr (d, inr (r, f))))) = inr (l, inr (s, inr ((d, tt), inr (r, inr (tt, put_after (row_rules k n) full_rules m full_hold f)))))
 
-  all_asked : Unrestricted of_all
-  all_asked = record { stages = refl; days = refl; mark = refl }
-
   -- rows and count: the k nearest of all live records, and the number of leaves in the set that goes with them
   pub full_answer : First (plain_rules b p k n) 0 → found_with 0 b of_all ≡ plain_due ranking (view_of b) (sought of_all)
   full_answer h =
       let f = plain_code 0 h in
       let a = question_carried b of_all n f in
-      full_exact b (question_sound b of_all n f) of_all a.features a.some all_asked
+      full_exact b (question_sound b of_all n f) of_all a.features a.some refl refl
 
   -- where all live stamps are equal (02, Q-9), 01's own rows and count
   pub plain_answer : First (plain_rules b p k n) 0 → (s : ℕ) → OneStampLive (view_of b) s → found_with 0 b of_all ≡ plain_due id_ranking (view_of b) (sought of_all)
   plain_answer h s one =
       let f = plain_code 0 h in
       let a = question_carried b of_all n f in
-      plain_exact b (question_sound b of_all n f) of_all a.features a.some all_asked s one
+      plain_exact b (question_sound b of_all n f) of_all a.features a.some refl refl s one

@@ -9,4 +9,3 @@ pub mod DeletePages
 pub mod Examples
 pub mod Weights
 pub mod Days
-pub mod ReadingOn

@@ -1,6 +1,5 @@
 -- series (01, demand 2): after any list of acts on a newly made index, make apart, the index is sound, the live records are those
--- inserted and not deleted since, and each question returns the k nearest of those whose stage is in its set, whose stamp lies in its days and which come after
--- its mark, with the exact number of leaves.
+-- inserted and not deleted since, and each question returns the k nearest of those whose stage is in its set and whose stamp lies in its days, with the exact number of leaves.
 use Rattle.std.specs.Prelude.{◌≡◌, refl, List, [], ◌∷◌, ◌++◌, ℕ, zero, suc, ◌≤◌, ◌<◌, ℤ, length}
 use Rattle.std.proofs.Common.{sym, ap, subst, ◌∙◌, arith}
 use Rattle.pagestore_page.specs.declared.Record.{Record}
@@ -117,8 +116,8 @@ abbrev pub asked : Question → ℕ → Found → Done
 asked w n f = record { act = question w n; code = 0; answer = f }
 
 module _ (b : List ℕ) (d : ℕ) (lent : Permitted (length b)) (low : 1 ≤ d) (high : d ≤ 16) where
-  -- each question in a series returns the k nearest of the records inserted and not deleted before it whose stage is in its set, whose stamp lies in its
-  -- days and which come after its mark, and reads the leaves of the exact set
+  -- each question in a series returns the k nearest of the records inserted and not deleted before it whose stage is in its set and whose stamp lies in its
+  -- days, and reads the leaves of the exact set
   pub series_question : (xs ys : List Done) (w : Question) (n : ℕ) (f : Found) (c : List ℕ) → Series (new_index b d) (xs ++ (asked w n f ∷ ys)) c
       → (m : List ℕ) × (Series (new_index b d) xs m × (Stands d (held_by d xs []) m × Answers m w f))
   series_question xs ys w n f c h =

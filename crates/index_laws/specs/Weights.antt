@@ -1,6 +1,6 @@
 -- Q-1, channel weights, for the question as an act: weights of ones give what the question without weights gives, and weights of zeros the
 -- candidates by the tie rule alone, with every leaf read that holds records. What a question with any weights gives is `Answers`.
-use Rattle.std.specs.Prelude.{◌≡◌, true, ℕ, suc, ◌≤◌, ltb, leb, ℤ, length, take, replicate}
+use Rattle.std.specs.Prelude.{◌≡◌, refl, Bool, true, ℕ, suc, ◌≤◌, ltb, leb, ℤ, length, take, replicate}
 use Rattle.std.proofs.Common.{sym, ◌∙◌, inl, inr, arith, ltb-true, ltb-false, le-leb}
 use Rattle.std.proofs.Math.Path.{ap}
 use mathlib.Core.List.{List, [], ◌∷◌, map}
@@ -19,7 +19,6 @@ use Rattle.tree_model.specs.Trees.{Item, first_key, last_key, leaves_of, point_i
 use Rattle.tree_model.specs.Sound.{Permitted, SoundIndex}
 use Rattle.search_theory.specs.Nearest.{nearest, in_set}
 use Rattle.search_rows.specs.Rows.{distance, newest_tie}
-use Rattle.search_rows.specs.Marks.{Marking, past_of}
 use Rattle.search_rows.specs.RowLaws.{sort_tied}
 use Rattle.search_model.specs.Numbers.{max_level}
 use Rattle.search_model.specs.Asked.{distance_to, candidate}
@@ -37,7 +36,7 @@ use Rattle.index_refusals.specs.Outcomes.{unless_refused, found_with, nothing_fo
 use Rattle.index_refusals.specs.Trusted.{Suits, trusted_question}
 use Rattle.index.specs.Acts.{question, does}
 use Rattle.index_laws.specs.TrustedActs.{trusted_does}
-use Rattle.index_laws.specs.Answers.{holds_records, count_alike, question_answers}
+use Rattle.index_laws.specs.Answers.{question_answers}
 
 -- ---- ONES
 
@@ -53,16 +52,16 @@ agreeing x y z c d e f rest m cd dc ef fe (inr (a, inr (b, inr (t, inr (r, inr (
 
 -- a point's question without weights, and with a weight of 1 for each coordinate. Since a table gives one number (`first_one`, `Some-number`), what the
 -- one returns the other does.
-module _ (p : List ℤ) (k stages : ℕ) (days : Days) (mark : Marking) where
+module _ (p : List ℤ) (k stages : ℕ) (days : Days) where
   abbrev pub unweighted : Question
-  unweighted = record { point = p; weights = unweighed; k = k; stages = stages; days = days; mark = mark }
+  unweighted = record { point = p; weights = unweighed; k = k; stages = stages; days = days }
 
   abbrev pub by_ones : Question
-  by_ones = record { point = p; weights = weighed (replicate (length p) 1); k = k; stages = stages; days = days; mark = mark }
+  by_ones = record { point = p; weights = weighed (replicate (length p) 1); k = k; stages = stages; days = days }
 
   -- are one question for the search
   same_found : (m : ℕ) (b : List ℕ) → found_with m b by_ones ≡ found_with m b unweighted
-  same_found m b = ap (λ (fs : List Feature). unless_refused m (found b (record { features = fs; k = k; choice = record { stages = stages; window = window_of days; past = past_of mark } })) nothing_found) (ones_plain p)
+  same_found m b = ap (λ (fs : List Feature). unless_refused m (found b (record { features = fs; k = k; choice = record { stages = stages; window = window_of days } })) nothing_found) (ones_plain p)
 
   many_ones : (d : ℕ) → length p ≡ d → length {A = ℕ} (replicate (length p) 1) ≡ d
   many_ones d e = length-replicate {A = ℕ} (length p) 1 ∙ e
@@ -88,13 +87,22 @@ module _ (p : List ℤ) (k stages : ℕ) (days : Days) (mark : Marking) where
 
 -- ---- ZEROS
 
+count_alike : (f g : Item 1 → Bool) (ts : List (Item 1)) → All (λ t. f t ≡ g t) ts → count f ts ≡ count g ts
+unfolding count
+count_alike f g [] none = refl
+count_alike f g (t ∷ ts) (also e a) = rw (e, count_alike f g ts a)
+
 none_below : (n : ℕ) → leb 0 n ≡ true
 none_below n = le-leb 0 n (omega arith)
 
+-- a leaf that holds records
+abbrev pub holds_records : Item 1 → Bool
+holds_records t = ltb 0 (length t.1)
+
 -- what is asked, by weights that are all 0
-module _ (p : List ℤ) (ws : List ℕ) (k stages : ℕ) (days : Days) (mark : Marking) (z : All (λ x. x ≡ 0) ws) where
+module _ (p : List ℤ) (ws : List ℕ) (k stages : ℕ) (days : Days) (z : All (λ x. x ≡ 0) ws) where
   abbrev pub by_zeros : Question
-  by_zeros = record { point = p; weights = weighed ws; k = k; stages = stages; days = days; mark = mark }
+  by_zeros = record { point = p; weights = weighed ws; k = k; stages = stages; days = days }
 
   -- every distance is 0
   no_gap : (x : List ℤ) → dist_to (sought by_zeros).features x ≡ 0

@@ -3,7 +3,7 @@ use Rattle.std.specs.Prelude.{◌≡◌, true, ◌&&◌, ◌↔◌, List, map, �
 use Rattle.std.proofs.Common.{ap, ◌∙◌}
 use Rattle.lists.specs.Basics.{All}
 use Rattle.lists.specs.Sorting.{count, filter, sort}
-use Rattle.calendar.specs.Days.{Passes, InCalendars}
+use Rattle.calendar.specs.Days.{undated, Passes, InCalendars}
 use Rattle.calendar.specs.Counting.{window_of, in_window}
 use Rattle.calendar.proofs.Promises.{window_days}
 use Rattle.geometry.specs.Features.{dist_to}
@@ -13,12 +13,11 @@ use Rattle.tree_model.specs.Trees.{point_in, live, leaves_of}
 use Rattle.tree_model.specs.Sound.{SoundIndex}
 use Rattle.search_theory.specs.Nearest.{nearest}
 use Rattle.search_rows.specs.Rows.{newest_first}
-use Rattle.search_rows.specs.Marks.{comes_after}
-use Rattle.search_model.specs.Asked.{in_stages, distance_to, bare_row}
+use Rattle.search_model.specs.Asked.{in_stages, full_set, distance_to}
 use Rattle.search_model.specs.Visit.{Answer as Found, ranking, found}
 use Rattle.search_model.specs.Questions.{live_candidates, Called, rows_of, to_read}
 use Rattle.search_model.proofs.ExactLaws.{rows_by_stamp}
-use Rattle.index_query.specs.Asking.{Question, sought, distance_by, Suited, Unrestricted, bare, bare_of}
+use Rattle.index_query.specs.Asking.{Question, sought, distance_by, Suited, bare, bare_of}
 use Rattle.index_query.specs.AskingLaws.{distance_by_law, gap_by, among_live, full_live, live_rows, called_for, sought_exact}
 
 -- f answers the question w on index b
@@ -29,10 +28,9 @@ pub record Answers (b : List ℕ) (w : Question) (f : Found) : Type 0 where
   pub order : f.rows ≡ take w.k (sort newest_first (rows_of (view_of b) (sought w)))
   -- the rows of the live candidates are one for each live record that is looked for, with its distance from what is asked, and its stamp
   pub each : map bare (rows_of (view_of b) (sought w)) ≡ map (bare_of w) (live_candidates (view_of b) (sought w))
-  -- looked for are the live records whose stage is in the set, whose stamp in the window, and which come after the mark in row order (02); with the
-  -- full set, no dates and no mark each of them is
-  pub among : live_candidates (view_of b) (sought w) ≡ filter (λ r. in_stages w.stages r.stage && (in_window (window_of w.days) r.stamp && comes_after w.mark (bare_row (sought w) r))) (live (view_of b))
-  pub full : Unrestricted w → live_candidates (view_of b) (sought w) ≡ live (view_of b)
+  -- looked for are the live records whose stage is in the set and whose stamp in the window (02); with the full set and no dates each of them is
+  pub among : live_candidates (view_of b) (sought w) ≡ filter (λ r. in_stages w.stages r.stage && in_window (window_of w.days) r.stamp) (live (view_of b))
+  pub full : w.stages ≡ full_set → w.days ≡ undated → live_candidates (view_of b) (sought w) ≡ live (view_of b)
   -- a stamp lies in the window just if the date of its recording day is from the first to the last (02, Q-4), or no dates are given
   pub days : (s : ℕ) → Passes w.days s ↔ (in_window (window_of w.days) s ≡ true)
   -- a record's distance is the squared distance from the point, with weights the sum of weight times squared difference (02, Q-1), as is

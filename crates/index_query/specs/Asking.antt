@@ -10,10 +10,9 @@ use Rattle.geometry.specs.Stored.{in_range}
 use Rattle.geometry.specs.Numbers.{max_features, max_weight}
 use Rattle.pagestore_page.specs.declared.Record.{Record}
 use Rattle.search_rows.specs.declared.Row.{Row}
-use Rattle.search_rows.specs.Marks.{Marking, unmarked, marking_if, no_mark, past_of}
 use Rattle.search_model.specs.declared.Choice.{Choice}
 use Rattle.search.specs.declared.Query.{Query}
-use Rattle.search_model.specs.Asked.{Asked, full_set, distance_to, Seekable}
+use Rattle.search_model.specs.Asked.{Asked, distance_to, Seekable}
 use Rattle.search.specs.Steps.{asks}
 use Rattle.index_query.specs.declared.Criteria.{Criteria}
 
@@ -31,53 +30,32 @@ abbrev pub weights_if : Bool → List ℕ → Weights
 weights_if false ws = unweighed
 weights_if true ws = weighed ws
 
--- the k nearest of a point, by the weights carried, of the stages in a set (02), bit s for stage s, of the recording days named, and past the
--- mark carried
+-- the k nearest of a point, by the weights carried, of the stages in a set (02), six marks, bit s for stage s, and of the recording days named
 pub record Question : Type 0 where
   pub point : List ℤ
   pub weights : Weights
   pub k : ℕ
   pub stages : ℕ
   pub days : Days
-  pub mark : Marking
 
--- without weights, without dates and without a mark
+-- without weights and without dates
 abbrev pub nearest_of : List ℤ → ℕ → ℕ → Question
-nearest_of p k stages = record { point = p; weights = unweighed; k = k; stages = stages; days = undated; mark = unmarked }
-
--- the same question for k rows past another mark, or without one
-abbrev pub read_from : Question → ℕ → Marking → Question
-read_from w k m = record { point = w.point; weights = w.weights; k = k; stages = w.stages; days = w.days; mark = m }
+nearest_of p k stages = record { point = p; weights = unweighed; k = k; stages = stages; days = undated }
 
 -- as code is given it: the point and the weights in slices, and the rest
 abbrev pub question_of : List ℤ → List ℕ → Criteria → Question
-question_of p ws c = record {
-  point = p;
-  weights = weights_if c.weighted ws;
-  k = c.k;
-  stages = c.stages;
-  days = days_if c.dated c.dates;
-  mark = marking_if c.marked c.mark;
-}
+question_of p ws c = record { point = p; weights = weights_if c.weighted ws; k = c.k; stages = c.stages; days = days_if c.dated c.dates }
 
+-- the criteria of a question without weights and without dates: `question_of p ws (nearest_by k stages)` is `nearest_of p k stages`
 abbrev pub no_date : Date
 no_date = record { year = 0; month = 0; day = 0 }
 
--- the criteria of a question without weights, dates and a mark: `question_of p ws (nearest_by k stages)` is `nearest_of p k stages`
 abbrev pub nearest_by : ℕ → ℕ → Criteria
-nearest_by k stages = record {
-  k = k;
-  stages = stages;
-  weighted = false;
-  dated = false;
-  marked = false;
-  dates = record { first = no_date; last = no_date };
-  mark = no_mark;
-}
+nearest_by k stages = record { k = k; stages = stages; weighted = false; dated = false; dates = record { first = no_date; last = no_date } }
 
 -- which records are looked for
 abbrev pub choice_of : Question → Choice
-choice_of w = record { stages = w.stages; window = window_of w.days; past = past_of w.mark }
+choice_of w = record { stages = w.stages; window = window_of w.days }
 
 -- each coordinate by itself: its gap has the weight carried for it, and without weights the weight 1
 abbrev pub features_by : Weights → List ℤ → List Feature
@@ -105,12 +83,6 @@ Light (weighed ws) = All (λ x. x ≤ max_weight) ws
 -- w suits an index of d features: it has so many coordinates, and so many weights
 abbrev pub Suited : ℕ → Question → Type 0
 Suited d w = (length w.point ≡ d) × AsMany d w.weights
-
--- w leaves out no record of a sound index: the full set, no dates and no mark
-pub record Unrestricted (w : Question) : Type 0 where
-  pub stages : w.stages ≡ full_set
-  pub days : w.days ≡ undated
-  pub mark : w.mark ≡ unmarked
 
 -- a row without its position
 abbrev pub bare : Row → ℕ × ℕ × ℕ

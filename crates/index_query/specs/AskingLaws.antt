@@ -9,7 +9,7 @@ use Rattle.lists.specs.Counts.{mult}
 use Rattle.lists.specs.Sorting.{count, filter}
 use Rattle.lists.specs.SortingLaws.{filter_append}
 use Rattle.lists.specs.ConcatMapLaws.{map_append}
-use Rattle.calendar.specs.Days.{Days}
+use Rattle.calendar.specs.Days.{Days, undated}
 use Rattle.calendar.specs.Counting.{window_of, in_window}
 use Rattle.geometry.specs.Features.{dist_to}
 use Rattle.geometry.proofs.SliceLaws.{plain_distance}
@@ -20,10 +20,8 @@ use Rattle.tree_model.specs.Trees.{Item, leaves, tree_of, live, leaves_of, point
 use Rattle.tree_model.specs.Sound.{SoundIndex}
 use Rattle.search_theory.specs.Nearest.{nearest}
 use Rattle.search_rows.specs.Rows.{distance as rowDistance}
-use Rattle.search_rows.specs.Marks.{Marking, comes_after, past_of}
-use Rattle.search_rows.specs.MarkLaws.{past_after}
 use Rattle.search_model.specs.declared.Choice.{Choice}
-use Rattle.search_model.specs.Asked.{in_stages, distance_to, bare_row, candidate, LeavesOutNone, Askable}
+use Rattle.search_model.specs.Asked.{in_stages, full_set, distance_to, candidate, LeavesOutNone, Askable}
 use Rattle.search_model.specs.Branches.{row_of, rows_among}
 use Rattle.search_model.specs.Visit.{ranking, found, leaves_read}
 use Rattle.search_model.specs.Questions.{rows_from, rows_of, live_candidates, Exchanged, AgreeBut, Called, reading_order, to_read, unread_pages}
@@ -37,7 +35,7 @@ use Rattle.search_model.proofs.UnreadLaws.{unread_header, unread_bytes}
 use Rattle.search_model.proofs.SetLaws.{set_points}
 use Rattle.search_model.proofs.FullSetLaws.{live_full, full_set_law}
 use Rattle.search_model.proofs.OneStampLaws.{found_any_stamp, found_one_stamp, found_plain}
-use Rattle.index_query.specs.Asking.{Weights, unweighed, weighed, Question, choice_of, features_by, sought, distance_by, AsMany, Suited, Unrestricted, bare, bare_of}
+use Rattle.index_query.specs.Asking.{Weights, unweighed, weighed, Question, choice_of, features_by, sought, distance_by, AsMany, Suited, bare, bare_of}
 
 -- ---- WITH WEIGHTS AND WITHOUT
 
@@ -67,10 +65,10 @@ module _ (d : ℕ) (w : Question) (s : Suited d w) where
 -- ---- THE ROWS OF THE LIVE RECORDS
 
 module _ (w : Question) where
-  -- the live records looked for: those whose stage is in the set, whose stamp in the window, and which come after the mark
-  pub among_live : (v : View) → live_candidates v (sought w) ≡ filter (λ r. in_stages w.stages r.stage && (in_window (window_of w.days) r.stamp && comes_after w.mark (bare_row (sought w) r))) (live v)
+  -- the live records looked for: those whose stage is in the set and whose stamp in the window
+  pub among_live : (v : View) → live_candidates v (sought w) ≡ filter (λ r. in_stages w.stages r.stage && in_window (window_of w.days) r.stamp) (live v)
   unfolding candidate
-  among_live v i = filter (λ r. in_stages w.stages r.stage && (in_window (window_of w.days) r.stamp && past_after w.mark (bare_row (sought w) r) i)) (live v)
+  among_live v = refl
 
   bare_leaf : (n : ℕ) (rs : List Record) → map bare (map (row_of (sought w) n) rs) ≡ map (bare_of w) rs
   unfolding row_of
@@ -91,12 +89,12 @@ module _ (w : Question) where
   live_rows v =
       bare_rows 0 (leaves v.level (tree_of v)) ∙ ap (λ (rs : List Record). map (bare_of w) (filter (candidate (sought w)) rs)) (sym (records_leaves v.level (tree_of v)))
 
--- with the full set, no dates and no mark none is left out of a sound index
-leaves_none : (w : Question) → Unrestricted w → LeavesOutNone (choice_of w)
-leaves_none w u = (u.stages, ap (λ (d : Days). (window_of d).bounded) u.days, ap (λ (m : Marking). (past_of m).marked) u.mark)
+-- with the full set and no dates none is left out of a sound index
+leaves_none : (w : Question) → w.stages ≡ full_set → w.days ≡ undated → LeavesOutNone (choice_of w)
+leaves_none w e f = (e, ap (λ (d : Days). (window_of d).bounded) f)
 
-pub full_live : (b : List ℕ) → SoundIndex b → (w : Question) → Unrestricted w → live_candidates (view_of b) (sought w) ≡ live (view_of b)
-full_live b s w u = live_full b s (sought w) (leaves_none w u)
+pub full_live : (b : List ℕ) → SoundIndex b → (w : Question) → w.stages ≡ full_set → w.days ≡ undated → live_candidates (view_of b) (sought w) ≡ live (view_of b)
+full_live b s w e f = live_full b s (sought w) (leaves_none w e f)
 
 -- ---- WHAT THE SEARCH FINDS
 
@@ -112,9 +110,9 @@ module _ (b : List ℕ) (s : SoundIndex b) (w : Question) (d : Suited (view_of b
     pub sought_exact : found b (sought w) ≡ record { rows = nearest ranking w.k (rows_of (view_of b) (sought w)); leaves = count (to_read (view_of b) (sought w)) (leaves_of (view_of b)) }
     sought_exact = found_exact b s (sought w) suits one
 
-    -- with the full set, no dates and no mark what 01 calls for (02), but for the tie rule
-    pub full_exact : Unrestricted w → found b (sought w) ≡ plain_due ranking (view_of b) (sought w)
-    full_exact u = full_set_law b s (sought w) (leaves_none w u) suits one
+    -- with the full set and no dates what 01 calls for (02), but for the tie rule
+    pub full_exact : w.stages ≡ full_set → w.days ≡ undated → found b (sought w) ≡ plain_due ranking (view_of b) (sought w)
+    full_exact e f = full_set_law b s (sought w) (leaves_none w e f) suits one
 
     -- whatever the stamps, the distances and the count that 01's tie rule calls for (02, Q-9), and where they are equal, its rows
     pub any_stamp_exact : (map rowDistance (found b (sought w)).rows ≡ map rowDistance (due_by_id (view_of b) (sought w)).rows) × ((found b (sought w)).leaves ≡ (due_by_id (view_of b) (sought w)).leaves)
@@ -124,8 +122,8 @@ module _ (b : List ℕ) (s : SoundIndex b) (w : Question) (d : Suited (view_of b
     one_stamp_exact t a = found_one_stamp b s (sought w) suits one t a
 
     -- with both, 01's own answer
-    pub plain_exact : Unrestricted w → (t : ℕ) → OneStampLive (view_of b) t → found b (sought w) ≡ plain_due id_ranking (view_of b) (sought w)
-    plain_exact u t a = found_plain b s (sought w) (leaves_none w u) suits one t a
+    pub plain_exact : w.stages ≡ full_set → w.days ≡ undated → (t : ℕ) → OneStampLive (view_of b) t → found b (sought w) ≡ plain_due id_ranking (view_of b) (sought w)
+    plain_exact e f t a = found_plain b s (sought w) (leaves_none w e f) suits one t a
 
     pub read_ordered : leaves_read b (sought w) ≡ reading_order (view_of b) (sought w)
     read_ordered = leaves_read_law b s (sought w) suits one

@@ -14,8 +14,6 @@ use Rattle.geometry.specs.Stored.{stored, point_of, slots_of}
 use Rattle.geometry.proofs.StoredLaws.{in_range_law, slots_own, point_back}
 use Rattle.geometry.proofs.WeightLaws.{ones_plain}
 use Rattle.geometry_slices.proofs.QuestionLaws.{stored_weighted}
-use Rattle.search_rows.specs.declared.Past.{Past}
-use Rattle.search_rows.specs.Marks.{marking_if, past_of}
 use Rattle.search_model.proofs.AskedLaws.{seekable_point}
 use Rattle.index_query.specs.declared.Criteria.{Criteria}
 use Rattle.index_query.specs.Asking.{weights_if, question_of, features_by, AsMany, Light, Searchable, QueryFor}
@@ -67,8 +65,8 @@ module _ (p : List ℤ) (ws : List ℕ) (what : Criteria) (slots features : List
   abbrev laid : List ℕ
   laid = if what.weighted ws (replicate n 1)
 
-  pub query_for : (set : ℕ) → set ≡ what.stages → (window : Window) → window ≡ window_of (days_if what.dated what.dates) → (past : Past) → past ≡ past_of (marking_if what.marked what.mark) → LaidOut (take n slots) (take n slots) (if what.weighted ws (replicate (length (take n slots)) 1)) features → QueryFor (question_of p ws what) (record { features = features; d = n; k = what.k; choice = record { stages = set; window = window; past = past } })
-  query_for set e window f past g h =
+  pub query_for : (set : ℕ) → set ≡ what.stages → (window : Window) → window ≡ window_of (days_if what.dated what.dates) → LaidOut (take n slots) (take n slots) (if what.weighted ws (replicate (length (take n slots)) 1)) features → QueryFor (question_of p ws what) (record { features = features; d = n; k = what.k; choice = record { stages = set; window = window } })
+  query_for set e window f h =
       let asked = take (48 + n) features in
       let cut : take (48 + length (take n slots)) features ≡ asked = ap (λ (m : ℕ). take (48 + m) features) own_length in
       let same : asked_of asked ≡ weighted laid p =
@@ -80,5 +78,5 @@ module _ (p : List ℤ) (ws : List ℕ) (what : Criteria) (slots features : List
         few = can.most;
         seekable = seekable_point asked laid p (subst Packed cut h.packed) same (laid_length ws what.weighted n can.weights)
             (laid_light ws what.weighted n can.light) (in_range_law p can.ranges) can.features;
-        is = λ i. record { features = (same ∙ laid_features ws what.weighted p) i; k = what.k; choice = record { stages = e i; window = f i; past = g i } };
+        is = λ i. record { features = (same ∙ laid_features ws what.weighted p) i; k = what.k; choice = record { stages = e i; window = f i } };
       }

@@ -11,8 +11,6 @@ use geometry::points::slots_of;
 use geometry_slices::asked::ask;
 use search::Query;
 use search_model::Choice;
-use search_rows::Mark;
-use search_rows::marks::past_of;
 
 // What is asked of a point.
 #[repr(C)]
@@ -22,12 +20,10 @@ pub struct Criteria {
     pub stages: u8, // of which stages: bit s for stage s
     pub weighted: bool, // whether weights are carried
     pub dated: bool, // whether recording days are named
-    pub marked: bool, // whether a mark is carried
     pub dates: Dates, // from which date to which
-    pub mark: Mark, // past which row
 }
 
-// What is asked of a point without weights, without dates and without a mark.
+// What is asked of a point without weights and without dates.
 pub fn nearest_of(k: usize, stages: u8) -> Criteria
     ensures { result ≡ nearest_by k stages }
 {
@@ -36,22 +32,15 @@ pub fn nearest_of(k: usize, stages: u8) -> Criteria
         month: 0,
         day: 0,
     };
-    let mark = Mark {
-        distance: 0,
-        stamp: 0,
-        id: 0,
-    };
     Criteria {
         k: k,
         stages: stages,
         weighted: false,
         dated: false,
-        marked: false,
         dates: Dates {
             first: none,
             last: none,
         },
-        mark: mark,
     }
 }
 
@@ -79,7 +68,6 @@ pub fn query_of(point: &[i16], weights: &[u16], what: Criteria) -> Query
     let choice = Choice {
         stages: what.stages,
         window: window_of(what.dated, what.dates),
-        past: past_of(what.marked, what.mark),
     };
     Query {
         features: features,

@@ -1,6 +1,6 @@
 -- The steps of offering a leaf's records.
 use mathlib.Core.Path.{◌≡◌, refl, sym, ap, ◌∙◌}
-use mathlib.Core.Bool.{Bool, true, false}
+use mathlib.Core.Bool.{true, false}
 use mathlib.Core.List.{List, [], ◌∷◌, map}
 use lib.IntN.{ℤ}
 use Prim.Native.Nat.{ℕ, zero, suc, ◌+◌, ◌*◌, ◌-◌, ◌≤◌, ◌<◌, min}
@@ -115,18 +115,14 @@ module _ (page : List ℕ) (i D position : ℕ) (highs lows : List ℕ) (n k : �
             (λ c. rw (among_none q position here c));
       }
 
-  -- what the test of a candidate said of it
-  abbrev Told : Bool → Type 0
-  Told t = (q : Asked) → q.choice ≡ choice → D ≡ distance_to q here → candidate q here ≡ t
-
-  pub record_passed : Held highs lows n k → Told false → OfferedRecord page i D position highs lows n k choice n highs lows
+  pub record_passed : Held highs lows n k → ((q : Asked) → q.choice ≡ choice → candidate q here ≡ false) → OfferedRecord page i D position highs lows n k choice n highs lows
   unfolding sorting.offer_all
-  record_passed h c = record { held = h; rows = λ q w e. rw (among_none q position here (c q w e)) }
+  record_passed h c = record { held = h; rows = λ q w e. rw (among_none q position here (c q w)) }
 
-  pub record_taken : (r : ℕ) (highs' lows' : List ℕ) → Told true → Offered highs lows n k (row_at page i D position) r highs' lows'
+  pub record_taken : (r : ℕ) (highs' lows' : List ℕ) → ((q : Asked) → q.choice ≡ choice → candidate q here ≡ true) → Offered highs lows n k (row_at page i D position) r highs' lows'
       → OfferedRecord page i D position highs lows n k choice r highs' lows'
   unfolding sorting.offer_all
-  record_taken r highs' lows' c o = record { held = o.held; rows = λ q w e. rw (among_one q position here (c q w e), ← row_is q e) o.rows }
+  record_taken r highs' lows' c o = record { held = o.held; rows = λ q w e. rw (among_one q position here (c q w), ← row_is q e) o.rows }
 
 -- ---- A LEAF
 

@@ -37,9 +37,9 @@ abbrev pub OfferedLeaf : List ℕ → ℕ → List ℕ → ℕ → List ℕ → 
 OfferedLeaf index page asked position highs lows n k c r highs' lows' =
     OfferedAll highs lows n k (rows_among (asking asked k c) position (records_in (leaf_at index page))) r highs' lows'
 
--- r says whether the record in slot i of a leaf page is a candidate, at that distance from whatever is asked
-abbrev pub Tells : List ℕ → ℕ → ℕ → Choice → Bool → Type 0
-Tells page i distance c r = (q : Asked) → q.choice ≡ c → distance ≡ distance_to q (record_in page i) → r ≡ candidate q (record_in page i)
+-- r says whether the record in slot i of a leaf page is a candidate, whatever else is asked
+abbrev pub Tells : List ℕ → ℕ → Choice → Bool → Type 0
+Tells page i c r = (q : Asked) → q.choice ≡ c → r ≡ candidate q (record_in page i)
 
 -- what offering the record in slot i of a leaf page asks for
 pub record Offers (page : List ℕ) (i distance position : ℕ) (highs lows : List ℕ) (n k : ℕ) : Type 0 where

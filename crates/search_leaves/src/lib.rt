@@ -18,7 +18,6 @@ use pagestore::{
     MAX_ITEMS, PAGE_SIZE, in_range, lanes, read_count, read_ident, read_stage, read_stamp,
 };
 use search_model::Choice;
-use search_rows::marks::is_past;
 use search_rows::{Row, behind, distance_in, offer};
 
 mod columns;
@@ -89,19 +88,15 @@ fn in_stages(stages: u8, stage: u8) -> bool
     (stages >> stage) & 1 == 1
 }
 
-// Whether the record in slot i of a leaf page, whose distance is told, is one of those looked for.
-fn is_candidate(page: &[u8], i: usize, distance: u64, choice: Choice) -> bool
+// Whether the record in slot i of a leaf page is one of those looked for.
+fn is_candidate(page: &[u8], i: usize, choice: Choice) -> bool
     requires { (length page.now ≡ page_size) × (i < max_items) }
-    ensures { Tells page.now i distance choice result }
+    ensures { Tells page.now i choice result }
 {
     if !in_stages(choice.stages, read_stage(page, i)) {
         return false;
     }
-    let stamp = read_stamp(page, i);
-    if !in_window(choice.window, stamp) {
-        return false;
-    }
-    is_past(choice.past, distance, stamp, read_ident(page, i))
+    in_window(choice.window, read_stamp(page, i))
 }
 
 // The row of the record in slot i of a leaf page at a position, whose distance is told.
@@ -137,7 +132,7 @@ fn offer_record(
     if behind(highs, n, k, distance) {
         return n;
     }
-    if !is_candidate(page, i, distance, choice) {
+    if !is_candidate(page, i, choice) {
         return n;
     }
     offer(highs, lows, n, k, row_in(page, i, distance, position))
@@ -196,7 +191,7 @@ fn offer_weighted_record(
     if behind(highs, n, k, distance) {
         return n;
     }
-    if is_candidate(page, i, distance, choice) {
+    if is_candidate(page, i, choice) {
         return offer(highs, lows, n, k, row_in(page, i, distance, position));
     }
     n

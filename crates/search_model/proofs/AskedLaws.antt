@@ -25,10 +25,9 @@ use Rattle.geometry.proofs.StoredLaws.{coord_magnitude, length_point}
 use Rattle.geometry.proofs.SliceLaws.{plain_ordered, plain_length}
 use Rattle.geometry.proofs.WeightLaws.{weighted_length, weighted_ordered, weighted_asks}
 use Rattle.pagestore_page.specs.declared.Record.{Record}
-use Rattle.search_rows.specs.MarkLaws.{past_open}
 use Rattle.tree_model.specs.Sound.{max_stage, RecordOk}
 use Rattle.search_model.specs.declared.Choice.{Choice}
-use Rattle.search_model.specs.Asked.{Asked, set_of, in_stages, full_set, plainly, record_past, candidate, LeavesOutNone, Askable}
+use Rattle.search_model.specs.Asked.{Asked, set_of, in_stages, full_set, plainly, candidate, LeavesOutNone, Askable}
 use Rattle.search_model.specs.Asked.{low_ends, weights_in, Seekable}
 use Rattle.search_model.proofs.RecordLaws.{in_range_law}
 
@@ -82,13 +81,12 @@ full_marks s h =
     let all : full_set ≡ set_of (λ s. true) = omega arith in
     rw all (marks_read (λ s. true) s h)
 
--- so on a sound index each record is a candidate of a question for the full set without dates and without a mark
+-- so on a sound index each record is a candidate of a question for the full set without dates
 full_candidate : (q : Asked) → LeavesOutNone q.choice → (r : Record) → r.stage ≤ max_stage → candidate q r ≡ true
 unfolding candidate
 full_candidate q e r h =
     let staged : in_stages q.choice.stages r.stage ≡ true = rw e.0 (full_marks r.stage h) in
-    let passed : true ≡ record_past q r = past_open q.choice.past _ e.2 in
-    λ i. staged i && (sym (window_open q.choice.window r.stamp e.1) i && sym passed i)
+    λ i. staged i && sym (window_open q.choice.window r.stamp e.1) i
 
 pub candidates_full : (q : Asked) → LeavesOutNone q.choice → (d : ℕ) (rs : List Record) → All (RecordOk d) rs → filter (candidate q) rs ≡ rs
 candidates_full q e d rs a = filter_all (candidate q) rs (all_map (λ r (h : RecordOk d r). full_candidate q e r h.stage) a)

@@ -30,7 +30,7 @@ use Rattle.search_model.specs.Questions.{answer_due, rows_from, rows_of, leaf_br
 use Rattle.search_model.proofs.FrameLaws.{leaf_branches}
 use Rattle.search_model.proofs.DescentLaws.{branch_order}
 use Rattle.search_model.proofs.SoundLaws.{leaf_items, records_leaves, none_held}
-use Rattle.search_model.proofs.VisitedLaws.{index_leaves, like_self, reads_some, visited_like, found_like, leaves_some, rows_all_law, floors, found_none}
+use Rattle.search_model.proofs.VisitedLaws.{index_leaves, like_self, reads_some, visited_like, found_like, leaves_some, rows_all, floors, found_none}
 
 count_set : (v : View) (q : Asked) (p : ℕ) (us : List (Item 1)) → All (λ u. 0 < length u.1) us
     → count (λ x. in_set ranking q.k (rows_of v q) x.bound) (leaf_branches q v.d p us) ≡ count (to_read v q) us
@@ -60,10 +60,10 @@ module _ (b : List ℕ) (s : SoundIndex b) (q : Asked) (suits : Askable (view_of
   exact_some : 0 < v.total → found b q ≡ answer_due v q
   exact_some t =
       let o : Outcome Row Branch = best_first ranking branch_bound (rows_at b q) q.k tied (index_leaves b q) in
-      let r : o.rows ≡ nearest ranking q.k (rows_of v q) = flatly.rows_nearest ranking row_order_law branch_bound tied branch_order (index_leaves b q) (rows_at b q) (floors b s q suits one) q.k one ∙ ap (nearest ranking q.k) (rows_all_law b s q suits one) in
+      let r : o.rows ≡ nearest ranking q.k (rows_of v q) = flatly.rows_nearest ranking row_order_law branch_bound tied branch_order (index_leaves b q) (rows_at b q) (floors b s q suits one) q.k one ∙ ap (nearest ranking q.k) (rows_all b s q suits one) in
       let n : length o.read ≡ count (to_read v q) (leaves_of v) =
       flatly.leaves_count ranking row_order_law branch_bound tied branch_order (index_leaves b q) (rows_at b q) (floors b s q suits one) q.k one
-      ∙ ap (λ (xs : List Row). count (λ x. in_set ranking q.k xs x.bound) (index_leaves b q)) (rows_all_law b s q suits one) ∙ count_set v q 0 (leaves_of v) (leaves_some b s q suits one t) in
+      ∙ ap (λ (xs : List Row). count (λ x. in_set ranking q.k xs x.bound) (index_leaves b q)) (rows_all b s q suits one) ∙ count_set v q 0 (leaves_of v) (leaves_some b s q suits one t) in
       found_like b s q suits one b (like_self b s q suits one) t ∙ (λ i. record { rows = r i; leaves = n i })
 
   exact_none : v.total ≡ 0 → found b q ≡ answer_due v q
@@ -98,7 +98,7 @@ module _ (b : List ℕ) (s : SoundIndex b) (q : Asked) (suits : Askable (view_of
       (ap (λ (x : List Row × List (ℕ × ℕ)). x.1) (visited_like b s q suits one b (like_self b s q suits one) t)
       ∙ ap (map placed)
       (flatly.leaves_exact ranking row_order_law branch_bound tied branch_order (index_leaves b q) (rows_at b q) (floors b s q suits one) q.k one
-      ∙ ap (λ (xs : List Row). filter (λ x. in_set ranking q.k xs x.bound) (sort before (index_leaves b q))) (rows_all_law b s q suits one)
+      ∙ ap (λ (xs : List Row). filter (λ x. in_set ranking q.k xs x.bound) (sort before (index_leaves b q))) (rows_all b s q suits one)
       ∙ filter_sort before branch_order (λ x. in_set ranking q.k (rows_of v q) x.bound) (index_leaves b q)
       ∙ ap (sort before) (set_branches 0 (leaves_of v) (leaves_some b s q suits one t))))
 

@@ -1,4 +1,4 @@
--- The examples of 01 marked P that speak of leaves hold, and those of Q-9 and Q-6: by the promises, they compute.
+-- The examples of 01 marked P that speak of leaves hold, and Q-9's: by the promises, they compute.
 use mathlib.Core.Path.{◌≡◌, refl, sym, ap, ◌∙◌}
 use mathlib.Core.Bool.{◌&&◌}
 use mathlib.Core.List.{List, [], ◌∷◌, map}
@@ -16,14 +16,13 @@ use Rattle.geometry.specs.Features.{gap_of, dist_to, plain}
 use Rattle.geometry.specs.Slices.{side_by, slice_by, axis_no, sign_no, slice_at, least_from, least_in, bound_to, bound_of}
 use Rattle.geometry.specs.Stored.{point_of, slots_of}
 use Rattle.search_theory.specs.Nearest.{candidates, nearest, kth, in_set}
-use Rattle.search_rows.specs.Marks.{past_mark, Marking, unmarked, marked, is_past}
 use Rattle.pagestore.specs.Store.{view_of}
 use Rattle.tree_model.specs.Trees.{Item, key_of, first_key, last_key, leaves_of}
-use Rattle.search_model.specs.Asked.{Asked, in_stages, distance_to, candidate, span_bound}
+use Rattle.search_model.specs.Asked.{Asked, in_stages, every_record, plainly, distance_to, candidate, span_bound}
 use Rattle.search_model.specs.Branches.{row_of, rows_among}
 use Rattle.search_model.specs.Visit.{ranking, Answer}
 use Rattle.search_model.specs.Questions.{rows_from, rows_of, leaf_bound, to_read_by}
-use Rattle.search_model.specs.Examples.{record_no, asked_past, HoldsPast, Holds, unstamped, examples, mixed, stamped_examples, mark_at, MarkedHolds, marked_examples}
+use Rattle.search_model.specs.Examples.{record_no, Holds, unstamped, examples, mixed, stamped_examples}
 use Rattle.search_model.proofs.AskedLaws.{plain_suits}
 use Rattle.search_model.proofs.ExactLaws.{found_exact}
 
@@ -31,36 +30,32 @@ use Rattle.search_model.proofs.ExactLaws.{found_exact}
 abbrev pair : (ℕ → ℕ) → ℕ → ℕ → List (Item 1)
 pair stamp a b = (a, map (record_no stamp) (range_from 1 9)) ∷ (b, map (record_no stamp) (range_from 10 8)) ∷ []
 
-abbrev asked : ℕ → ℕ → Marking → Asked
-asked n k m = asked_past m (record { point = n; k = k; rows = []; read = 0 })
+abbrev asked : ℕ → ℕ → Asked
+asked n k = plainly (pos n ∷ []) k every_record
 
 -- the identifiers that demand 2 calls for, and the number of leaves that demand 3 does
-abbrev rows_for : (ℕ → ℕ) → Marking → ℕ → ℕ → ℕ → ℕ → List ℕ
-rows_for stamp m n k a b = map (λ x. x.id) (nearest ranking k (rows_from (asked n k m) 0 (pair stamp a b)))
+abbrev rows_for : (ℕ → ℕ) → ℕ → ℕ → ℕ → ℕ → List ℕ
+rows_for stamp n k a b = map (λ x. x.id) (nearest ranking k (rows_from (asked n k) 0 (pair stamp a b)))
 
-abbrev read_for : (ℕ → ℕ) → Marking → ℕ → ℕ → ℕ → ℕ → ℕ
-read_for stamp m n k a b = count (λ t. ltb 0 (length t.1) && in_set ranking k (rows_from (asked n k m) 0 (pair stamp a b)) (leaf_bound 1 (asked n k m) t)) (pair stamp a b)
+abbrev read_for : (ℕ → ℕ) → ℕ → ℕ → ℕ → ℕ → ℕ
+read_for stamp n k a b = count (λ t. ltb 0 (length t.1) && in_set ranking k (rows_from (asked n k) 0 (pair stamp a b)) (leaf_bound 1 (asked n k) t)) (pair stamp a b)
 
-holds_past : (stamp : ℕ → ℕ) (m : Marking) (n k : ℕ) (rows : List ℕ) (read : ℕ) → 1 ≤ k → ((a b : ℕ) → rows_for stamp m n k a b ≡ rows) → ((a b : ℕ) → read_for stamp m n k a b ≡ read)
-    → HoldsPast stamp m (record { point = n; k = k; rows = rows; read = read })
+holds : (stamp : ℕ → ℕ) (n k : ℕ) (rows : List ℕ) (read : ℕ) → 1 ≤ k → ((a b : ℕ) → rows_for stamp n k a b ≡ rows) → ((a b : ℕ) → read_for stamp n k a b ≡ read)
+    → Holds stamp (record { point = n; k = k; rows = rows; read = read })
 unfolding rows_of to_read_by
-holds_past stamp m n k rows read one e f b s h =
+holds stamp n k rows read one e f b s h =
     let v = view_of b in
-    let x = found_exact b s (asked n k m) (plain_suits v.d (pos n ∷ []) k _ (sym h.d)) one in
+    let x = found_exact b s (asked n k) (plain_suits v.d (pos n ∷ []) k _ (sym h.d)) one in
     let l : leaves_of v ≡ pair stamp h.first h.second = h.leaves in (
-      ap (λ (y : Answer). map (λ z. z.id) y.rows) x ∙ ap (λ (ts : List (Item 1)). map (λ z. z.id) (nearest ranking k (rows_from (asked n k m) 0 ts))) l ∙ e h.first h.second,
+      ap (λ (y : Answer). map (λ z. z.id) y.rows) x ∙ ap (λ (ts : List (Item 1)). map (λ z. z.id) (nearest ranking k (rows_from (asked n k) 0 ts))) l ∙ e h.first h.second,
       ap (λ (y : Answer). y.leaves) x
-          ∙ (λ i. count (λ t. ltb 0 (length t.1) && in_set ranking k (rows_from (asked n k m) 0 (l i)) (leaf_bound (h.d i) (asked n k m) t)) (l i))
+          ∙ (λ i. count (λ t. ltb 0 (length t.1) && in_set ranking k (rows_from (asked n k) 0 (l i)) (leaf_bound (h.d i) (asked n k) t)) (l i))
           ∙ f h.first h.second,
     )
 
-holds : (stamp : ℕ → ℕ) (n k : ℕ) (rows : List ℕ) (read : ℕ) → 1 ≤ k → ((a b : ℕ) → rows_for stamp unmarked n k a b ≡ rows) → ((a b : ℕ) → read_for stamp unmarked n k a b ≡ read)
-    → Holds stamp (record { point = n; k = k; rows = rows; read = read })
-holds stamp = holds_past stamp unmarked
-
 -- every example of the list holds
 pub answers_hold : All (Holds unstamped) examples
-unfolding range_from filter count insert_by sort lex head_or last_or height_of axis_at axis_of pyramid_of gap_of dist_to plain side_by slice_by axis_no sign_no slice_at least_from least_in bound_to bound_of point_of slots_of candidates nearest kth in_set key_of first_key last_key distance_to in_stages in_window is_past candidate span_bound row_of rows_among rows_from leaf_bound record_no
+unfolding range_from filter count insert_by sort lex head_or last_or height_of axis_at axis_of pyramid_of gap_of dist_to plain side_by slice_by axis_no sign_no slice_at least_from least_in bound_to bound_of point_of slots_of candidates nearest kth in_set key_of first_key last_key distance_to in_stages in_window candidate span_bound row_of rows_among rows_from leaf_bound record_no
 answers_hold =
     also (holds unstamped 9 1 (9 ∷ []) 1 (lit≤ tt) (λ a b. refl) (λ a b. refl))
     (also (holds unstamped 9 2 (9 ∷ 8 ∷ []) 2 (lit≤ tt) (λ a b. refl) (λ a b. refl))
@@ -70,26 +65,8 @@ answers_hold =
     none))))
 
 pub stamps_hold : All (Holds mixed) stamped_examples
-unfolding range_from filter count insert_by sort lex head_or last_or height_of axis_at axis_of pyramid_of gap_of dist_to plain side_by slice_by axis_no sign_no slice_at least_from least_in bound_to bound_of point_of slots_of candidates nearest kth in_set key_of first_key last_key distance_to in_stages in_window is_past candidate span_bound row_of rows_among rows_from leaf_bound record_no
+unfolding range_from filter count insert_by sort lex head_or last_or height_of axis_at axis_of pyramid_of gap_of dist_to plain side_by slice_by axis_no sign_no slice_at least_from least_in bound_to bound_of point_of slots_of candidates nearest kth in_set key_of first_key last_key distance_to in_stages in_window candidate span_bound row_of rows_among rows_from leaf_bound record_no
 stamps_hold =
     also (holds mixed 9 6 (9 ∷ 8 ∷ 10 ∷ 7 ∷ 11 ∷ 12 ∷ []) 2 (lit≤ tt) (λ a b. refl) (λ a b. refl))
     (also (holds mixed 9 18 (9 ∷ 8 ∷ 10 ∷ 7 ∷ 11 ∷ 12 ∷ 6 ∷ 13 ∷ 5 ∷ 4 ∷ 14 ∷ 3 ∷ 15 ∷ 2 ∷ 16 ∷ 17 ∷ 1 ∷ []) 2 (lit≤ tt) (λ a b. refl) (λ a b. refl))
     none)
-
--- a marked example
-marked_holds : (d t i n k : ℕ) (rows : List ℕ) (read : ℕ) → 1 ≤ k → ((a b : ℕ) → rows_for mixed (marked (mark_at d t i)) n k a b ≡ rows) → ((a b : ℕ) → read_for mixed (marked (mark_at d t i)) n k a b ≡ read)
-    → MarkedHolds (mark_at d t i, record { point = n; k = k; rows = rows; read = read })
-marked_holds d t i = holds_past mixed (marked (mark_at d t i))
-
-pub marks_hold : All MarkedHolds marked_examples
-unfolding range_from filter count insert_by sort lex head_or last_or height_of axis_at axis_of pyramid_of gap_of dist_to plain side_by slice_by axis_no sign_no slice_at least_from least_in bound_to bound_of point_of slots_of candidates nearest kth in_set key_of first_key last_key distance_to in_stages in_window past_mark is_past candidate span_bound row_of rows_among rows_from leaf_bound record_no
-marks_hold =
-    also (marked_holds 9 4 12 9 3 (6 ∷ 13 ∷ 5 ∷ []) 2 (lit≤ tt) (λ a b. refl) (λ a b. refl))
-    (also (marked_holds 25 1 4 9 2 (14 ∷ 3 ∷ []) 2 (lit≤ tt) (λ a b. refl) (λ a b. refl))
-    (also (marked_holds 9 2 0 9 2 (6 ∷ 13 ∷ []) 2 (lit≤ tt) (λ a b. refl) (λ a b. refl))
-    (also (marked_holds 25 1 9 9 1 (14 ∷ []) 2 (lit≤ tt) (λ a b. refl) (λ a b. refl))
-    (also (marked_holds 26 0 0 9 1 (3 ∷ []) 2 (lit≤ tt) (λ a b. refl) (λ a b. refl))
-    (also (marked_holds 0 5 0 9 1 (9 ∷ []) 1 (lit≤ tt) (λ a b. refl) (λ a b. refl))
-    (also (marked_holds 64 1 1 9 1 [] 2 (lit≤ tt) (λ a b. refl) (λ a b. refl))
-    (also (marked_holds 64 1 9 1 1 (10 ∷ []) 2 (lit≤ tt) (λ a b. refl) (λ a b. refl))
-    none)))))))

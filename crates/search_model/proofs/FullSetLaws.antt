@@ -1,4 +1,4 @@
--- The full set without dates and without a mark returns what 01 does (02), with Q-9's tie rule: on a sound index each live record is then a candidate.
+-- The full set without dates returns what 01 does (02), with Q-9's tie rule: on a sound index each live record is then a candidate.
 use mathlib.Core.Path.{◌≡◌, refl, ap, ap₂, ◌∙◌}
 use mathlib.Core.Bool.{Bool, ◌&&◌}
 use mathlib.Core.List.{List, [], ◌∷◌, ◌++◌, map}

@@ -8,7 +8,6 @@ pub mod SetLaws
 pub mod VisitedLaws
 pub mod ExactLaws
 pub mod UnreadLaws
-pub mod MarkedLaws
 pub mod FullSetLaws
 pub mod OneStampLaws
 pub mod ExchangeLaws

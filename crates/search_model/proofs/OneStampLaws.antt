@@ -78,12 +78,12 @@ found_any_stamp b w q suits one =
 
 -- ---- ONE STAMP
 
--- found_one_stamp: whichever stages, days and mark are asked for, the candidates having one stamp
+-- found_one_stamp: whichever stages and days are asked for, the candidates having one stamp
 pub found_one_stamp : (b : List ℕ) → SoundIndex b → (q : Asked) → Askable (view_of b).d q → 1 ≤ q.k → (s : ℕ) → OneStamp (view_of b) q s → found b q ≡ due_by_id (view_of b) q
 found_one_stamp b w q suits one s a =
     found_exact b w q suits one ∙ (λ i. record { rows = same_nearest q s (view_of b) a i; leaves = count (same_set (view_of b) q i) (leaves_of (view_of b)) })
 
--- and with the full set, no dates and no mark 01's own answer
+-- and with the full set and no dates 01's own answer
 pub found_plain : (b : List ℕ) → SoundIndex b → (q : Asked) → LeavesOutNone q.choice → Askable (view_of b).d q → 1 ≤ q.k → (s : ℕ) → OneStampLive (view_of b) s → found b q ≡ plain_due id_ranking (view_of b) q
 unfolding to_read_by in_plain_set
 found_plain b w q e suits one s a =

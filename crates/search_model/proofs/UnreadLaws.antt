@@ -30,7 +30,7 @@ use Rattle.search_model.specs.Questions.{rows_of, leaf_branch, to_read_by, to_re
 use Rattle.search_model.proofs.FrameLaws.{Frame, parts_right, leaf_branches}
 use Rattle.search_model.proofs.DescentLaws.{branch_order}
 use Rattle.search_model.proofs.SoundLaws.{tree_frame, tree_header, tree_once}
-use Rattle.search_model.proofs.VisitedLaws.{index_leaves, Like, like_self, found_like, leaves_some, rows_all_law, floors, found_none}
+use Rattle.search_model.proofs.VisitedLaws.{index_leaves, Like, like_self, found_like, leaves_some, rows_all, floors, found_none}
 use Rattle.tree_model.specs.TreeLaws.{no_pages_law}
 
 -- ---- PAGES OF THE TREE
@@ -139,7 +139,7 @@ module _ (b : List ℕ) (s : SoundIndex b) (q : Asked) (suits : Askable (view_of
         (λ e. let t : 0 < (view_of b).total = ltb-true 0 (view_of b).total e in
         found_like b s q suits one c like_rest t
         ∙ ap answer_of (flatly.unread_anything ranking row_order_law branch_bound tied branch_order (index_leaves b q) (rows_at b q) (floors b s q suits one) q.k one (rows_at c q)
-        (rw (rows_all_law b s q suits one) (rows_same 0 (leaves_of (view_of b)) unread_read (leaves_some b s q suits one t))))
+        (rw (rows_all b s q suits one) (rows_same 0 (leaves_of (view_of b)) unread_read (leaves_some b s q suits one t))))
         ∙ sym (found_like b s q suits one b (like_self b s q suits one) t))
         (λ e. let z : (view_of b).total ≡ 0 = omega (arith, ltb-false 0 (view_of b).total e) in
         found_none b s q suits one c (like_rest.total ∙ z) ∙ sym (found_none b s q suits one b ((like_self b s q suits one).total ∙ z)))

@@ -117,9 +117,9 @@ module _ (b : List ℕ) (s : SoundIndex b) (q : Asked) (suits : Askable (view_of
       (leaves_ordered v.d v.level (tree_of v) (tree_ordered b s (ltb-true 0 v.total e))))
       (λ e. all_map (none_floor v.d q) (none_held b s (omega (arith, ltb-false 0 v.total e))))
 
-  pub rows_all_law : concat_map (rows_at b q) (index_leaves b q) ≡ rows_of v q
+  pub rows_all : concat_map (rows_at b q) (index_leaves b q) ≡ rows_of v q
   unfolding rows_of
-  rows_all_law = concat_map_rows b q v.d 0 (leaves_of v) (tree_hold b s)
+  rows_all = concat_map_rows b q v.d 0 (leaves_of v) (tree_hold b s)
 
   pub floors : All (Floor ranking branch_bound (rows_at b q)) (index_leaves b q)
   floors = row_floors b q v.d 0 (leaves_of v) (tree_hold b s) leaf_floors

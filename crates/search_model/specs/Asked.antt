@@ -12,8 +12,6 @@ use Rattle.geometry.specs.Stored.{point_of}
 use Rattle.geometry.specs.Numbers.{max_features, max_weight}
 use Rattle.pagestore_page.specs.declared.Record.{Record}
 use Rattle.tree_model.specs.Trees.{point_in}
-use Rattle.search_rows.specs.declared.Row.{Row}
-use Rattle.search_rows.specs.Marks.{unmarked, unplaced, past_of, is_past}
 use Rattle.search_model.specs.declared.Choice.{Choice}
 
 -- the features asked for, one for each coordinate, how many rows, and which records
@@ -43,25 +41,17 @@ in_stages set s = eqb (set / 2 ^ s % 2) 1
 abbrev pub full_set : ℕ
 full_set = 63
 
--- a record's distance from what is asked, its stamp and its identifier, as a row: what a mark is compared with (02, Q-6)
-abbrev pub bare_row : Asked → Record → Row
-bare_row q r = unplaced (distance_to q r) r.stamp r.id
-
--- whether a record is past the mark of a choice
-abbrev pub record_past : Asked → Record → Bool
-record_past q r = is_past q.choice.past (bare_row q r)
-
--- whether a record is looked for: its stage is in the set, its stamp in the window, and it is past the mark (02)
+-- whether a record is looked for: its stage is in the set, and its stamp in the window (02)
 unfoldable pub candidate : Asked → Record → Bool
-unfolding in_stages in_window distance_to is_past
-candidate q r = in_stages q.choice.stages r.stage && (in_window q.choice.window r.stamp && record_past q r)
+unfolding in_stages in_window
+candidate q r = in_stages q.choice.stages r.stage && in_window q.choice.window r.stamp
 
--- a choice that leaves out no record of a sound index: the full set, no dates, and no mark
+-- a choice that leaves out no record of a sound index: the full set, and no dates
 abbrev pub LeavesOutNone : Choice → Type 0
-LeavesOutNone c = (c.stages ≡ full_set) × (c.window.bounded ≡ false) × (c.past.marked ≡ false)
+LeavesOutNone c = (c.stages ≡ full_set) × (c.window.bounded ≡ false)
 
 abbrev pub every_record : Choice
-every_record = record { stages = full_set; window = window_of undated; past = past_of unmarked }
+every_record = record { stages = full_set; window = window_of undated }
 
 -- the bound (01) of the span from a first to a last key
 unfoldable pub span_bound : Asked → Key → Key → ℕ

@@ -1,5 +1,4 @@
--- The examples of 01 that are marked P and speak of leaves, in the definitions' own terms, and those of the same records with stamps (02, Q-9), and
--- past a mark (02, Q-6).
+-- The examples of 01 that are marked P and speak of leaves, in the definitions' own terms, and those of the same records with stamps (02, Q-9).
 use Rattle.std.specs.Prelude.{◌≡◌, List, [], ◌∷◌, map, ℕ, ◌*◌, ◌%◌, pos}
 use Rattle.lists.specs.Basics.{range_from}
 use Rattle.geometry.specs.Stored.{slots_of}
@@ -7,8 +6,6 @@ use Rattle.pagestore_page.specs.declared.Record.{Record}
 use Rattle.pagestore.specs.Store.{View, view_of}
 use Rattle.tree_model.specs.Trees.{leaves_of}
 use Rattle.tree_model.specs.Sound.{SoundIndex}
-use Rattle.search_rows.specs.declared.Mark.{Mark}
-use Rattle.search_rows.specs.Marks.{Marking, unmarked, marked, past_of}
 use Rattle.search_model.specs.Asked.{Asked, every_record, plainly}
 use Rattle.search_model.specs.Visit.{found}
 
@@ -30,18 +27,14 @@ pub record Example : Type 0 where
   pub rows : List ℕ
   pub read : ℕ
 
-abbrev pub asked_past : Marking → Example → Asked
-asked_past m e = plainly (pos e.point ∷ []) e.k (record { stages = every_record.stages; window = every_record.window; past = past_of m })
+abbrev pub asked : Example → Asked
+asked e = plainly (pos e.point ∷ []) e.k every_record
 
--- what an example says of every sound index with these leaves, past a mark
-abbrev pub HoldsPast : (ℕ → ℕ) → Marking → Example → Type 0
-HoldsPast stamp m e =
-    (b : List ℕ) → SoundIndex b → Seventeen stamp (view_of b)
-    → (map (λ x. x.id) (found b (asked_past m e)).rows ≡ e.rows) × ((found b (asked_past m e)).leaves ≡ e.read)
-
--- without one
+-- what an example says of every sound index with these leaves
 abbrev pub Holds : (ℕ → ℕ) → Example → Type 0
-Holds stamp e = HoldsPast stamp unmarked e
+Holds stamp e =
+    (b : List ℕ) → SoundIndex b → Seventeen stamp (view_of b)
+    → (map (λ x. x.id) (found b (asked e)).rows ≡ e.rows) × ((found b (asked e)).leaves ≡ e.read)
 
 -- 01's, of the stamp 0
 abbrev pub unstamped : ℕ → ℕ
@@ -64,28 +57,4 @@ abbrev pub stamped_examples : List Example
 stamped_examples =
     record { point = 9; k = 6; rows = 9 ∷ 8 ∷ 10 ∷ 7 ∷ 11 ∷ 12 ∷ []; read = 2 }
     ∷ record { point = 9; k = 18; rows = 9 ∷ 8 ∷ 10 ∷ 7 ∷ 11 ∷ 12 ∷ 6 ∷ 13 ∷ 5 ∷ 4 ∷ 14 ∷ 3 ∷ 15 ∷ 2 ∷ 16 ∷ 17 ∷ 1 ∷ []; read = 2 }
-    ∷ []
-
--- Q-6's, of the same records past a mark: a distance, a stamp and an identifier
-abbrev pub mark_at : ℕ → ℕ → ℕ → Mark
-mark_at distance stamp id = record { distance = distance; stamp = stamp; id = id }
-
--- with the stamps above
-abbrev pub MarkedHolds : Mark × Example → Type 0
-MarkedHolds x = HoldsPast mixed (marked x.0) x.1
-
-abbrev pub marked_examples : List (Mark × Example)
-marked_examples =
-    -- the marks of 12 and of 4: lists that go on with a tie by stamp, and with one by identifier
-    (mark_at 9 4 12, record { point = 9; k = 3; rows = 6 ∷ 13 ∷ 5 ∷ []; read = 2 })
-    ∷ (mark_at 25 1 4, record { point = 9; k = 2; rows = 14 ∷ 3 ∷ []; read = 2 })
-    -- marks of no record: between two stamps, between two identifiers, at a distance that none has
-    ∷ (mark_at 9 2 0, record { point = 9; k = 2; rows = 6 ∷ 13 ∷ []; read = 2 })
-    ∷ (mark_at 25 1 9, record { point = 9; k = 1; rows = 14 ∷ []; read = 2 })
-    ∷ (mark_at 26 0 0, record { point = 9; k = 1; rows = 3 ∷ []; read = 2 })
-    -- before all rows, and behind all: then every leaf is read
-    ∷ (mark_at 0 5 0, record { point = 9; k = 1; rows = 9 ∷ []; read = 1 })
-    ∷ (mark_at 64 1 1, record { point = 9; k = 1; rows = []; read = 2 })
-    -- a leaf wholly before the mark is read too
-    ∷ (mark_at 64 1 9, record { point = 1; k = 1; rows = 10 ∷ []; read = 2 })
     ∷ []

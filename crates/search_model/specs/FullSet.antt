@@ -1,4 +1,4 @@
--- What 01 calls for, which knows no stages, no dates and no marks: the nearest of all live records, by a tie rule, and the set of leaves that goes with them.
+-- What 01 calls for, which knows no stages and no dates: the nearest of all live records, by a tie rule, and the set of leaves that goes with them.
 use Rattle.std.specs.Prelude.{Bool, ◌&&◌, List, [], ◌∷◌, ◌++◌, map, ℕ, suc, ltb, length}
 use Rattle.lists.specs.Sorting.{count}
 use Rattle.search_theory.specs.Nearest.{Ranking, nearest, in_set}

@@ -14,7 +14,7 @@ use Rattle.search_model.specs.Questions.{live_candidates, due_by}
 abbrev pub id_ranking : Ranking Row
 id_ranking = by_identifier (λ x. true)
 
--- the answer that demands 2 and 3 call for by it, over the candidates (which a mark narrows by Q-9's order)
+-- the answer that demands 2 and 3 call for by it
 abbrev pub due_by_id : View → Asked → Answer
 due_by_id = due_by id_ranking
 

@@ -2,7 +2,6 @@
 // file holds no function, only the numbers and the choice of which they speak.
 #![tactic(auto)]
 use calendar::Window;
-use search_rows::Past;
 
 // The highest level of a root.
 pub const MAX_LEVEL: u8 = 4;
@@ -28,11 +27,9 @@ pub const FULL_ROOM: usize = 8192;
 // The set of all six stages.
 pub const ALL_STAGES: u8 = 63;
 
-// Which records are looked for: those whose stage is in the set, bit s for stage s, whose stamp lies in the window, and which are past the
-// mark, where one is carried.
+// Which records are looked for: those whose stage is in the set, bit s for stage s, and whose stamp lies in the window.
 #[derive(Clone, Copy)]
 pub struct Choice {
     pub stages: u8,
     pub window: Window,
-    pub past: Past,
 }

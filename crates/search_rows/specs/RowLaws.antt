@@ -1,5 +1,5 @@
 -- Laws of row order: it is total, on distinct identifiers position never decides, where stamps are equal it is 01's, stamps move no
--- distance.
+-- distance, and lists past a mark join up.
 use Rattle.std.specs.Prelude.{◌≡◌, ◌≢◌, Bool, true, false, ◌&&◌, ℕ, ◌+◌, ◌≤◌, ◌<◌, take, eqb}
 use Rattle.std.proofs.Math.Path.{refl, ap}
 use Rattle.std.proofs.Common.{sym, ◌∙◌, arith}
@@ -8,15 +8,16 @@ use Rattle.std.proofs.Math.Dec.{ltb}
 use borrow.Author.Tests.{eq-eqb, le-ltb, lt-ltb}
 use Rattle.lists.specs.Basics.{All, none, also, all_map}
 use Rattle.lists.specs.Tests.{three, by_cases}
-use Rattle.lists.specs.Sorting.{count, filter, Order, Sorted}
+use Rattle.lists.specs.Sorting.{count, filter, sum, Order, Sorted}
 use Rattle.lists.specs.Sorting as sorting
 use Rattle.lists.specs.SortingLaws.{ltb_order, ins_first, sorted_sort, count_sort, all_sort, all_filter}
 use Rattle.lists.specs.Parts.{map_take}
 use Rattle.lists.specs.ConcatMapLaws.{count_filter}
 use Rattle.lists.specs.Orders.{lex, by, lower, higher, Weak, by_weak, by_higher_weak, by_same, by_higher_same, lower_weak, lower_same, weak_order, by_lower, by_higher_law, lex_first, lex_second, lex_last}
 use Rattle.search_theory.specs.Nearest.{candidates, nearest}
-use Rattle.search_theory.specs.Marks.{Strict}
+use Rattle.search_theory.specs.Marks.{Strict, read_on, unmarked}
 use Rattle.search_theory.specs.Marks as marks
+use Rattle.search_theory.specs.Promises.{lists_join}
 use Rattle.search_rows.specs.declared.Row.{Row}
 use Rattle.search_rows.specs.Rows.{distance, stamp, id, position, id_order, tie_order, newest_tie, row_order, newest_first, by_distance, by_identifier}
 
@@ -40,8 +41,11 @@ module _ (a b : Row) where
   pub earlier : stamp a < stamp b → tie_order a b ≡ false
   earlier h = lex_last (higher stamp) id_order a b (le-ltb (stamp b) (stamp a) (omega arith)) (lt-ltb (stamp a) (stamp b) h)
 
-pub newest_weak : Weak newest_first
+newest_weak : Weak newest_first
 newest_weak = by_weak distance newest_tie (by_higher_weak stamp (lower id) (lower_weak id))
+
+pub newest_asym : (a b : Row) → newest_first a b ≡ true → newest_first b a ≡ false
+newest_asym = newest_weak.asym
 
 -- rows of which neither is before the other have the same identifier
 newest_same : (a b : Row) → newest_first a b ≡ false → newest_first b a ≡ false → a.id ≡ b.id
@@ -192,3 +196,8 @@ candidates_strict passes xs d =
     strict_rows (sorting.sort row_order (filter passes xs))
     (λ n. let a = count_sort row_order (of_id n) (filter passes xs) in let b = count_filter (of_id n) passes xs in let e = count_fewer passes (of_id n) xs in let h = d n in omega arith)
     (sorted_sort row_order row_order_law (filter passes xs))
+
+-- the lists got by always marking the last row's distance, stamp and identifier join up to the list of a larger number (02, Q-6)
+pub rows_join : (passes : Row → Bool) (xs : List Row) → Distinct xs → (ks : List ℕ)
+    → read_on newest_first (by_distance passes) unmarked ks xs ≡ nearest (by_distance passes) (sum (λ k. k) ks) xs
+rows_join passes xs d ks = lists_join (by_distance passes) row_order_law xs newest_first newest_asym (candidates_strict passes xs d) ks

@@ -1,10 +1,8 @@
-// The best rows of a question so far, in row order, held in two lent arrays; marks, and which rows are past them (`marks`).
+// The candidates of a question: the best rows so far, in row order, held in two lent arrays.
 #![tactic(auto)]
 ghost use Rattle.std.specs.Prelude.{◌≡◌, ◌+◌, ◌≤◌, length};
 ghost use Rattle.search_rows.specs.Rows.{row_order, row_of, age_of, high_of, low_of, distance_in, FitsWords};
 ghost use Rattle.search_rows.specs.Held.{behind_all, GivesWay, Held, Offered};
-
-pub mod marks;
 
 // The most rows that a question may ask for.
 pub const MAX_ROWS: usize = 64;
@@ -18,22 +16,6 @@ pub struct Row {
     pub id: u32,
     pub stamp: u32,
     pub position: u64,
-}
-
-// A mark (02, Q-6): a distance, a stamp and an identifier. It need not be a record's.
-#[repr(C)]
-#[derive(Clone, Copy)]
-pub struct Mark {
-    pub distance: u64,
-    pub stamp: u32,
-    pub id: u32,
-}
-
-// Which rows are looked for: those past the mark in row order, where one is carried, else all.
-#[derive(Clone, Copy)]
-pub struct Past {
-    pub marked: bool,
-    pub mark: Mark,
 }
 
 // The latest stamp.

@@ -16,7 +16,7 @@ module _ {A : Type 0} (past : A → A → Bool) where
   mark_last p (x ∷ []) = past x
   mark_last p (x ∷ y ∷ ys) = mark_last p (y ∷ ys)
 
-  -- the lists for the numbers ks, each of rows past the last row of the one before, joined; p: the rows past the mark to begin with
+  -- the lists for the numbers ks, each of rows past the last row of the one before, joined; p: the mark to begin with
   unfoldable pub read_on : Ranking A → (A → Bool) → List ℕ → List A → List A
   unfolding nearest mark_last
   read_on r p [] xs = []
@@ -27,6 +27,6 @@ module _ {A : Type 0} (past : A → A → Bool) where
     end : Strict []
     next : {x : A} {xs : List A} → All (λ y. past x y ≡ true) xs → Strict xs → Strict (x ∷ xs)
 
-  -- what comes after a row that passes passes too: so it is of the rows past a mark, and of all rows
-  abbrev pub Onward : (A → Bool) → Type 0
-  Onward p = (x y : A) → p x ≡ true → past x y ≡ true → p y ≡ true
+-- no mark
+abbrev pub unmarked : {A : Type 0} → A → Bool
+unmarked x = true

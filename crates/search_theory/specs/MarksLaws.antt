@@ -1,15 +1,16 @@
 -- Why the lists got by always marking the last row join up.
 use Rattle.std.specs.Prelude.{◌≡◌, Bool, true, false, ℕ}
 use Rattle.std.proofs.Math.Path.{refl, sym, ap}
-use Rattle.std.proofs.Common.{◌∙◌, subst, take-add}
+use Rattle.std.proofs.Common.{◌∙◌, take-add}
 use mathlib.Core.List.{List, [], ◌∷◌, ◌++◌, append_assoc}
 use Rattle.std.proofs.Math.ListN.{take, drop, take-append-drop}
-use Rattle.lists.specs.Basics.{All, none, also, all_map, all_right, all_head}
+use Rattle.lists.specs.Basics.{All, none, also, all_right, all_head}
 use Rattle.lists.specs.Sorting.{filter, sum, Order, sort}
 use Rattle.lists.specs.SortingLaws.{filter_append, filter_past, filter_all, filter_none, filter_filter, filter_sort}
+use Rattle.lists.specs.ConcatMapLaws.{all_every}
 use Rattle.lists.specs.Tests.{by_cases}
 use Rattle.search_theory.specs.Nearest.{Ranking, row_order, candidates, nearest}
-use Rattle.search_theory.specs.Marks.{narrowed, mark_last, read_on, Strict, next, Onward}
+use Rattle.search_theory.specs.Marks.{narrowed, mark_last, read_on, Strict, next, unmarked}
 
 module _ {A : Type 0} (past : A → A → Bool) (asym : (a b : A) → past a b ≡ true → past b a ≡ false) where
   itself : (x : A) → past x x ≡ false
@@ -27,8 +28,8 @@ module _ {A : Type 0} (past : A → A → Bool) (asym : (a b : A) → past a b �
   strict_past : (m : A) (w : List A) → Strict past (m ∷ w) → All (λ x. past m x ≡ true) w
   strict_past m w (next a h) = a
 
-  past_mark_law : (u : List A) (m : A) (w : List A) → Strict past (u ++ (m ∷ w)) → filter (past m) (u ++ (m ∷ w)) ≡ w
-  past_mark_law u m w h =
+  past_mark : (u : List A) (m : A) (w : List A) → Strict past (u ++ (m ∷ w)) → filter (past m) (u ++ (m ∷ w)) ≡ w
+  past_mark u m w h =
       filter_append (past m) u (m ∷ w)
       ∙ ap (λ (t : List A). t ++ filter (past m) (m ∷ w)) (filter_none (past m) u (strict_left u m w h))
       ∙ filter_past (past m) m w (itself m) ∙ filter_all (past m) w (strict_past m w (strict_right u (m ∷ w) h))
@@ -36,7 +37,7 @@ module _ {A : Type 0} (past : A → A → Bool) (asym : (a b : A) → past a b �
   -- past the mark that rows (y ∷ ys) leave is what follows them
   mark_rest : (p : A → Bool) (u : List A) (y : A) (ys w : List A) → Strict past (u ++ ((y ∷ ys) ++ w)) → filter (mark_last past p (y ∷ ys)) (u ++ ((y ∷ ys) ++ w)) ≡ w
   unfolding mark_last
-  mark_rest p u y [] w h = past_mark_law u y w h
+  mark_rest p u y [] w h = past_mark u y w h
   mark_rest p u y (z ∷ zs) w h =
       let e : u ++ (y ∷ z ∷ zs ++ w) ≡ (u ++ (y ∷ [])) ++ ((z ∷ zs) ++ w) = sym (append_assoc u (y ∷ []) ((z ∷ zs) ++ w)) in
       rw e (mark_rest p (u ++ (y ∷ [])) z zs w (rw e at h))
@@ -45,20 +46,6 @@ module _ {A : Type 0} (past : A → A → Bool) (asym : (a b : A) → past a b �
   unfolding mark_last
   marked p u [] w s e = e
   marked p u (y ∷ ys) w s e = mark_rest p u y ys w s
-
-  -- where p goes on past every row that passes, those that pass are the last ones
-  record LastPass (p : A → Bool) (xs : List A) : Type 0 where
-    first : List A
-    are : xs ≡ first ++ filter p xs
-
-  last_pass : (p : A → Bool) → Onward past p → (xs : List A) → Strict past xs → LastPass p xs
-  unfolding filter
-  last_pass p on [] s = record { first = []; are = refl }
-  last_pass p on (x ∷ xs) (next a s) =
-      by_cases (p x)
-      (λ e. record { first = []; are = sym (filter_all p (x ∷ xs) (also e (all_map (λ y h. on x y e h) a))) })
-      (λ e. let l = last_pass p on xs s in
-      record { first = x ∷ l.first; are = ap (λ (t : List A). x ∷ t) l.are ∙ ap (λ (t : List A). (x ∷ l.first) ++ t) (sym (filter_past p x xs e)) })
 
   module _ (r : Ranking A) (o : Order (row_order r)) (xs : List A) where
     -- the candidates of a narrower choice
@@ -84,9 +71,6 @@ module _ {A : Type 0} (past : A → A → Bool) (asym : (a b : A) → past a b �
         (c ∙ ap (λ (t : List A). u ++ t) (sym parts) ∙ whole) (rw whole at strict) (ap (filter (mark_last past p (take k v))) (sym whole) ∙ rest'))
         ∙ sym (take-add k (sum (λ k. k) ks) v)
 
-    pub read_on_joins : Strict past (candidates r xs) → (p : A → Bool) → Onward past p → (ks : List ℕ) → read_on past r p ks xs ≡ nearest (narrowed r p) (sum (λ k. k) ks) xs
+    pub read_on_joins : Strict past (candidates r xs) → (ks : List ℕ) → read_on past r unmarked ks xs ≡ nearest r (sum (λ k. k) ks) xs
     unfolding nearest
-    read_on_joins s p on ks =
-        let l = last_pass p on (candidates r xs) s in
-        read_on_rest ks p l.first (filter p (candidates r xs)) l.are (subst (Strict past) l.are s) (ap (filter p) (sym l.are))
-        ∙ ap (take (sum (λ k. k) ks)) (sym (narrowed_candidates p))
+    read_on_joins s ks = read_on_rest ks unmarked [] (candidates r xs) refl s (filter_all unmarked (candidates r xs) (all_every (λ x. refl) (candidates r xs)))

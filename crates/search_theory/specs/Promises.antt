@@ -9,7 +9,7 @@ use Rattle.lists.specs.Sorting.{filter, count, sum, Order, sort}
 use Rattle.lists.specs.SortingLaws.{length_filter, count_sort, all_sort, all_kept}
 use Rattle.lists.specs.Orders.{by}
 use Rattle.search_theory.specs.Nearest.{Ranking, row_order, candidates, nearest, kth, in_set, Outcome, Floor, best_first}
-use Rattle.search_theory.specs.Marks.{narrowed, read_on, Strict, Onward}
+use Rattle.search_theory.specs.Marks.{read_on, Strict, unmarked}
 use Rattle.search_theory.specs.Ranges.{within_reach}
 use Rattle.search_theory.specs.VisitLaws.{visit_exact, visit_alike}
 use Rattle.search_theory.specs.KthLaws.{in_set_larger, in_set_floor, kth_carried}
@@ -71,10 +71,10 @@ module _ {A : Type 0} (r : Ranking A) (o : Order (row_order r)) (xs : List A) wh
   read_larger (suc i) zero b one h e = absurd (omega arith)
   read_larger (suc i) (suc j) b one h e = in_set_larger r o xs i j b (omega arith) e
 
-  -- the lists for the numbers ks, got by always marking the last row, join up to the list for their sum; p: the rows past the mark to begin with
+  -- the lists for the numbers ks, got by always marking the last row, join up to the list for their sum
   pub lists_join : (past : A → A → Bool) → ((a b : A) → past a b ≡ true → past b a ≡ false) → Strict past (candidates r xs)
-      → (p : A → Bool) → Onward past p → (ks : List ℕ) → read_on past r p ks xs ≡ nearest (narrowed r p) (sum (λ k. k) ks) xs
-  lists_join past asym strict p on ks = read_on_joins past asym r o xs strict p on ks
+      → (ks : List ℕ) → read_on past r unmarked ks xs ≡ nearest r (sum (λ k. k) ks) xs
+  lists_join past asym strict ks = read_on_joins past asym r o xs strict ks
 
   -- the k-th cost goes over to another cost: if what costs at most the k-th cost here costs at most m there, the k-th cost there is at most m
   pub kth_moves : (r' : Ranking A) → Order (row_order r') → r'.passes ≡ r.passes → (k m : ℕ) → 1 ≤ k → k ≤ length (candidates r xs)

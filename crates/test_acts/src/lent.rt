@@ -28,13 +28,13 @@ fn show_row_at(row: Row, id: u64, distance: u64, position: u64, stamp: u64) {
 
 // Rows as they are lent: every field is 7.
 pub fn lent_rows() -> [Row; MAX_ROWS] {
-    let filler = Row {
+    let mark = Row {
         distance: 7,
         id: 7,
         position: 7,
         stamp: 7,
     };
-    [filler; MAX_ROWS]
+    [mark; MAX_ROWS]
 }
 
 pub fn no_tally() -> Tally {

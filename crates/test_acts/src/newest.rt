@@ -9,14 +9,14 @@ use test_parts::FULL_SET;
 use test_parts::answers::{show_answer, show_stamp};
 use test_parts::show::{line, ordered, text};
 
-pub fn delete(index: [u8; SHORTEST], what: &[u8], id: u32) -> [u8; SHORTEST] {
+fn delete(index: [u8; SHORTEST], what: &[u8], id: u32) -> [u8; SHORTEST] {
     let mut bytes = index;
     line(what, index::delete(&mut bytes, id) as u64, 0);
     bytes
 }
 
 // Five points at distance 25, two of them with stamp 1, and a farther one with the latest stamp.
-pub fn filled() -> [u8; SHORTEST] {
+fn filled() -> [u8; SHORTEST] {
     let empty = made(b"make in 2048 bytes, d 2", 2);
     let a = insert(empty, b"insert of 1 with stamp 0", 1, 0, &[3i16, -4]);
     let b = insert(a, b"insert of 6 with stamp 1", 6, 1, &[3i16, 4]);

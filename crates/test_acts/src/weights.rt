@@ -13,7 +13,7 @@ use test_parts::answers::{show_answer, show_tally};
 use test_parts::show::{number, text, weighed};
 
 // A question that carries weights.
-pub fn weighted(k: usize, stages: u8) -> Criteria {
+fn weighted(k: usize, stages: u8) -> Criteria {
     let mut asked = nearest_of(k, stages);
     asked.weighted = true;
     asked
@@ -224,7 +224,7 @@ fn show_row(row: Row, id: u64, distance: u64) {
 }
 
 // Four points, two of them with stamp 20.
-pub fn filled() -> [u8; SHORTEST] {
+fn filled() -> [u8; SHORTEST] {
     let empty = made(b"make in 2048 bytes, d 2", 2);
     let a = insert(empty, b"insert of 1 at (3, 0), stamp 10", 1, 10, &[3i16, 0]);
     let b = insert(a, b"insert of 2 at (0, 4), stamp 20", 2, 20, &[0i16, 4]);

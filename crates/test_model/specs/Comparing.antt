@@ -19,13 +19,13 @@ Weighs weights q = (length q ≤ 16) × (length weights ≡ length q)
 abbrev pub Lent : List ℕ → List ℕ → Type 0
 Lent highs lows = (64 ≤ length highs) × (64 ≤ length lows)
 
--- each point has 16 places and a label
+-- each point has 16 places and a mark
 abbrev pub Points : List ℕ → List ℕ → Type 0
-Points places labels = length places ≡ 16 * length labels
+Points places marks = length places ≡ 16 * length marks
 
--- the arrays of a batch: labels and places of 1,024 points
+-- the arrays of a batch: marks and places of 1,024 points
 abbrev pub Arrays : List ℕ → List ℕ → Type 0
-Arrays places labels = (length labels ≡ 1024) × (length places ≡ 16384)
+Arrays places marks = (length marks ≡ 1024) × (length places ≡ 16384)
 
 -- a batch of 1 to 16 features whose points have room in these arrays
 abbrev pub Fits : Batch → Type 0

@@ -2,30 +2,29 @@
 ghost use Rattle.std.specs.Prelude.{◌≡◌, ◌<◌, ◌≤◌, length};
 ghost use Rattle.test_model.specs.Comparing.{Counts, Lent, Points, Weighs, pairs};
 
-use crate::labels::stamp_in;
 use crate::leaves::{fill_table, holds, set_count};
-use crate::reading::last_row;
-use crate::scan::{left_count, measure, take};
+use crate::marks::stamp_in;
+use crate::scan::{measure, take};
 use crate::{Asked, Seen, Wanted};
 use index_answer::Answer;
 use search_rows::{MAX_ROWS, Row, row_of};
 
 // 1 if a row is not the one that the scan finds next, or is not held by the leaf at its position.
-fn compare_row(index: &[u8], pages: &[u32], distances: &mut [u64], labels: &[u64], row: Row) -> u64
-    requires { (0 < length distances.old) × (length labels.now ≡ length distances.old) }
+fn compare_row(index: &[u8], pages: &[u32], distances: &mut [u64], marks: &[u64], row: Row) -> u64
+    requires { (0 < length distances.old) × (length marks.now ≡ length distances.old) }
     ensures { (result ≤ 1) × (length distances.new ≡ length distances.old) }
 {
-    let near = take(distances, labels);
+    let near = take(distances, marks);
     if near.distance != row.distance {
         return 1;
     }
     if near.id != row.id {
         return 1;
     }
-    if stamp_in(near.label) != row.stamp {
+    if stamp_in(near.mark) != row.stamp {
         return 1;
     }
-    if holds(index, pages, row.position as usize, row.id, near.label) {
+    if holds(index, pages, row.position as usize, row.id, near.mark) {
         return 0;
     }
     1
@@ -36,18 +35,18 @@ fn compare_rows(
     index: &[u8],
     pages: &[u32],
     distances: &mut [u64],
-    labels: &[u64],
+    marks: &[u64],
     highs: &[u64],
     lows: &[u64],
     n: usize,
 ) -> u64
-    requires { (n ≤ 64) × Lent highs.now lows.now × (0 < length distances.old) × (length labels.now ≡ length distances.old) }
+    requires { (n ≤ 64) × Lent highs.now lows.now × (0 < length distances.old) × (length marks.now ≡ length distances.old) }
     ensures { (result ≤ 64) × (length distances.new ≡ length distances.old) }
 {
     let mut differences: u64 = 0;
     let mut i = 0;
     while i < n {
-        differences += compare_row(index, pages, distances, labels, row_of(highs[i], lows[i]));
+        differences += compare_row(index, pages, distances, marks, row_of(highs[i], lows[i]));
         i += 1;
     }
     differences
@@ -57,18 +56,11 @@ fn lesser(a: usize, b: usize) -> usize {
     if a < b { a } else { b }
 }
 
-// The leaves to be read: all of them if the n rows are fewer than k, else those whose bound is at most the last distance.
-fn leaves_wanted(
-    index: &[u8],
-    pages: &[u32],
-    table: &[u64],
-    last: u64,
-    n: usize,
-    asked: Asked,
-) -> usize
+// The leaves to be read: all of them if there are fewer than k candidates, else those whose bound is at most the last distance.
+fn leaves_wanted(index: &[u8], pages: &[u32], table: &[u64], last: u64, asked: Asked) -> usize
     requires { Counts asked pages.now × (length table.now ≡ pairs) }
 {
-    if n < asked.k {
+    if asked.candidates < asked.k {
         return asked.leaves;
     }
     set_count(index, pages, asked.leaves, table, last, asked.d)
@@ -80,6 +72,17 @@ fn differ(a: u64, b: u64) -> u64
     if a == b { 0 } else { 1 }
 }
 
+// The distance of the last of n rows, 0 if there is none.
+fn last_distance(highs: &[u64], lows: &[u64], n: usize) -> u64
+    requires { (n ≤ 64) × Lent highs.now lows.now }
+{
+    if n == 0 {
+        return 0;
+    }
+    let row = row_of(highs[n - 1], lows[n - 1]);
+    row.distance
+}
+
 // A question that was refused, or returned another number of rows.
 fn wrong() -> Seen {
     Seen {
@@ -89,12 +92,12 @@ fn wrong() -> Seen {
     }
 }
 
-// Compares an answer with the scan's distances, of which it takes the next ones, and with the table of the pairs' least distances.
+// Compares an answer with the scan's distances and with the table of the pairs' least distances.
 pub fn compare(
     index: &[u8],
     pages: &[u32],
     distances: &mut [u64],
-    labels: &[u64],
+    marks: &[u64],
     table: &[u64],
     asked: Asked,
     answer: Answer,
@@ -102,22 +105,21 @@ pub fn compare(
     lows: &[u64],
 ) -> Seen
     requires { Counts asked pages.now × (length table.now ≡ pairs) × (0 < length distances.old)
-        × (length labels.now ≡ length distances.old) × Lent highs.now lows.now }
-    ensures { length distances.new ≡ length distances.old }
+        × (length marks.now ≡ length distances.old) × Lent highs.now lows.now }
 {
     let n = answer.count;
     if answer.code != 0 {
         return wrong();
     }
-    if n != lesser(asked.k, left_count(distances)) {
+    if n != lesser(asked.k, asked.candidates) {
         return wrong();
     }
     if MAX_ROWS < n {
         return wrong();
     }
-    let last = last_row(highs, lows, n);
-    let rows = compare_rows(index, pages, distances, labels, highs, lows, n);
-    let wanted = leaves_wanted(index, pages, table, last.distance, n, asked);
+    let last = last_distance(highs, lows, n);
+    let rows = compare_rows(index, pages, distances, marks, highs, lows, n);
+    let wanted = leaves_wanted(index, pages, table, last, asked);
     let leaves = answer.leaves as u64;
     Seen {
         rows: n as u64,
@@ -131,14 +133,14 @@ pub fn prepare(
     distances: &mut [u64],
     table: &mut [u64],
     places: &[u16],
-    labels: &[u64],
+    marks: &[u64],
     q: &[u16],
     weights: &[u16],
     wanted: Wanted,
 )
-    requires { Weighs weights.now q.now × Points places.now labels.now × (length distances.old ≡ length labels.now) }
+    requires { Weighs weights.now q.now × Points places.now marks.now × (length distances.old ≡ length marks.now) }
     ensures { (length distances.new ≡ length distances.old) × (length table.new ≡ length table.old) }
 {
-    measure(distances, places, labels, q, weights, wanted);
+    measure(distances, places, marks, q, weights, wanted);
     fill_table(table, q, weights);
 }

@@ -4,7 +4,7 @@ ghost use Rattle.std.specs.Prelude.{◌≡◌, ◌+◌, ◌*◌, ◌<◌, ◌≤
 ghost use Rattle.test_model.specs.Comparing.{Weighs};
 
 use crate::HEIGHTS;
-use crate::labels::label_of;
+use crate::marks::mark_of;
 use crate::scan::{FAR, gap, weighed};
 use geometry::MAX_COORDINATE;
 use pagestore::{Leaf, Record, leaf_at};
@@ -239,8 +239,8 @@ pub fn set_count(
     count
 }
 
-// 1 if the record at a place of a leaf has the identifier, with the label of its stage and its stamp.
-fn is_at(leaf: Leaf, i: usize, id: u32, label: u64) -> usize
+// 1 if the record at a place of a leaf has the identifier, with the mark of its stage and its stamp.
+fn is_at(leaf: Leaf, i: usize, id: u32, mark: u64) -> usize
     requires { i < 16 }
     ensures { result ≤ 1 }
 {
@@ -248,15 +248,15 @@ fn is_at(leaf: Leaf, i: usize, id: u32, label: u64) -> usize
     if x.id != id {
         return 0;
     }
-    if label_of(x.stage, x.stamp) == label {
+    if mark_of(x.stage, x.stamp) == mark {
         1
     } else {
         0
     }
 }
 
-// Whether the leaf at a position holds an identifier with its label, once.
-pub fn holds(index: &[u8], pages: &[u32], position: usize, id: u32, label: u64) -> bool {
+// Whether the leaf at a position holds an identifier with its mark, once.
+pub fn holds(index: &[u8], pages: &[u32], position: usize, id: u32, mark: u64) -> bool {
     if pages.len() <= position {
         return false;
     }
@@ -265,7 +265,7 @@ pub fn holds(index: &[u8], pages: &[u32], position: usize, id: u32, label: u64) 
     let mut found = 0;
     let mut i = 0;
     while i < n {
-        found += is_at(leaf, i, id, label);
+        found += is_at(leaf, i, id, mark);
         i += 1;
     }
     found == 1

@@ -2,16 +2,14 @@
 // the leaves whose bound is at most a distance, and an answer compared with these.
 #![tactic(auto)]
 use crate::days::Days;
-use crate::reading::Reading;
 use geometry::MAX_FEATURES;
 
 pub mod batches;
 pub mod comparing;
 pub mod days;
-pub mod labels;
 pub mod leaves;
+pub mod marks;
 pub mod numbers;
-pub mod reading;
 pub mod scan;
 pub mod weights;
 
@@ -23,22 +21,21 @@ pub const HEIGHTS: usize = 1001;
 // The pairs of a pyramid and a height.
 pub const PAIRS: usize = 2 * MAX_FEATURES * HEIGHTS;
 
-// The points that a question is about: those of a set of stages and of some days, from where it reads on.
+// The points that a question is about: those of a set of stages and of some days.
 #[derive(Clone, Copy)]
 pub struct Wanted {
     pub stages: u8,
     pub days: Days,
-    pub reading: Reading,
 }
 
-// What a question asks for: the features, k, which points and whether it carries weights; the way in which it is asked, and the number of leaves.
+// What a question asks for: the features, k, which points and whether it carries weights; the number of live points among them, and of leaves.
 #[derive(Clone, Copy)]
 pub struct Asked {
     pub d: usize,
     pub k: usize,
     pub wanted: Wanted,
     pub weighted: bool,
-    pub way: u32,
+    pub candidates: usize,
     pub leaves: usize,
 }
 

@@ -1,14 +1,15 @@
 // A full scan of the points, written apart from the index and its search: every distance, and the nearest by repeated minimum; among equals the
-// newest goes first. `labels` has a label for each point; points that are not live, not wanted or already read are passed over. `weights` has a
-// weight for each coordinate of q.
+// newest goes first. `marks` has a mark for each point; points that are not live, or not wanted, are passed over. `weights` has a weight for each
+// coordinate of q.
 ghost use Rattle.std.specs.Prelude.{◌≡◌, ◌+◌, ◌*◌, ◌<◌, ◌≤◌, max, length};
 ghost use Rattle.test_model.specs.Comparing.{Weighs};
 
 use crate::Wanted;
-use crate::labels::{chosen, stamp_in};
+use crate::days::any_day;
+use crate::marks::{chosen, stamp_in};
 use crate::numbers::id_of;
-use crate::reading::was_read;
 use geometry::MAX_FEATURES;
+use test_parts::FULL_SET;
 
 // The distance of a point that is passed over, or was taken.
 pub const FAR: u64 = 18446744073709551615;
@@ -53,42 +54,36 @@ fn distance(places: &[u16], at: usize, q: &[u16], weights: &[u16]) -> u64
     sum
 }
 
-// The distance of point p, if it is wanted and not read yet.
-fn distance_if(
-    wanted: Wanted,
-    label: u64,
-    places: &[u16],
-    p: usize,
-    q: &[u16],
-    weights: &[u16],
-) -> u64
-    requires { Weighs weights.now q.now × (p * 16 + 16 ≤ length places.now) }
+fn distance_if(wanted: bool, places: &[u16], at: usize, q: &[u16], weights: &[u16]) -> u64
+    requires { Weighs weights.now q.now × (at + 16 ≤ length places.now) }
 {
-    if !chosen(label, wanted) {
-        return FAR;
+    if wanted {
+        return distance(places, at, q, weights);
     }
-    let far = distance(places, p * MAX_FEATURES, q, weights);
-    if was_read(wanted.reading, far, stamp_in(label), id_of(p)) {
-        return FAR;
-    }
-    far
+    FAR
 }
 
 // The distances of all points wanted from q.
 pub fn measure(
     distances: &mut [u64],
     places: &[u16],
-    labels: &[u64],
+    marks: &[u64],
     q: &[u16],
     weights: &[u16],
     wanted: Wanted,
 )
-    requires { Weighs weights.now q.now × (length places.now ≡ 16 * length labels.now) × (length distances.old ≡ length labels.now) }
+    requires { Weighs weights.now q.now × (length places.now ≡ 16 * length marks.now) × (length distances.old ≡ length marks.now) }
     ensures { length distances.new ≡ length distances.old }
 {
     let mut p = 0;
-    while p < labels.len() {
-        distances[p] = distance_if(wanted, labels[p], places, p, q, weights);
+    while p < marks.len() {
+        distances[p] = distance_if(
+            chosen(marks[p], wanted),
+            places,
+            p * MAX_FEATURES,
+            q,
+            weights,
+        );
         p += 1;
     }
 }
@@ -107,8 +102,8 @@ fn newer(s: u32, p: usize, t: u32, q: usize) -> usize
 }
 
 // The nearer of two points, the newer one at equal distances.
-fn nearer(distances: &[u64], labels: &[u64], p: usize, q: usize) -> usize
-    requires { (p < length distances.now) × (q < length distances.now) × (length labels.now ≡ length distances.now) }
+fn nearer(distances: &[u64], marks: &[u64], p: usize, q: usize) -> usize
+    requires { (p < length distances.now) × (q < length distances.now) × (length marks.now ≡ length distances.now) }
     ensures { result ≤ max p q }
 {
     if distances[p] < distances[q] {
@@ -117,18 +112,18 @@ fn nearer(distances: &[u64], labels: &[u64], p: usize, q: usize) -> usize
     if distances[q] < distances[p] {
         return q;
     }
-    newer(stamp_in(labels[p]), p, stamp_in(labels[q]), q)
+    newer(stamp_in(marks[p]), p, stamp_in(marks[q]), q)
 }
 
 // The point of the least distance, of these one of the latest stamp, and of these that of the lowest identifier.
-fn least(distances: &[u64], labels: &[u64]) -> usize
-    requires { (0 < length distances.now) × (length labels.now ≡ length distances.now) }
+fn least(distances: &[u64], marks: &[u64]) -> usize
+    requires { (0 < length distances.now) × (length marks.now ≡ length distances.now) }
     ensures { result < length distances.now }
 {
     let mut best = 0;
     let mut p = 1;
     while p < distances.len() {
-        best = nearer(distances, labels, p, best);
+        best = nearer(distances, marks, p, best);
         p += 1;
     }
     best
@@ -139,30 +134,32 @@ fn least(distances: &[u64], labels: &[u64]) -> usize
 pub struct Near {
     pub distance: u64,
     pub id: u32,
-    pub label: u64,
+    pub mark: u64,
 }
 
 // Takes the nearest point that is left.
-pub fn take(distances: &mut [u64], labels: &[u64]) -> Near
-    requires { (0 < length distances.old) × (length labels.now ≡ length distances.old) }
+pub fn take(distances: &mut [u64], marks: &[u64]) -> Near
+    requires { (0 < length distances.old) × (length marks.now ≡ length distances.old) }
     ensures { length distances.new ≡ length distances.old }
 {
-    let p = least(distances, labels);
+    let p = least(distances, marks);
     let d = distances[p];
     distances[p] = FAR;
     Near {
         distance: d,
         id: id_of(p),
-        label: labels[p],
+        mark: marks[p],
     }
 }
 
-// How many of the numbers are others than `none`: by their labels the live points, by their distances those that are left.
-fn others(numbers: &[u64], none: u64) -> usize {
+// How many live points are wanted.
+pub fn candidate_count(marks: &[u64], wanted: Wanted) -> usize
+    ensures { result ≤ length marks.now }
+{
     let mut n = 0;
     let mut p = 0;
-    while p < numbers.len() {
-        if numbers[p] != none {
+    while p < marks.len() {
+        if chosen(marks[p], wanted) {
             n += 1;
         }
         p += 1;
@@ -170,10 +167,11 @@ fn others(numbers: &[u64], none: u64) -> usize {
     n
 }
 
-pub fn live_count(labels: &[u64]) -> usize {
-    others(labels, 0)
-}
-
-pub fn left_count(distances: &[u64]) -> usize {
-    others(distances, FAR)
+pub fn live_count(marks: &[u64]) -> usize {
+    let days = any_day();
+    let all = Wanted {
+        stages: FULL_SET,
+        days: days,
+    };
+    candidate_count(marks, all)
 }

@@ -1,7 +1,7 @@
 // The weights of questions, by patterns.
 ghost use Rattle.std.specs.Prelude.{◌≡◌, ◌≤◌, length};
 
-use crate::batches::{PLAIN, READ_ON, WEIGHTED};
+use crate::batches::{DATED, PLAIN};
 use crate::numbers::next;
 use geometry::MAX_WEIGHT;
 
@@ -36,24 +36,18 @@ fn carried_pattern(i: u64) -> u32 {
     if turn < ONES { DRAWN } else { turn }
 }
 
-// Where a question stands in the turns of the patterns: question i at turn i, but of those that are read on, which are few, any.
-fn turn_of(way: u32, i: u64, seed: u64) -> u64 {
-    if way == READ_ON { seed / 128 % 16 } else { i }
-}
-
 // The pattern of question i.
-pub fn asked_pattern(way: u32, i: u64, seed: u64) -> u32 {
+pub fn asked_pattern(way: u32, i: u64) -> u32 {
     if way == PLAIN {
         return NONE;
     }
-    if way == WEIGHTED {
-        return carried_pattern(i);
+    if way == DATED {
+        if i % 2 == 0 {
+            return NONE;
+        }
+        return carried_pattern(i / 2);
     }
-    let turn = turn_of(way, i, seed);
-    if turn % 2 == 0 {
-        return NONE;
-    }
-    carried_pattern(turn / 2)
+    carried_pattern(i)
 }
 
 // The weight that all coordinates have.

@@ -52,11 +52,6 @@ pub fn dated(what: &[u8], came: u64, said: u64) {
     compared(what, b"Q-4", came, said);
 }
 
-// Beside what the change request on reading on says.
-pub fn marked(what: &[u8], came: u64, said: u64) {
-    compared(what, b"Q-6", came, said);
-}
-
 // Beside what the change request on the order of rows says.
 pub fn ordered(what: &[u8], came: u64, said: u64) {
     compared(what, b"Q-9", came, said);

@@ -8,11 +8,11 @@ use crate::ones::ones_and_none;
 use geometry::MAX_FEATURES;
 use pagestore::PAGE_SIZE;
 use test_model::batches::{
-    DATED, MARKED, PLAIN, READ_ON, WEIGHTED, asked_k, asked_kind, asked_points, asked_times,
-    batch_seed, both, report, report_way, report_weighted,
+    DATED, PLAIN, WEIGHTED, asked_k, asked_kind, asked_points, batch_seed, both, report,
+    report_dated, report_weighted,
 };
 use test_model::numbers::{CLUSTERED, TIED, WIDE, draw, leap};
-use test_model::scan::live_count;
+use test_model::scan::{candidate_count, live_count};
 use test_model::weights::{NONE, asked_pattern, draw_weights};
 use test_model::{Asked, Batch, PAIRS, POINTS, Seen};
 use test_parts::listing::{MAX_LEAVES, list_leaves};
@@ -29,16 +29,16 @@ fn weights_by(pattern: u32, d: usize, seed: u64) -> [u16; MAX_FEATURES]
 }
 
 // What a question asks for.
-fn asked_of(b: Batch, leaves: usize, way: u32, weighted: bool, seed: u64) -> Asked
+fn asked_of(marks: &[u64], b: Batch, leaves: usize, way: u32, weighted: bool, seed: u64) -> Asked
     ensures { (result.d ≡ b.d) × (result.leaves ≡ leaves) }
 {
     let wanted = asked_points(way, seed);
     Asked {
         d: b.d,
-        k: asked_k(way, seed),
+        k: asked_k(seed),
         wanted: wanted,
         weighted: weighted,
-        way: way,
+        candidates: candidate_count(marks, wanted),
         leaves: leaves,
     }
 }
@@ -47,14 +47,14 @@ fn asked_of(b: Batch, leaves: usize, way: u32, weighted: bool, seed: u64) -> Ask
 fn ask_drawn(
     index: &[u8],
     places: &[u16],
-    labels: &[u64],
+    marks: &[u64],
     pages: &[u32],
     asked: Asked,
     kind: u32,
     pattern: u32,
     seed: u64,
 ) -> Seen
-    requires { Counts asked pages.now × Arrays places.now labels.now }
+    requires { Counts asked pages.now × Arrays places.now marks.now }
 {
     let mut q = [0u16; MAX_FEATURES];
     let mut distances = [0u64; POINTS];
@@ -64,22 +64,21 @@ fn ask_drawn(
     ask_from(
         index,
         places,
-        labels,
+        marks,
         pages,
         &mut distances,
         &mut table,
         &q,
         &weights,
         asked,
-        seed,
     )
 }
 
-// Asks question i of a batch in one of the ways.
+// Asks question i of a batch in one of three ways.
 fn ask_one(
     index: &[u8],
     places: &[u16],
-    labels: &[u64],
+    marks: &[u64],
     pages: &[u32],
     b: Batch,
     leaves: usize,
@@ -87,28 +86,28 @@ fn ask_one(
     i: u64,
     seed: u64,
 ) -> Seen
-    requires { Fits b × (leaves ≤ length pages.now) × Arrays places.now labels.now }
+    requires { Fits b × (leaves ≤ length pages.now) × Arrays places.now marks.now }
 {
     let kind = asked_kind(b.kind, seed);
-    let pattern = asked_pattern(way, i, seed);
-    let asked = asked_of(b, leaves, way, pattern != NONE, seed);
-    ask_drawn(index, places, labels, pages, asked, kind, pattern, seed)
+    let pattern = asked_pattern(way, i);
+    let asked = asked_of(marks, b, leaves, way, pattern != NONE, seed);
+    ask_drawn(index, places, marks, pages, asked, kind, pattern, seed)
 }
 
 // Asks the questions of a batch in one way.
 fn ask_all(
     index: &[u8],
     places: &[u16],
-    labels: &[u64],
+    marks: &[u64],
     pages: &[u32],
     b: Batch,
     leaves: usize,
     way: u32,
     seed: u64,
 ) -> Seen
-    requires { Fits b × (leaves ≤ length pages.now) × Arrays places.now labels.now }
+    requires { Fits b × (leaves ≤ length pages.now) × Arrays places.now marks.now }
 {
-    let n = asked_times(way, b) as u64;
+    let n = b.questions as u64;
     let mut s = batch_seed(b, seed);
     let mut seen = Seen {
         rows: 0,
@@ -120,7 +119,7 @@ fn ask_all(
         s = leap(s);
         seen = both(
             seen,
-            ask_one(index, places, labels, pages, b, leaves, way, i, s),
+            ask_one(index, places, marks, pages, b, leaves, way, i, s),
         );
         i += 1;
     }
@@ -130,100 +129,81 @@ fn ask_all(
 fn ask_weighted(
     index: &[u8],
     places: &[u16],
-    labels: &[u64],
+    marks: &[u64],
     pages: &[u32],
     b: Batch,
     leaves: usize,
     seed: u64,
 )
-    requires { Fits b × (leaves ≤ length pages.now) × Arrays places.now labels.now }
+    requires { Fits b × (leaves ≤ length pages.now) × Arrays places.now marks.now }
 {
-    let seen = ask_all(index, places, labels, pages, b, leaves, WEIGHTED, seed);
+    let seen = ask_all(index, places, marks, pages, b, leaves, WEIGHTED, seed);
     let n = b.questions / 4;
     report_weighted(b, seen, n, ones_and_none(index, b, n, seed));
 }
 
-// The questions in a way of those that have a line of their own.
-fn ask_way(
+fn ask_dated(
     index: &[u8],
     places: &[u16],
-    labels: &[u64],
-    pages: &[u32],
-    b: Batch,
-    leaves: usize,
-    way: u32,
-    seed: u64,
-)
-    requires { Fits b × (leaves ≤ length pages.now) × Arrays places.now labels.now }
-{
-    let seen = ask_all(index, places, labels, pages, b, leaves, way, seed);
-    report_way(b, way, seen);
-}
-
-// The questions in all ways but the first.
-fn ask_otherwise(
-    index: &[u8],
-    places: &[u16],
-    labels: &[u64],
+    marks: &[u64],
     pages: &[u32],
     b: Batch,
     leaves: usize,
     seed: u64,
 )
-    requires { Fits b × (leaves ≤ length pages.now) × Arrays places.now labels.now }
+    requires { Fits b × (leaves ≤ length pages.now) × Arrays places.now marks.now }
 {
-    ask_weighted(index, places, labels, pages, b, leaves, seed);
-    ask_way(index, places, labels, pages, b, leaves, DATED, seed);
-    ask_way(index, places, labels, pages, b, leaves, MARKED, seed);
-    ask_way(index, places, labels, pages, b, leaves, READ_ON, seed);
+    let seen = ask_all(index, places, marks, pages, b, leaves, DATED, seed);
+    report_dated(b, seen);
 }
 
 // Questions on an index as it is, after acts of which some were refused.
-fn round(index: &[u8], places: &[u16], labels: &[u64], b: Batch, refused: u64, seed: u64)
-    requires { Fits b × Arrays places.now labels.now }
+fn round(index: &[u8], places: &[u16], marks: &[u64], b: Batch, refused: u64, seed: u64)
+    requires { Fits b × Arrays places.now marks.now }
 {
     let mut pages = [0u32; MAX_LEAVES];
     let leaves = list_leaves(index, &mut pages);
-    let seen = ask_all(index, places, labels, &pages, b, leaves, PLAIN, seed);
-    report(b, live_count(labels), refused, seen);
-    ask_otherwise(index, places, labels, &pages, b, leaves, seed);
+    let seen = ask_all(index, places, marks, &pages, b, leaves, PLAIN, seed);
+    report(b, live_count(marks), refused, seen);
+    ask_weighted(index, places, marks, &pages, b, leaves, seed);
+    ask_dated(index, places, marks, &pages, b, leaves, seed);
 }
 
 // All points are inserted.
-fn fill(index: &mut [u8], places: &mut [u16], labels: &mut [u64], b: Batch, seed: u64)
-    requires { Fits b × Arrays places.old labels.old }
-    ensures { Arrays places.new labels.new }
+fn fill(index: &mut [u8], places: &mut [u16], marks: &mut [u64], b: Batch, seed: u64)
+    requires { Fits b × Arrays places.old marks.old }
+    ensures { Arrays places.new marks.new }
 {
     index::make(index, b.d as u8);
     draw(places, b.kind, 0, seed);
-    let refused = insert_points(index, places, labels, b.points, b.d, seed);
-    round(index, places, labels, b, refused, seed);
+    let refused = insert_points(index, places, marks, b.points, b.d, seed);
+    round(index, places, marks, b, refused, seed);
 }
 
 // Every third point is deleted.
-fn thin_out(index: &mut [u8], places: &[u16], labels: &mut [u64], b: Batch, first: usize, seed: u64)
-    requires { Fits b × (first ≤ 3) × Arrays places.now labels.old }
-    ensures { length labels.new ≡ 1024 }
+fn thin_out(index: &mut [u8], places: &[u16], marks: &mut [u64], b: Batch, first: usize, seed: u64)
+    requires { Fits b × (first ≤ 3) × Arrays places.now marks.old }
+    ensures { length marks.new ≡ 1024 }
 {
-    let refused = delete_points(index, labels, first);
-    round(index, places, labels, b, refused, seed);
+    let refused = delete_points(index, marks, first);
+    round(index, places, marks, b, refused, seed);
 }
 
 // Those deleted are inserted again.
-fn refill(index: &mut [u8], places: &[u16], labels: &mut [u64], b: Batch, seed: u64)
-    requires { Fits b × Arrays places.now labels.old }
+fn refill(index: &mut [u8], places: &[u16], marks: &mut [u64], b: Batch, seed: u64)
+    requires { Fits b × Arrays places.now marks.old }
 {
-    let refused = insert_points(index, places, labels, b.points, b.d, seed);
-    round(index, places, labels, b, refused, seed);
+    let refused = insert_points(index, places, marks, b.points, b.d, seed);
+    round(index, places, marks, b, refused, seed);
 }
 
-fn run_on(index: &mut [u8], places: &mut [u16], labels: &mut [u64], b: Batch)
-    requires { Fits b × Arrays places.old labels.old }
+fn run_on(index: &mut [u8], places: &mut [u16], marks: &mut [u64], b: Batch)
+    requires { Fits b × Arrays places.old marks.old }
 {
-    fill(index, places, labels, b, 12345);
-    thin_out(index, places, labels, b, 1, 777);
-    thin_out(index, places, labels, b, 0, 4242);
-    refill(index, places, labels, b, 99);
+    fill(index, places, marks, b, 12345);
+    thin_out(index, places, marks, b, 1, 777);
+    thin_out(index, places, marks, b, 0, 4242);
+    refill(index, places, marks, b, 99);
 }
 
 // A batch in an index of 256 pages.
@@ -232,8 +212,8 @@ fn run_batch(b: Batch)
 {
     let mut index = [0u8; 256 * PAGE_SIZE];
     let mut places = [0u16; MAX_FEATURES * POINTS];
-    let mut labels = [0u64; POINTS];
-    run_on(&mut index, &mut places, &mut labels, b);
+    let mut marks = [0u64; POINTS];
+    run_on(&mut index, &mut places, &mut marks, b);
 }
 
 // Batches of d features, for each way in which points lie.

@@ -1,5 +1,5 @@
-// Many questions, without weights and with, with dates, with marks and read on to the end, compared with a full scan. A line gives what was
-// compared; the file `stdout` has the lines as they should be.
+// Many questions, without weights and with, and with dates, compared with a full scan. A line gives what was compared; the file `stdout` has the
+// lines as they should be.
 #![tactic(auto)]
 mod asking;
 mod batches;

@@ -8,7 +8,7 @@ use index_answer::Answer;
 use index_query::{Criteria, nearest_of};
 use search_rows::MAX_ROWS;
 use test_model::Batch;
-use test_model::batches::{PLAIN, asked_k, asked_kind, asked_stages, batch_seed};
+use test_model::batches::{asked_k, asked_kind, asked_stages, batch_seed};
 use test_model::numbers::{draw, leap};
 
 fn differ(a: u64, b: u64) -> u64
@@ -95,7 +95,7 @@ fn ask_one(index: &[u8], b: Batch, seed: u64) -> u64
 {
     let mut q = [0u16; MAX_FEATURES];
     draw(&mut q, asked_kind(b.kind, seed), (seed % 5) as usize, seed);
-    let asked = nearest_of(asked_k(PLAIN, seed), asked_stages(seed));
+    let asked = nearest_of(asked_k(seed), asked_stages(seed));
     ask_both(index, &q, b.d, asked)
 }
 

@@ -31,7 +31,7 @@ pub fn lent_rows() -> [Row; ROWS] {
 /// What comes of a question: its answer, and the rows and the tally that it leaves.
 pub type Outcome = (Answer, [Row; ROWS], Tally);
 
-/// With the check and without, refused or not, with these weights, dates and mark handed over.
+/// With the check and without, refused or not, with these weights and dates handed over.
 pub fn outcomes(lib: &[u8], asked: &Asked, handed: Handed, lent: usize) -> [Outcome; 2] {
     [false, true].map(|trusted| {
         let (mut rows, mut tally) = (lent_rows(), Tally { questions: 3, leaves: 4 });

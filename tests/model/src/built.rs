@@ -208,8 +208,7 @@ fn acted(run: &mut Run, rng: &mut Rng, plan: Plan, steps: usize) {
     let mut s = Series::over(bytes, plan.kind, Ids::Any, rng.next());
     s.act(run, &Act::Check);
     for _ in 0..6 {
-        let x = s.point();
-        let asked = s.asked(&x, 1 + rng.below(64));
+        let asked = Asked { x: s.point(), weights: s.weights(), k: 1 + rng.below(64), stages: s.set(), dates: s.dates() };
         let found = s.model.search(&asked);
         run.search_gives("built", &s.lib, &asked, &found.rows, found.leaves);
         s.act(run, &Act::Question(asked, ROWS, Tally::default()));

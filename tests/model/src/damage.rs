@@ -7,7 +7,7 @@ use crate::data::{Kind, Rng};
 use crate::ffi;
 use crate::layout::*;
 use crate::lent::Lent;
-use crate::model::{Asked, Mark, Model, Tally};
+use crate::model::{Asked, Model, Tally};
 use crate::run::Run;
 use crate::series::{Ids, Series};
 use crate::shapes::{grown, shrunk};
@@ -19,8 +19,7 @@ struct Given {
     new: Tag,
     old: Tag,
     x: Vec<i16>,
-    /// With weights, dates and a mark.
-    narrow: Asked,
+    weights: Vec<u16>,
 }
 
 /// Some of the stages.
@@ -35,18 +34,16 @@ fn given(s: &mut Series) -> Given {
     let new = (1..).find(|id| !s.live.contains(id)).map(Tag::of).unwrap();
     let tally = Tally { questions: 3, leaves: u32::MAX - 1 };
     let weights: Vec<u16> = (0..x.len()).map(|m| [1000, 0, 999, 1, 37][m % 5]).collect();
-    let narrow = Asked::new(&x, 5, SOME).by(&weights).within(DAYS);
-    let narrow = narrow.past(s.listed(&narrow).unwrap_or(Mark { distance: 99, stamp: 1 << 31, id: 7 }));
     let acts = vec![
         Act::Check,
         Act::Insert(new, x.clone()),
         Act::Delete(old),
         Act::Question(Asked::new(&x, 5, ALL_STAGES), 7, tally),
-        Act::Question(narrow.clone(), 7, tally),
+        Act::Question(Asked::new(&x, 5, SOME).by(&weights).within(DAYS), 7, tally),
         Act::Insert(Tag { stage: 6, ..Tag::of(0) }, vec![]),
         Act::Question(Asked::new(&[], 0, 0).by(&[1001]).within(Dates { first: DAYS.last, last: DAYS.first }), 0, tally),
     ];
-    Given { acts, new, old: Tag::of(old), x, narrow }
+    Given { acts, new, old: Tag::of(old), x, weights }
 }
 
 /// Counts a damaged index; whether it is still sound, by the judge.
@@ -102,7 +99,7 @@ fn unchecked(run: &mut Run, lib: &mut Lent, bytes: &[u8], given: &Given) {
     let start = Instant::now();
     let high = bytes[LEVEL] > 4;
     run.counts.high += high as u64;
-    for asked in [Asked::new(&given.x, 1, ALL_STAGES), Asked { k: 64, ..given.narrow.clone() }] {
+    for asked in [Asked::new(&given.x, 1, ALL_STAGES), Asked::new(&given.x, 64, SOME).by(&given.weights).within(DAYS)] {
         let (mut rows, k) = (lent_rows(), asked.k);
         let got = ffi::search(lib, &asked, &mut rows, k);
         run.counts.searches += 1;

@@ -2,7 +2,6 @@
 
 use crate::calendar::{every, Date, Dates, WIDEST};
 use crate::layout::Tag;
-use crate::model::Mark;
 
 /// SplitMix64.
 #[derive(Clone)]
@@ -114,47 +113,6 @@ pub fn bad_dates(rng: &mut Rng) -> Dates {
         2 => Dates { first: last, last: other },
         _ => Dates { first: last, last: first },
     }
-}
-
-/// Distances of marks: the least, about the greatest that a row has, about 32 bits, 36 and 64.
-pub const DISTANCES: [u64; 13] = [
-    0,
-    1,
-    (1 << 32) - 1,
-    1 << 32,
-    63_999_999_999,
-    64_000_000_000,
-    64_000_000_001,
-    (1 << 36) - 1,
-    1 << 36,
-    (1 << 36) + 1,
-    1 << 63,
-    u64::MAX - 1,
-    u64::MAX,
-];
-
-/// A mark of any numbers, or of such as stand at an end.
-pub fn any_mark(rng: &mut Rng) -> Mark {
-    let distance = rng.next() >> rng.below(64);
-    let [stamp, id] = [0, 0].map(|_| rng.next() as u32);
-    Mark {
-        distance: if rng.one_in(3) { rng.pick(&DISTANCES) } else { distance },
-        stamp: if rng.one_in(2) { rng.pick(&STAMPS) } else { stamp },
-        id: if rng.one_in(2) { rng.pick(&[0, 1, u32::MAX - 1, u32::MAX]) } else { id },
-    }
-}
-
-/// The marks one off in a part, round the ends.
-pub fn one_off(mark: Mark) -> [Mark; 6] {
-    let Mark { distance, stamp, id } = mark;
-    [
-        Mark { distance: distance.wrapping_sub(1), ..mark },
-        Mark { distance: distance.wrapping_add(1), ..mark },
-        Mark { stamp: stamp.wrapping_sub(1), ..mark },
-        Mark { stamp: stamp.wrapping_add(1), ..mark },
-        Mark { id: id.wrapping_sub(1), ..mark },
-        Mark { id: id.wrapping_add(1), ..mark },
-    ]
 }
 
 /// A point in range.

@@ -2,17 +2,18 @@
 //! refusals 17 and 18 in their places. Questions are asked with the check and without.
 
 use crate::acts::{lent_rows, outcomes, Act, ROWS};
+use crate::built::{built, Plan, Shape};
 use crate::calendar::{every, Date, Dates, FIRST, LAST, WIDEST};
 use crate::data::{Kind, Rng, KINDS};
-use crate::faults::{refused, refused_itself, FAULTS, WEIGHED};
+use crate::faults::{refused, Fault, FAULTS};
 use crate::ffi::{self, Handed};
 use crate::geometry::distance;
 use crate::layout::*;
-use crate::model::{Asked, Model, Order, Row, Tally};
+use crate::lent::Lent;
+use crate::model::{Asked, Model, Row, Tally};
 use crate::platform;
 use crate::run::Run;
 use crate::series::{Ids, Series};
-use crate::shapes::some_index;
 use crate::unread::{asked_point, each_way};
 use std::cmp::Reverse;
 
@@ -273,7 +274,8 @@ fn tabled() -> Vec<(Dates, u32)> {
 
 /// 17 and then 18, after every other refusal.
 fn in_order(run: &mut Run, d: usize) {
-    let faults = [&FAULTS[..], &WEIGHED].concat();
+    let faults: [Fault; 2] = [(3, |asked, _| asked.x.push(0)), (14, |asked, _| asked.weights.as_mut().unwrap()[0] = 1001)];
+    let faults = [&FAULTS[..], &faults].concat();
     let mut s = some_index(d, Kind::Uniform, 20);
     for (dates, number) in tabled() {
         let good = Asked::new(&s.point(), 2, ALL_STAGES).by(&vec![1000; d]).within(dates);
@@ -292,9 +294,26 @@ fn in_order(run: &mut Run, d: usize) {
 /// An index that is refused itself: 1 and 2 come before the dates.
 fn refused_first(run: &mut Run) {
     let sound = some_index(3, Kind::Uniform, 20).model.b;
+    let mut damaged = sound.clone();
+    damaged[TOTAL] ^= 1;
     for (dates, _) in tabled() {
-        refused_itself(run, &sound, &Asked::new(&[1, 2, 3], 2, ALL_STAGES).within(dates));
+        let asked = Asked::new(&[1, 2, 3], 2, ALL_STAGES).within(dates);
+        for (bytes, want) in [(&damaged[..], 2), (&sound[..sound.len() - 1], 1), (&sound[..PAGE], 1), (&[], 1)] {
+            for trusted in [false, true] {
+                run.trusted = trusted;
+                let act = Act::Question(asked.clone(), ROWS, Tally::default());
+                let code = run.act(&mut Lent::new(bytes), &mut Model::over(bytes.to_vec()), &act, true);
+                run.expect(code == want, || format!("{dates:?} of {} bytes: {code}, not {want}", bytes.len()));
+            }
+        }
     }
+    run.trusted = false;
+}
+
+fn some_index(d: usize, kind: Kind, points: usize) -> Series {
+    let plan = Plan { pages: points / 7 + 4, d, kind, points, shape: Shape::Any, junk: false };
+    let seed = (points * 19 + d) as u64;
+    Series::over(built(&mut Rng(seed), plan), kind, Ids::Any, seed)
 }
 
 /// An index with stamps of some weeks from a day on, many of them at the ends of days; some lie in no day that can be asked for.
@@ -321,12 +340,11 @@ fn some_dates(rng: &mut Rng, start: i64) -> Dates {
 }
 
 /// A question's rows, but for their leaves, from the C library's calendar and a look at every record.
-fn scanned(records: &[Record], asked: &Asked) -> Vec<Order> {
+fn scanned(records: &[Record], asked: &Asked) -> Vec<(u64, Reverse<u32>, u32)> {
     let from: Vec<i64> = asked.x.iter().map(|&c| c.into()).collect();
     let sought = |r: &&Record| asked.stages >> r.tag.stage & 1 == 1 && asked.dates.is_none_or(|dates| lies_in(r.tag.stamp, dates));
     let far = |r: &Record| distance(asked.weights.as_deref(), &r.point(from.len()), &from);
     let mut rows: Vec<_> = records.iter().filter(sought).map(|r| (far(r), Reverse(r.tag.stamp), r.tag.id)).collect();
-    rows.retain(|row| asked.mark.is_none_or(|mark| mark.order() < *row));
     rows.sort();
     rows.truncate(asked.k);
     rows
@@ -340,8 +358,7 @@ fn together(run: &mut Run, d: usize, points: usize, start: i64) {
         for _ in 0..if run.long { 300 } else { 30 } {
             let k = 1 + if s.rng.one_in(3) { s.rng.below(64) } else { s.rng.below(6) };
             let (stages, dates) = (if s.rng.one_in(2) { ALL_STAGES } else { s.set() }, some_dates(&mut s.rng, start));
-            let asked = Asked { weights: s.weights(), ..Asked::new(&asked_point(&mut s), k, stages).within(dates) };
-            let asked = s.marked(asked);
+            let asked = Asked { x: asked_point(&mut s), weights: s.weights(), k, stages, dates: Some(dates) };
             let want = scanned(&records, &asked);
             for trusted in [false, true] {
                 let (rows, _) = run.answer(&s.lib, &asked, trusted);
@@ -358,7 +375,6 @@ fn joined(run: &mut Run, d: usize, points: usize, start: i64) {
     let mut s = some_weeks(d, Kind::Clustered, points, start);
     for _ in 0..if run.long { 60 } else { 6 } {
         let asked = Asked { weights: s.weights(), ..Asked::new(&s.point(), 1 + s.rng.below(64), s.set()) };
-        let asked = s.marked(asked);
         let days: Vec<Vec<Row>> = (start..start + 40).map(|n| run.answer(&s.lib, &asked.within(Dates::one(nth(n))), true).0).collect();
         for (first, last) in [(0, 39), (0, 0), (3, 4), (7, 30), (20, 39), (39, 39)] {
             let mut rows = days[first..=last].concat();
@@ -436,7 +452,6 @@ fn any(run: &mut Run, d: usize, points: usize) {
         for _ in 0..if run.long { 200 } else { 20 } {
             let [a, b] = [0, 0].map(|_| s.rng.below(DAYS as usize) as i64);
             let asked = Asked::new(&asked_point(&mut s), 1 + s.rng.below(64), s.set()).within(to(nth(a.min(b)), nth(a.max(b))));
-            let asked = s.marked(asked);
             let want = scanned(&records, &asked);
             let (rows, _) = run.answer(&s.lib, &asked, true);
             run.expect(rows.iter().map(Row::order).eq(want.iter().copied()), || format!("{asked:?}: {rows:?}, not {want:?}"));

@@ -1,10 +1,6 @@
 //! What can be wrong with a question, and the order in which it is refused.
 
-use crate::acts::{Act, ROWS};
-use crate::calendar::{Date, Dates, WIDEST};
-use crate::layout::*;
-use crate::lent::Lent;
-use crate::model::{Asked, Model, Tally};
+use crate::model::Asked;
 use crate::run::Run;
 use crate::series::Series;
 
@@ -23,15 +19,6 @@ pub const FAULTS: [Fault; 5] = [
     (16, |asked, _| asked.stages = 64),
 ];
 
-/// What is wrong with a question by weights: too few for its coordinates, one too heavy.
-pub const WEIGHED: [Fault; 2] = [(3, |asked, _| asked.x.push(0)), (14, |asked, _| asked.weights.as_mut().unwrap()[0] = 1001)];
-
-/// What is wrong with dates: the last before the first, one that does not exist.
-pub const DATED: [Fault; 2] = [
-    (18, |asked, _| asked.dates = Some(Dates { first: WIDEST.last, last: WIDEST.first })),
-    (17, |asked, _| asked.dates = Some(Dates::one(Date::new(2001, 2, 29)))),
-];
-
 /// A question of two rows that is refused with a number, or with none, 0: with any of these faults besides it is refused with the first.
 pub fn refused(run: &mut Run, s: &mut Series, good: &Asked, number: u32, faults: &[Fault]) {
     let place = |code: u32| ORDER.iter().position(|&c| c == code).unwrap_or(ORDER.len());
@@ -44,19 +31,4 @@ pub fn refused(run: &mut Run, s: &mut Series, good: &Asked, number: u32, faults:
         let got = s.ask(run, &asked, lent);
         run.expect(got == want, || format!("{asked:?}, lent {lent}: {got}, not {want}"));
     }
-}
-
-/// A question of an index that is refused itself: 1 and 2 come first.
-pub fn refused_itself(run: &mut Run, sound: &[u8], asked: &Asked) {
-    let mut damaged = sound.to_vec();
-    damaged[TOTAL] ^= 1;
-    for (bytes, want) in [(&damaged[..], 2), (&sound[..sound.len() - 1], 1), (&sound[..PAGE], 1), (&[], 1)] {
-        for trusted in [false, true] {
-            run.trusted = trusted;
-            let act = Act::Question(asked.clone(), ROWS, Tally::default());
-            let code = run.act(&mut Lent::new(bytes), &mut Model::over(bytes.to_vec()), &act, true);
-            run.expect(code == want, || format!("{asked:?} of {} bytes: {code}, not {want}", bytes.len()));
-        }
-    }
-    run.trusted = false;
 }

@@ -2,7 +2,7 @@
 
 use crate::calendar::{Date, Dates};
 use crate::layout::Tag;
-use crate::model::{Answer, Asked, Mark, Row, Tally};
+use crate::model::{Answer, Asked, Row, Tally};
 
 /// As the C interface has a row.
 #[repr(C)]
@@ -42,14 +42,6 @@ struct CDates {
     last: CDate,
 }
 
-#[repr(C)]
-#[derive(Clone, Copy)]
-struct CMark {
-    distance: u64,
-    stamp: u32,
-    id: u32,
-}
-
 /// Handed over by value.
 #[repr(C)]
 #[derive(Clone, Copy)]
@@ -58,9 +50,7 @@ struct CCriteria {
     stages: u8,
     weighted: bool,
     dated: bool,
-    marked: bool,
     dates: CDates,
-    mark: CMark,
 }
 
 type Insert = unsafe extern "C" fn(*mut u8, usize, u32, u8, u32, *const i16, usize) -> u32;
@@ -152,30 +142,21 @@ pub fn check(index: &[u8]) -> (u32, u32) {
     (code, page)
 }
 
-/// What a question hands over for weights, dates and a mark. Where it carries none, they are disregarded.
+/// What a question hands over for weights and dates. Where it carries none, they are disregarded.
 #[derive(Clone, Copy, PartialEq, Eq, Debug)]
 pub struct Handed<'a> {
     pub weights: &'a [u16],
     pub dates: Dates,
-    pub mark: Mark,
 }
 
 impl<'a> Handed<'a> {
-    /// In place of none: weights too heavy and too few or too many, dates that do not exist, the last before the first, and a mark behind
-    /// every row.
-    pub const IDLE: Handed<'static> = Handed {
-        weights: &[u16::MAX, 1001, 0],
-        dates: Dates { first: Date::new(2101, 13, 255), last: Date::new(1999, 2, 29) },
-        mark: Mark { distance: u64::MAX, stamp: 0, id: u32::MAX },
-    };
+    /// In place of none: weights too heavy and too few or too many, and dates that do not exist, the last before the first.
+    pub const IDLE: Handed<'static> =
+        Handed { weights: &[u16::MAX, 1001, 0], dates: Dates { first: Date::new(2101, 13, 255), last: Date::new(1999, 2, 29) } };
 
     pub fn of(asked: &'a Asked) -> Handed<'a> {
-        let Handed { weights, dates, mark } = Handed::IDLE;
-        Handed {
-            weights: asked.weights.as_deref().unwrap_or(weights),
-            dates: asked.dates.unwrap_or(dates),
-            mark: asked.mark.unwrap_or(mark),
-        }
+        let Handed { weights, dates } = Handed::IDLE;
+        Handed { weights: asked.weights.as_deref().unwrap_or(weights), dates: asked.dates.unwrap_or(dates) }
     }
 }
 
@@ -183,17 +164,9 @@ fn in_c(Date { year, month, day }: Date) -> CDate {
     CDate { year, month, day }
 }
 
-fn criteria(asked: &Asked, Handed { dates, mark, .. }: Handed) -> CCriteria {
-    let Mark { distance, stamp, id } = mark;
-    CCriteria {
-        k: asked.k,
-        stages: asked.stages,
-        weighted: asked.weights.is_some(),
-        dated: asked.dates.is_some(),
-        marked: asked.mark.is_some(),
-        dates: CDates { first: in_c(dates.first), last: in_c(dates.last) },
-        mark: CMark { distance, stamp, id },
-    }
+fn criteria(asked: &Asked, dates: Dates) -> CCriteria {
+    let dates = CDates { first: in_c(dates.first), last: in_c(dates.last) };
+    CCriteria { k: asked.k, stages: asked.stages, weighted: asked.weights.is_some(), dated: asked.dates.is_some(), dates }
 }
 
 /// A question, with the check or without. Rows that are not lent stand behind those that are, in one array.
@@ -201,7 +174,7 @@ pub fn question(index: &[u8], asked: &Asked, rows: &mut [Row], lent: usize, tall
     question_handed(index, asked, Handed::of(asked), rows, lent, tally, trusted)
 }
 
-/// The same with these weights, dates and mark handed over, which count where any are asked by.
+/// The same with these weights and dates handed over, which count where any are asked by.
 pub fn question_handed(
     index: &[u8],
     asked: &Asked,
@@ -224,7 +197,7 @@ pub fn question_handed(
             x.len(),
             weights.as_ptr(),
             weights.len(),
-            criteria(asked, handed),
+            criteria(asked, handed.dates),
             run.as_mut_ptr(),
             lent,
             &mut counts,

@@ -5,16 +5,13 @@ use crate::calendar::{Date, Dates, WIDEST};
 use crate::data::{Kind, Rng};
 use crate::ffi;
 use crate::layout::*;
-use crate::model::{Asked, Mark, Model, Tally};
+use crate::model::{Asked, Model, Tally};
 use crate::run::Run;
 use crate::series::{Ids, Series};
 use crate::unread;
 
 /// From the last day to the first.
 const REVERSED: Dates = Dates { first: WIDEST.last, last: WIDEST.first };
-
-/// Before all records that are not at the asked point.
-const NEAREST: Mark = Mark { distance: 0, stamp: 0, id: u32::MAX };
 
 fn lengths(run: &mut Run) {
     let mut bytes = Rng(3).bytes(16_778_240);
@@ -44,8 +41,6 @@ fn lengths(run: &mut Run) {
             Act::Question(Asked::new(&[-3], 1, ALL_STAGES).within(WIDEST), 1, Tally::default()),
             Act::Question(Asked::new(&[-3], 1, ALL_STAGES).within(REVERSED), 1, Tally::default()),
             Act::Question(Asked::new(&[-3], 1, 64).within(REVERSED), 1, Tally::default()),
-            Act::Question(Asked::new(&[-3], 1, ALL_STAGES).past(NEAREST), 1, Tally::default()),
-            Act::Question(Asked::new(&[-3], 1, 64).within(REVERSED).past(NEAREST), 1, Tally::default()),
             Act::Delete(9),
             Act::Check,
         ];
@@ -113,8 +108,6 @@ fn limit(run: &mut Run, s: &mut Series) {
     let tally = Tally { questions: 1, leaves: u32::MAX };
     let heavy: Vec<u16> = (0..x.len() as u16).map(|m| MOST_WEIGHT - 31 * m).collect();
     let sixth = |id| Tag { stage: 6, ..Tag::of(id) };
-    let some = Asked::new(&x, 64, 1 << 2).by(&heavy);
-    let listed = s.listed(&some).unwrap();
     let years = Dates { first: Date::new(2030, 1, 1), last: Date::new(2049, 12, 31) };
     let acts = [
         Act::Check,
@@ -127,10 +120,7 @@ fn limit(run: &mut Run, s: &mut Series) {
         Act::Question(Asked::new(&x, 64, 1 << 2), 64, tally),
         Act::Question(Asked::new(&x, 64, ALL_STAGES).by(&heavy), 64, tally),
         Act::Question(Asked::new(&x, 64, ALL_STAGES).by(&vec![0; x.len()]), 64, tally),
-        Act::Question(some.within(years), 64, tally),
-        Act::Question(some.past(listed), 64, tally),
-        Act::Question(some.within(years).past(listed), 64, tally),
-        Act::Question(Asked::new(&x, 64, ALL_STAGES).past(NEAREST), 64, tally),
+        Act::Question(Asked::new(&x, 64, 1 << 2).by(&heavy).within(years), 64, tally),
         Act::Question(Asked::new(&x, 64, ALL_STAGES).within(REVERSED), 64, tally),
         Act::Delete(again),
         Act::Delete(again),
@@ -138,7 +128,7 @@ fn limit(run: &mut Run, s: &mut Series) {
         Act::Insert(Tag::of(u32::MAX), x),
     ];
     let codes: Vec<u32> = acts.iter().map(|act| s.act(run, act)).collect();
-    run.expect(codes == [0, 8, 6, 15, 15, 5, 0, 0, 0, 0, 0, 0, 0, 0, 18, 0, 7, 0, 8], || format!("codes at the limit: {codes:?}"));
+    run.expect(codes == [0, 8, 6, 15, 15, 5, 0, 0, 0, 0, 0, 18, 0, 7, 0, 8], || format!("codes at the limit: {codes:?}"));
 }
 
 fn full(run: &mut Run, d: usize, kind: Kind, upward: bool, each: bool) {

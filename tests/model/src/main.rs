@@ -14,7 +14,6 @@ mod judge;
 mod large;
 mod layout;
 mod lent;
-mod marks;
 mod model;
 mod platform;
 mod rules;
@@ -41,7 +40,6 @@ fn main() {
     ties::all(&mut run);
     weights::all(&mut run);
     days::all(&mut run);
-    marks::all(&mut run);
     unread::all(&mut run);
     unused::all(&mut run);
     rules::all(&mut run);

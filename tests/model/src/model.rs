@@ -15,30 +15,9 @@ pub struct Row {
     pub stamp: u32,
 }
 
-/// Rows ascend by this: lower distance, later stamp, lower identifier.
-pub type Order = (u64, Reverse<u32>, u32);
-
 impl Row {
-    pub fn order(&self) -> Order {
-        (self.distance, Reverse(self.stamp), self.id)
-    }
-}
-
-/// A distance, a stamp and an identifier past which a list is read on. No record need have them.
-#[derive(Clone, Copy, PartialEq, Eq, Debug)]
-pub struct Mark {
-    pub distance: u64,
-    pub stamp: u32,
-    pub id: u32,
-}
-
-impl Mark {
-    pub fn of(&Row { distance, stamp, id, .. }: &Row) -> Mark {
-        Mark { distance, stamp, id }
-    }
-
-    /// Rows that come after it have a greater one.
-    pub fn order(&self) -> Order {
+    /// Rows ascend by this: lower distance, later stamp, lower identifier.
+    pub fn order(&self) -> (u64, Reverse<u32>, u32) {
         (self.distance, Reverse(self.stamp), self.id)
     }
 }
@@ -49,8 +28,8 @@ pub struct Tally {
     pub leaves: u32,
 }
 
-/// What is asked: a point, the weights of its coordinates, if any are carried, how many rows, the stages looked among, bit s for stage s, the
-/// recording days looked among, if any are named, and the mark that rows come after, if there is one.
+/// What is asked: a point, the weights of its coordinates, if any are carried, how many rows, the stages looked among, bit s for stage s, and
+/// the recording days looked among, if any are named.
 #[derive(Clone, PartialEq, Eq, Debug)]
 pub struct Asked {
     pub x: Vec<i16>,
@@ -58,13 +37,12 @@ pub struct Asked {
     pub k: usize,
     pub stages: u8,
     pub dates: Option<Dates>,
-    pub mark: Option<Mark>,
 }
 
 impl Asked {
-    /// Without weights, dates and a mark.
+    /// Without weights and dates.
     pub fn new(x: &[i16], k: usize, stages: u8) -> Asked {
-        Asked { x: x.to_vec(), weights: None, k, stages, dates: None, mark: None }
+        Asked { x: x.to_vec(), weights: None, k, stages, dates: None }
     }
 
     /// The same by weights.
@@ -77,12 +55,7 @@ impl Asked {
         Asked { dates: Some(dates), ..self.clone() }
     }
 
-    /// The same past a mark.
-    pub fn past(&self, mark: Mark) -> Asked {
-        Asked { mark: Some(mark), ..self.clone() }
-    }
-
-    /// Whether a record is looked for, wherever its row stands.
+    /// Whether a record is looked for.
     pub fn seeks(&self, r: &Record) -> bool {
         let staged = (0..=MOST_STAGE).any(|stage| self.stages & (1 << stage) != 0 && r.tag.stage == stage);
         staged && self.dates.is_none_or(|dates| dates.hold(r.tag.stamp))
@@ -429,29 +402,27 @@ impl Model {
                 rows.push(Row { id: r.tag.id, distance, position: position as u64, stamp: r.tag.stamp });
             }
         }
-        rows.retain(|row| asked.mark.is_none_or(|mark| mark.order() < row.order()));
         rows.sort_by_key(Row::order);
         rows
     }
 
-    /// The pages of the leaves in key order, each with its bound; an empty root leaf has none.
-    pub fn bounds(&self, asked: &Asked) -> Vec<(u32, Option<u64>)> {
-        let slices = Slices::of(&wide(&asked.x), asked.weights.as_deref());
-        let bound = |p| {
-            let (first, last) = ends(&self.b, p, self.d());
-            slices.bound((first.pyramid, first.height), (last.pyramid, last.height))
-        };
-        self.leaves().into_iter().map(|p| (p, (count(&self.b, p) > 0).then(|| bound(p)))).collect()
-    }
-
     /// A full scan, and the exact set by every leaf's bound: all leaves that hold records where fewer than k candidates live.
     pub fn search(&self, asked: &Asked) -> Found {
+        let d = self.d();
         let mut rows = self.candidates(asked);
         let few = rows.len() < asked.k;
         rows.truncate(asked.k);
+        let leaves = self.leaves();
+        let slices = Slices::of(&wide(&asked.x), asked.weights.as_deref());
         let mut found = Found::default();
-        for (p, bound) in self.bounds(asked) {
-            if bound.is_some_and(|bound| few || bound <= rows.last().unwrap().distance) {
+        for &p in &leaves {
+            if count(&self.b, p) == 0 {
+                found.unread.push(p);
+                continue;
+            }
+            let (first, last) = ends(&self.b, p, d);
+            let bound = slices.bound((first.pyramid, first.height), (last.pyramid, last.height));
+            if few || bound <= rows.last().unwrap().distance {
                 found.leaves += 1;
             } else {
                 found.unread.push(p);

@@ -2,11 +2,10 @@
 
 use crate::acts::{Act, ROWS};
 use crate::calendar::Dates;
-use crate::data::{any_mark, bad_dates, dates, one_off, point, tag, weights, Kind, Rng, KINDS, MIXES};
-use crate::geometry::distance;
+use crate::data::{bad_dates, dates, point, tag, weights, Kind, Rng, KINDS, MIXES};
 use crate::layout::*;
 use crate::lent::Lent;
-use crate::model::{Asked, Mark, Model, Order, Row, Tally};
+use crate::model::{Asked, Model, Tally};
 use crate::run::Run;
 
 /// How new identifiers are chosen.
@@ -70,16 +69,6 @@ impl Series {
         });
         run.trusted = false;
         codes[0]
-    }
-
-    /// A question, with the check and without, gives these rows, but for the leaves that hold them, and reads so many leaves.
-    pub fn gives(&mut self, run: &mut Run, asked: &Asked, want: &[Order], leaves: Option<u32>) {
-        for trusted in [false, true] {
-            let (rows, read) = run.answer(&self.lib, asked, trusted);
-            run.expect(rows.iter().map(Row::order).eq(want.iter().copied()), || format!("{asked:?}: {rows:?}, not {want:?}"));
-            run.expect(leaves.is_none_or(|leaves| read == leaves), || format!("{asked:?}: {read} leaves, not {leaves:?}"));
-        }
-        self.ask(run, asked, ROWS);
     }
 
     pub fn new_id(&mut self) -> u32 {
@@ -166,54 +155,6 @@ impl Series {
         }
     }
 
-    /// A question from a point, by some stages; with weights, dates and a mark, or without.
-    pub fn asked(&mut self, x: &[i16], k: usize) -> Asked {
-        let (weights, stages, dates) = (self.weights(), self.set(), self.dates());
-        self.marked(Asked { weights, dates, ..Asked::new(x, k, stages) })
-    }
-
-    /// The same question past a mark, or without one.
-    pub fn marked(&mut self, asked: Asked) -> Asked {
-        let mark = self.rng.one_in(2).then(|| self.mark(&asked));
-        Asked { mark, ..asked }
-    }
-
-    /// A mark for a question that has none: of a row of its list, of any record, one off in a part, any.
-    pub fn mark(&mut self, asked: &Asked) -> Mark {
-        let way = self.rng.below(8);
-        let d = self.model.d();
-        let apt = asked.x.len() == d && asked.weights.as_ref().is_none_or(|weights| weights.len() == d);
-        let row = match way {
-            0..=3 if apt => self.listed(asked),
-            4 | 5 if apt => self.stored(asked),
-            _ => None,
-        };
-        match row {
-            Some(mark) if self.rng.one_in(2) => mark,
-            Some(mark) => self.rng.pick(&one_off(mark)),
-            None => any_mark(&mut self.rng),
-        }
-    }
-
-    /// The mark of some row of a question's list, if it has any.
-    pub fn listed(&mut self, asked: &Asked) -> Option<Mark> {
-        let mut rows = self.model.candidates(asked);
-        rows.truncate(asked.k);
-        (!rows.is_empty()).then(|| Mark::of(&self.rng.pick(&rows)))
-    }
-
-    /// The mark of some record, whether it is looked for or not, if there is any.
-    fn stored(&mut self, asked: &Asked) -> Option<Mark> {
-        let all = records(&self.model.b, self.rng.pick(&self.model.leaves()));
-        let from: Vec<i64> = asked.x.iter().map(|&c| c.into()).collect();
-        let mark = |r: Record| Mark {
-            distance: distance(asked.weights.as_deref(), &r.point(from.len()), &from),
-            stamp: r.tag.stamp,
-            id: r.tag.id,
-        };
-        (!all.is_empty()).then(|| mark(self.rng.pick(&all)))
-    }
-
     /// A point, sometimes one that is refused.
     fn some_point(&mut self) -> Vec<i16> {
         let mut x = self.point();
@@ -269,8 +210,8 @@ impl Series {
             let start = self.rng.pick(&[0, 5, u32::MAX - 1, u32::MAX]);
             let leaves = self.rng.pick(&[0, 77, u32::MAX - 2, u32::MAX]);
             let (weights, dates) = (self.some_weights(), self.some_dates());
-            let asked = Asked { weights, dates, ..Asked::new(&self.some_point(), k, self.some_set()) };
-            Act::Question(self.marked(asked), lent, Tally { questions: start, leaves })
+            let asked = Asked { x: self.some_point(), weights, k, stages: self.some_set(), dates };
+            Act::Question(asked, lent, Tally { questions: start, leaves })
         } else {
             Act::Check
         }
@@ -322,8 +263,7 @@ fn series(run: &mut Run, pages: usize, d: usize, kind: Kind, ids: Ids, steps: us
         s.act(run, &Act::Delete(id));
     }
     s.act(run, &Act::Delete(1));
-    let x = s.point();
-    let asked = s.asked(&x, 1);
+    let asked = Asked { x: s.point(), weights: s.weights(), k: 1, stages: s.set(), dates: s.dates() };
     s.act(run, &Act::Question(asked, 1, Tally::default()));
 }
 

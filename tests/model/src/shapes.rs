@@ -1,17 +1,9 @@
-//! Sound indexes of several shapes, made by the library and the model alike, or by plan.
+//! Sound indexes of several shapes, made by the library and the model alike.
 
 use crate::acts::Act;
-use crate::built::{built, Plan, Shape};
-use crate::data::{Kind, Rng};
+use crate::data::Kind;
 use crate::run::Run;
 use crate::series::{Ids, Series};
-
-/// An index of any shape, by plan.
-pub fn some_index(d: usize, kind: Kind, points: usize) -> Series {
-    let plan = Plan { pages: points / 7 + 4, d, kind, points, shape: Shape::Any, junk: false };
-    let seed = (points * 17 + d) as u64;
-    Series::over(built(&mut Rng(seed), plan), kind, Ids::Any, seed)
-}
 
 /// An index of `points` points, of which every `drop`-th is deleted again (0: none).
 pub fn grown(run: &mut Run, pages: usize, d: usize, kind: Kind, points: usize, drop: usize) -> Series {

@@ -8,7 +8,7 @@ use crate::geometry::squared;
 use crate::judge;
 use crate::layout::*;
 use crate::lent::Lent;
-use crate::model::{Asked, Model, Order, Row, Tally};
+use crate::model::{Asked, Model, Row, Tally};
 use crate::run::Run;
 use crate::series::{Ids, Series};
 use crate::shapes::grown;
@@ -50,8 +50,7 @@ fn stored_stamps(run: &mut Run, points: usize) {
         let code = run.act(&mut lib, &mut model, &Act::Check, true);
         run.expect(code == 0, || format!("stamps of {stamp:?}: check gives {code}"));
         for _ in 0..20 {
-            let x = s.point();
-            let asked = s.asked(&x, 1 + rng.below(20));
+            let asked = Asked { x: s.point(), weights: s.weights(), k: 1 + rng.below(20), stages: s.set(), dates: s.dates() };
             let found = model.search(&asked);
             run.search_gives("other stamps", &lib, &asked, &found.rows, found.leaves);
         }
@@ -74,10 +73,10 @@ fn each_set(run: &mut Run, s: &mut Series) {
 }
 
 /// The k nearest of all records, whatever their stages.
-fn of_all(model: &Model, x: &[i16], k: usize) -> Vec<Order> {
+fn of_all(model: &Model, x: &[i16], k: usize) -> Vec<(u64, Reverse<u32>, u32)> {
     let from: Vec<i64> = x.iter().map(|&c| c.into()).collect();
     let order = |r: &Record| (squared(&r.point(from.len()), &from), Reverse(r.tag.stamp), r.tag.id);
-    let mut all: Vec<Order> = model.records().iter().map(order).collect();
+    let mut all: Vec<(u64, Reverse<u32>, u32)> = model.records().iter().map(order).collect();
     all.sort();
     all.truncate(k);
     all
@@ -113,12 +112,12 @@ fn few(run: &mut Run, s: &mut Series, rare: usize) {
     let holding = leaves.iter().filter(|&&p| count(&bytes, p) > 0).count() as u32;
     let mut model = Model::over(bytes.clone());
     for stages in [1 << 4, 1 << 3 | 1 << 4, ALL_STAGES & !(1 << 2)] {
-        let asked = Asked { weights: s.weights(), ..Asked::new(&s.point(), rare + 1, stages) };
+        let asked = Asked { x: s.point(), weights: s.weights(), k: rare + 1, stages, dates: None };
         let (rows, read) = run.answer(&bytes, &asked, true);
         run.expect((rows.len(), read) == (rare, holding), || format!("{asked:?}: {} rows, {read} leaves of {holding}", rows.len()));
         run.act(&mut bytes, &mut model, &Act::Question(asked, ROWS, Tally::default()), true);
         if rare > 0 {
-            let asked = Asked { weights: s.weights(), ..Asked::new(&s.point(), rare, stages) };
+            let asked = Asked { x: s.point(), weights: s.weights(), k: rare, stages, dates: None };
             run.act(&mut bytes, &mut model, &Act::Question(asked, ROWS, Tally::default()), true);
         }
     }

@@ -6,7 +6,7 @@ use crate::built::{built, Plan, Shape};
 use crate::data::{Kind, Rng, KINDS};
 use crate::geometry::distance;
 use crate::layout::*;
-use crate::model::{Asked, Mark, Model, Row, Tally};
+use crate::model::{Asked, Model, Row, Tally};
 use crate::run::Run;
 use crate::series::{Ids, Series};
 use crate::shapes::grown;
@@ -36,15 +36,13 @@ fn lowest_first(a: &Near, b: &Near) -> Ordering {
     a.distance.cmp(&b.distance).then(a.id.cmp(&b.id))
 }
 
-/// The first k in some order of the records of the stages and days asked for that come after the mark.
+/// The first k in some order of the records of the stages and days asked for.
 fn nearest(records: &[Record], asked: &Asked, order: fn(&Near, &Near) -> Ordering) -> Vec<Near> {
     let from: Vec<i64> = asked.x.iter().map(|&c| c.into()).collect();
     let far = |r: &Record| distance(asked.weights.as_deref(), &r.point(from.len()), &from);
     let near = |r: &Record| Near { distance: far(r), stamp: r.tag.stamp, id: r.tag.id };
     let sought = |r: &Record| asked.stages >> r.tag.stage & 1 == 1 && asked.dates.is_none_or(|dates| dates.hold(r.tag.stamp));
-    let mark = asked.mark.map(|Mark { distance, stamp, id }| Near { distance, stamp, id });
-    let after = |near: &Near| mark.is_none_or(|mark| newest_first(&mark, near).is_lt());
-    let mut all: Vec<Near> = records.iter().filter(|r| sought(r)).map(near).filter(after).collect();
+    let mut all: Vec<Near> = records.iter().filter(|r| sought(r)).map(near).collect();
     all.sort_by(order);
     all.truncate(asked.k);
     all
@@ -159,8 +157,7 @@ fn stamped(run: &mut Run, model: &Model, kind: Kind, stamp: impl Fn(u32) -> u32,
     let mut s = Series::over(model.retagged(|tag| Tag { stamp: stamp(tag.id), ..tag }), kind, Ids::Any, 7);
     let records = s.model.records();
     for _ in 0..if run.long { 100 } else { 10 } {
-        let (x, k) = (s.point(), 1 + s.rng.below(64));
-        let asked = s.asked(&x, k);
+        let asked = Asked { x: s.point(), weights: s.weights(), k: 1 + s.rng.below(64), stages: s.set(), dates: s.dates() };
         let want = nearest(&records, &asked, order);
         gives(run, &mut s, asked, &want);
     }
@@ -243,7 +240,7 @@ fn each_set(run: &mut Run, d: usize, points: usize) {
 
 /// Other stamps in the same records: the same distances from the same leaves, of which the unread are then overwritten.
 fn same_leaves(run: &mut Run, s: &mut Series) {
-    let asked = Asked { weights: s.weights(), ..Asked::new(&asked_point(s), 1 + s.rng.below(12), s.set()) };
+    let asked = Asked { x: asked_point(s), weights: s.weights(), k: 1 + s.rng.below(12), stages: s.set(), dates: None };
     let found = s.model.search(&asked);
     let few = s.rng.one_in(2);
     let stamp = |rng: &mut Rng| if few { rng.below(3) as u32 } else { rng.next() as u32 };

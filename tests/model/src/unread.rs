@@ -58,11 +58,10 @@ pub fn asked_point(s: &mut Series) -> Vec<i16> {
     x
 }
 
-/// One question, with weights, dates and a mark or without.
+/// One question, with weights and dates or without.
 pub fn once(run: &mut Run, s: &mut Series) {
     let k = 1 + if s.rng.one_in(4) { s.rng.below(64) } else { s.rng.below(5) };
-    let x = asked_point(s);
-    let asked = s.asked(&x, k);
+    let asked = Asked { x: asked_point(s), weights: s.weights(), k, stages: s.set(), dates: s.dates() };
     each_way(run, s, asked);
 }
 

@@ -6,7 +6,7 @@ use crate::data::{Rng, KINDS};
 use crate::judge;
 use crate::layout::*;
 use crate::lent::Lent;
-use crate::model::{Model, Tally};
+use crate::model::{Asked, Model, Tally};
 use crate::run::Run;
 use crate::series::{Ids, Series};
 
@@ -50,8 +50,7 @@ fn filled(run: &mut Run, s: &mut Series, name: &str, part: Part) {
     let code = run.act(&mut lib, &mut model, &Act::Check, true);
     run.expect(code == 0, || format!("{name}: check gives {code}"));
     for k in [1, 1 + s.rng.below(64)] {
-        let x = s.point();
-        let asked = s.asked(&x, k);
+        let asked = Asked { x: s.point(), weights: s.weights(), k, stages: s.set(), dates: s.dates() };
         let found = s.model.search(&asked);
         run.search_gives(name, &lib, &asked, &found.rows, found.leaves);
         run.expect(model.search(&asked) == found, || format!("{name}: the model's answer to {asked:?} changes"));

@@ -2,23 +2,39 @@
 
 use crate::acts::{self, lent_rows, Act, Outcome, ROWS};
 use crate::built::{built, Plan, Shape};
+use crate::calendar::{Date, Dates, WIDEST};
 use crate::data::{weights, Kind, Rng, KINDS};
-use crate::faults::{self, DATED, FAULTS};
+use crate::faults::{self, Fault, FAULTS};
 use crate::ffi::Handed;
 use crate::geometry::Slices;
 use crate::layout::*;
 use crate::lent::Lent;
-use crate::model::{Asked, Mark, Model, Row, Tally};
+use crate::model::{Asked, Model, Row, Tally};
 use crate::run::Run;
 use crate::series::{Ids, Series};
-use crate::shapes::some_index;
 use crate::unread::{asked_point, each_way};
 use std::cmp::Reverse;
+
+fn some_index(d: usize, kind: Kind, points: usize) -> Series {
+    let plan = Plan { pages: points / 7 + 4, d, kind, points, shape: Shape::Any, junk: false };
+    let seed = (points * 17 + d) as u64;
+    Series::over(built(&mut Rng(seed), plan), kind, Ids::Any, seed)
+}
 
 /// A question by these weights from a point of the index's kind, for some rows of some stages, of any days.
 fn some_question(s: &mut Series, weights: &[u16]) -> Asked {
     let k = 1 + if s.rng.one_in(3) { s.rng.below(64) } else { s.rng.below(8) };
     Asked::new(&asked_point(s), k, s.set()).by(weights)
+}
+
+/// A question, with the check and without, gives these rows, but for the leaves that hold them, and reads so many leaves.
+fn gives(run: &mut Run, s: &mut Series, asked: &Asked, want: &[(u64, Reverse<u32>, u32)], leaves: Option<u32>) {
+    for trusted in [false, true] {
+        let (rows, read) = run.answer(&s.lib, asked, trusted);
+        run.expect(rows.iter().map(Row::order).eq(want.iter().copied()), || format!("{asked:?}: {rows:?}, not {want:?}"));
+        run.expect(leaves.is_none_or(|leaves| read == leaves), || format!("{asked:?}: {read} leaves, not {leaves:?}"));
+    }
+    s.ask(run, asked, ROWS);
 }
 
 /// What comes of a question with these weights handed over.
@@ -29,7 +45,11 @@ fn outcomes(lib: &[u8], asked: &Asked, weights: &[u16], lent: usize) -> [Outcome
 /// A question by these weights, of two rows, that is refused with a number, or with none: with any other fault besides.
 fn refused(run: &mut Run, s: &mut Series, weights: &[u16], number: u32) {
     let good = Asked::new(&s.point(), 2, ALL_STAGES).by(weights);
-    faults::refused(run, s, &good, number, &[&FAULTS[..], &DATED].concat());
+    let dates: [Fault; 2] = [
+        (18, |asked, _| asked.dates = Some(Dates { first: WIDEST.last, last: WIDEST.first })),
+        (17, |asked, _| asked.dates = Some(Dates::one(Date::new(2001, 2, 29)))),
+    ];
+    faults::refused(run, s, &good, number, &[&FAULTS[..], &dates].concat());
 }
 
 /// Bounds worked out on paper.
@@ -59,7 +79,7 @@ fn rows_by_hand(run: &mut Run) {
     ];
     for (weights, want) in rows {
         let want = want.map(|(id, distance)| (distance, Reverse(7), id));
-        s.gives(run, &Asked::new(&[0, 0, 0], 3, ALL_STAGES).by(&weights), &want, Some(1));
+        gives(run, &mut s, &Asked::new(&[0, 0, 0], 3, ALL_STAGES).by(&weights), &want, Some(1));
     }
 }
 
@@ -79,7 +99,7 @@ fn leaves_by_hand(run: &mut Run) {
     ] {
         let want: Vec<_> =
             ids.iter().map(|&id| (u64::from(weight) * (i64::from(x) - i64::from(id)).pow(2) as u64, Reverse(0), id)).collect();
-        s.gives(run, &Asked::new(&[x], k, ALL_STAGES).by(&[weight]), &want, Some(leaves));
+        gives(run, &mut s, &Asked::new(&[x], k, ALL_STAGES).by(&[weight]), &want, Some(leaves));
     }
 }
 
@@ -96,7 +116,6 @@ fn any(run: &mut Run, d: usize, points: usize) {
         for _ in 0..if run.long { 300 } else { 30 } {
             let weights = weights(&mut s.rng, d);
             let asked = Asked { dates: s.dates(), ..some_question(&mut s, &weights) };
-            let asked = s.marked(asked);
             s.ask(run, &asked, ROWS);
         }
     }
@@ -107,8 +126,7 @@ fn ones(run: &mut Run, d: usize) {
     for kind in KINDS {
         let mut s = some_index(d, kind, 200);
         for i in 0..if run.long { 200 } else { 20 } {
-            let asked = Asked { dates: s.dates(), ..some_question(&mut s, &vec![1; d]) };
-            let mut asked = s.marked(asked);
+            let mut asked = Asked { dates: s.dates(), ..some_question(&mut s, &vec![1; d]) };
             match i {
                 0 => asked.x.push(0),
                 1 => asked.x[d - 1] = 1001,
@@ -137,7 +155,7 @@ fn zeros(run: &mut Run, d: usize, points: usize) {
             let mut want: Vec<_> = sought.map(|r| (0, Reverse(r.tag.stamp), r.tag.id)).collect();
             want.sort();
             want.truncate(k);
-            s.gives(run, &asked, &want, Some(holding));
+            gives(run, &mut s, &asked, &want, Some(holding));
         }
     }
 }
@@ -175,7 +193,7 @@ fn alone(run: &mut Run, d: usize) {
             let mut want: Vec<_> = records.iter().map(order).collect();
             want.sort();
             want.truncate(asked.k);
-            s.gives(run, &asked, &want, None);
+            gives(run, &mut s, &asked, &want, None);
         }
     }
 }
@@ -193,12 +211,11 @@ fn turned(run: &mut Run, d: usize) {
         }
         for _ in 0..20 {
             let weights = weights(&mut s.rng, d);
-            let asked = some_question(&mut s, &weights);
-            let mut asked = s.marked(asked);
+            let mut asked = some_question(&mut s, &weights);
             let want: Vec<_> = run.answer(&s.lib, &asked, true).0.iter().map(Row::order).collect();
             asked.x.rotate_left(turn);
             asked.weights.as_mut().unwrap().rotate_left(turn);
-            other.gives(run, &asked, &want, None);
+            gives(run, &mut other, &asked, &want, None);
         }
     }
 }
@@ -240,7 +257,7 @@ fn corners(run: &mut Run, d: usize) {
         for (n, m) in (0..=d).flat_map(|n| [(n, 0), (n, d - n)]) {
             let mut weights = vec![0; d];
             weights[m..m + n].fill(1000);
-            s.gives(run, &all.by(&weights), &[(4_000_000_000 * n as u64, Reverse(6), 1)], Some(1));
+            gives(run, &mut s, &all.by(&weights), &[(4_000_000_000 * n as u64, Reverse(6), 1)], Some(1));
         }
     }
 }
@@ -369,7 +386,6 @@ fn unread(run: &mut Run, pages: usize, d: usize, points: usize) {
                 weights[0] = 1;
             }
             let asked = Asked { k: 1 + s.rng.below(6), dates: s.dates(), ..some_question(&mut s, &weights) };
-            let asked = s.marked(asked);
             each_way(run, &mut s, asked);
         }
     }
@@ -394,10 +410,9 @@ fn beyond(run: &mut Run, d: usize, points: usize) {
         // a root leaf is read in any case, several leaves where there are fewer records than rows asked for
         let k = if leaves.len() == 1 { 1 + s.rng.below(17) } else { points + 1 };
         for asked in [Asked::new(&x, k, ALL_STAGES).by(&weights), Asked::new(&x, k, ALL_STAGES)] {
-            let want = model.candidates(&asked);
-            let at = s.rng.below(points);
-            run.search_gives("beyond", &lib, &asked, &want[..k.min(points)], leaves.len() as u32);
-            run.search_gives("beyond", &lib, &asked.past(Mark::of(&want[at])), &want[at + 1..points.min(at + 1 + k)], leaves.len() as u32);
+            let mut want = model.candidates(&asked);
+            want.truncate(k);
+            run.search_gives("beyond", &lib, &asked, &want, leaves.len() as u32);
         }
     }
 }

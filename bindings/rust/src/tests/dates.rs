@@ -14,11 +14,11 @@ fn stamped(stamps: &[u32]) -> SoundIndex<Vec<u8>> {
 /// The identifiers within some dates, upward, the same with the check and without it, and in lent rows.
 fn within(sound: &SoundIndex<Vec<u8>>, dates: Option<Dates>) -> Result<Vec<u32>, Refusal> {
     let (checked, mut tally) = (Index::new(sound.as_bytes()), Tally::default());
-    let found = sound.question(&[0], None, MAX_K, StageSet::ALL, dates, None, &mut tally);
-    assert_eq!(checked.question(&[0], None, MAX_K, StageSet::ALL, dates, None, &mut tally), found);
+    let found = sound.question(&[0], None, MAX_K, StageSet::ALL, dates, &mut tally);
+    assert_eq!(checked.question(&[0], None, MAX_K, StageSet::ALL, dates, &mut tally), found);
     let mut rows = [Row::default(); MAX_K];
-    let counts = checked.question_into(&[0], None, MAX_K, StageSet::ALL, dates, None, &mut rows, &mut tally);
-    assert_eq!(sound.question_into(&[0], None, MAX_K, StageSet::ALL, dates, None, &mut rows, &mut tally), counts);
+    let counts = checked.question_into(&[0], None, MAX_K, StageSet::ALL, dates, &mut rows, &mut tally);
+    assert_eq!(sound.question_into(&[0], None, MAX_K, StageSet::ALL, dates, &mut rows, &mut tally), counts);
     assert_eq!(counts.map(|counts| Found { rows: rows[..counts.rows].to_vec(), leaves: counts.leaves }), found);
     let mut ids = ids(&found?);
     ids.sort_unstable();
@@ -38,7 +38,7 @@ fn dates_stand_in_their_order() {
 fn each_day_runs_from_noon_to_noon() {
     for (n, date) in (0..).zip(calendar()) {
         let sound = stamped(&[noon(n) - 1, noon(n), noon(n + 1) - 1, noon(n + 1)]);
-        let found = sound.question(&[0], None, 4, StageSet::ALL, Some(date.into()), None, &mut Tally::default()).unwrap();
+        let found = sound.question(&[0], None, 4, StageSet::ALL, Some(date.into()), &mut Tally::default()).unwrap();
         assert_eq!(ids(&found), [3, 2], "{date:?}");
     }
 }
@@ -131,14 +131,14 @@ fn dates_are_refused_in_their_order() {
         (1000, 1000, 2, StageSet::ALL, reversed, Refusal::DatesReversed),
     ];
     for (coordinate, weight, k, stages, dates, refusal) in cases {
-        assert_eq!(index.question_into(&[coordinate], Some(&[weight]), k, stages, Some(dates), None, &mut rows, &mut tally), Err(refusal));
-        assert_eq!(sound.question_into(&[coordinate], Some(&[weight]), k, stages, Some(dates), None, &mut rows, &mut tally), Err(refusal));
+        assert_eq!(index.question_into(&[coordinate], Some(&[weight]), k, stages, Some(dates), &mut rows, &mut tally), Err(refusal));
+        assert_eq!(sound.question_into(&[coordinate], Some(&[weight]), k, stages, Some(dates), &mut rows, &mut tally), Err(refusal));
     }
     assert_eq!((rows, tally), ([mark; 2], Tally { questions: 5, leaves: 6 }));
-    assert_eq!(sound.question(&[], None, 0, StageSet::EMPTY, Some(bad), None, &mut tally), Err(Refusal::BadFeatures));
+    assert_eq!(sound.question(&[], None, 0, StageSet::EMPTY, Some(bad), &mut tally), Err(Refusal::BadFeatures));
     let mut damaged = index.into_inner();
     damaged[super::IN_IDENTIFIER] ^= 0xff;
-    assert_eq!(Index::new(damaged).question(&[1], None, 1, StageSet::ALL, Some(bad), None, &mut tally), Err(Refusal::Unsound));
+    assert_eq!(Index::new(damaged).question(&[1], None, 1, StageSet::ALL, Some(bad), &mut tally), Err(Refusal::Unsound));
 }
 
 /// Identifiers 1 to 17 in two leaves, each with the noon of its own day: as a set of stages, the dates narrow what is looked for.
@@ -151,7 +151,7 @@ fn questions_look_among_their_days() {
     let (calendar, mut tally) = (calendar(), Tally::default());
     let dates = |first: usize, last: usize| Some(Dates { first: calendar[first], last: calendar[last] });
     let mut ask = |from, k, stages, dates| {
-        let found = index.question(&[from], None, k, stages, dates, None, &mut tally).unwrap();
+        let found = index.question(&[from], None, k, stages, dates, &mut tally).unwrap();
         (ids(&found), found.leaves)
     };
     assert_eq!(ask(9, 1, StageSet::ALL, None), (vec![9], 1));

@@ -5,29 +5,25 @@ use std::cmp::Reverse;
 use std::collections::BTreeMap;
 
 /// Distance, stamp and identifier: rows ascend by them.
-pub type Nearness = (u64, Reverse<u32>, u32);
-
-pub fn nearness(mark: Mark) -> Nearness {
-    (mark.distance, Reverse(mark.stamp), mark.id)
-}
+type Nearness = (u64, Reverse<u32>, u32);
 
 /// An index in two ways, the live epochs with their points, and a tally for each.
-pub struct Series {
-    pub checked: Index<Vec<u8>>,
-    pub sound: SoundIndex<Vec<u8>>,
-    pub points: BTreeMap<u32, (Epoch, Vec<i16>)>,
+struct Series {
+    checked: Index<Vec<u8>>,
+    sound: SoundIndex<Vec<u8>>,
+    points: BTreeMap<u32, (Epoch, Vec<i16>)>,
     tallies: [Tally; 2],
     calendar: Vec<Date>,
 }
 
 impl Series {
-    pub fn new(d: usize) -> Series {
+    fn new(d: usize) -> Series {
         let checked = Index::make(bytes(40), d as u8).unwrap();
         let sound = SoundIndex::open(checked.as_bytes().to_vec()).unwrap();
         Series { checked, sound, points: BTreeMap::new(), tallies: [Tally::default(); 2], calendar: calendar() }
     }
 
-    pub fn insert(&mut self, epoch: Epoch, point: Vec<i16>) {
+    fn insert(&mut self, epoch: Epoch, point: Vec<i16>) {
         let id = epoch.id;
         let done = self.checked.insert(epoch, &point);
         assert_eq!(self.sound.insert(epoch, &point), done);
@@ -42,19 +38,18 @@ impl Series {
         }
     }
 
-    pub fn delete(&mut self, id: u32) {
+    fn delete(&mut self, id: u32) {
         let done = self.checked.delete(id);
         assert_eq!(self.sound.delete(id), done);
         assert_eq!(done.is_ok(), self.points.remove(&id).is_some());
     }
 
-    pub fn question(&mut self, asked: Asked) -> Found {
-        let Asked { point, weights, k, stages, dates, mark } = asked;
-        let found = self.checked.question(point, weights, k, stages, dates, mark, &mut self.tallies[0]).unwrap();
-        let rows: Vec<Nearness> = found.rows.iter().map(|row| nearness(row.into())).collect();
-        assert_eq!(self.sound.question(point, weights, k, stages, dates, mark, &mut self.tallies[1]).as_ref(), Ok(&found));
-        assert_eq!(rows, self.full_scan(asked), "{asked:?}");
-        found
+    fn question(&mut self, asked: Asked) {
+        let Asked { point, weights, k, stages, dates } = asked;
+        let found = self.checked.question(point, weights, k, stages, dates, &mut self.tallies[0]).unwrap();
+        let rows: Vec<Nearness> = found.rows.iter().map(|row| (row.distance, Reverse(row.stamp), row.id)).collect();
+        assert_eq!(self.sound.question(point, weights, k, stages, dates, &mut self.tallies[1]), Ok(found));
+        assert_eq!(rows, self.full_scan(asked));
     }
 
     /// Whether a stamp lies in some days.
@@ -63,27 +58,17 @@ impl Series {
         day.is_some_and(|&day| dates.first <= day && day <= dates.last)
     }
 
-    /// The nearest of some stages and days, and past a mark, by a look at every point.
-    pub fn full_scan(&self, asked: Asked) -> Vec<Nearness> {
+    /// The nearest of some stages and days by a look at every point.
+    fn full_scan(&self, asked: Asked) -> Vec<Nearness> {
         let weight = |m| asked.weights.map_or(1, |weights| u64::from(weights[m]));
         let squared = |(m, (a, b)): (usize, (&i16, &i16))| weight(m) * (i64::from(*a) - i64::from(*b)).pow(2) as u64;
         let distance = |p: &[i16]| p.iter().zip(asked.point).enumerate().map(squared).sum();
         let sought = |epoch: &Epoch| asked.stages.contains(epoch.stage) && asked.dates.is_none_or(|dates| self.lies_in(epoch.stamp, dates));
         let candidates = self.points.values().filter(|(epoch, _)| sought(epoch));
         let mut rows: Vec<Nearness> = candidates.map(|(epoch, p)| (distance(p), Reverse(epoch.stamp), epoch.id)).collect();
-        rows.retain(|row| asked.mark.is_none_or(|mark| *row > nearness(mark)));
         rows.sort_unstable();
         rows.truncate(asked.k);
         rows
-    }
-
-    /// A mark near a row that is looked for, or none: some of its parts are one off.
-    fn mark(&self, asked: Asked, random: &mut Random) -> Option<Mark> {
-        let rows = self.full_scan(Asked { k: usize::MAX, ..asked });
-        let &(distance, Reverse(stamp), id) = rows.get(random.below(2 * rows.len() as u64 + 1) as usize)?;
-        let mut off = || random.below(3) as u32;
-        let (distance, stamp, id) = (distance + u64::from(off()), stamp.wrapping_add(off()), id.wrapping_add(off()));
-        Some(Mark { distance: distance.saturating_sub(1), stamp: stamp.wrapping_sub(1), id: id.wrapping_sub(1) })
     }
 }
 
@@ -99,9 +84,7 @@ fn series(d: usize, reach: u64, seed: u64) {
             _ => {
                 let (weights, k, stages) = (random.weights(d), 1 + random.below(MAX_K as u64) as usize, random.stages());
                 let dates = random.dates(&series.calendar);
-                let asked = Asked { point: &point, weights: weights.as_deref(), k, stages, dates, mark: None };
-                let mark = series.mark(asked, &mut random);
-                series.question(Asked { mark, ..asked });
+                series.question(Asked { point: &point, weights: weights.as_deref(), k, stages, dates });
             }
         }
         assert_eq!(series.sound.as_bytes(), series.checked.as_bytes());

@@ -1,5 +1,5 @@
 //! Acts in threads of the stack sizes that the headers state.
-use super::{bytes, epoch, upward, FIRST, WIDEST};
+use super::{bytes, epoch, upward, WIDEST};
 use crate::*;
 
 /// A damaged index that leads 255 levels down, each page with some entries for the next: every recursion goes as deep as it can.
@@ -40,22 +40,22 @@ fn acts_keep_to_their_stack() {
         assert_eq!(index.check().unwrap_err().refusal, Refusal::Unsound);
         assert_eq!(index.insert(epoch(2), &[2]), Err(Refusal::Unsound));
         assert_eq!(index.delete(1), Err(Refusal::Unsound));
-        assert_eq!(index.question(&[1], None, 64, StageSet::ALL, None, None, &mut Tally::default()), Err(Refusal::Unsound));
+        assert_eq!(index.question(&[1], None, 64, StageSet::ALL, None, &mut Tally::default()), Err(Refusal::Unsound));
         let mut sound = upward(4, 17);
         sound.insert(epoch(18), &[18]).unwrap();
         sound.delete(1).unwrap();
-        sound.question(&[1], None, 64, StageSet::ALL, None, None, &mut Tally::default()).unwrap();
+        sound.question(&[1], None, 64, StageSet::ALL, None, &mut Tally::default()).unwrap();
         let mut large = Index::new(crowded());
         large.insert(epoch(1), &[1]).unwrap();
         large.delete(1 << 16).unwrap();
         for weights in [None, Some(&[0][..]), Some(&[999][..])] {
-            large.question(&[1], weights, 64, StageSet::ALL, None, None, &mut Tally::default()).unwrap();
-            large.question(&[1], weights, 64, StageSet::ALL, Some(WIDEST), Some(FIRST), &mut Tally::default()).unwrap();
+            large.question(&[1], weights, 64, StageSet::ALL, None, &mut Tally::default()).unwrap();
+            large.question(&[1], weights, 64, StageSet::ALL, Some(WIDEST), &mut Tally::default()).unwrap();
         }
     });
     on_stack(512 * 1024, || {
         let mut bytes = deepest(1);
-        let asked = Asked { point: &[1], weights: Some(&[7]), k: 64, stages: StageSet::ALL, dates: Some(WIDEST), mark: Some(FIRST) };
+        let asked = Asked { point: &[1], weights: Some(&[7]), k: 64, stages: StageSet::ALL, dates: Some(WIDEST) };
         assert_eq!(acts::insert(sys::epoch_index_trusted_insert, &mut bytes, epoch(2), &[2]), Err(Refusal::Unsound));
         assert_eq!(acts::delete(sys::epoch_index_trusted_delete, &mut bytes, 2), Err(Refusal::Unsound));
         assert_eq!(found(sys::epoch_index_trusted_ask, &bytes, asked, &mut Tally::default()), Err(Refusal::Unsound));

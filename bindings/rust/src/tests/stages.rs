@@ -57,13 +57,13 @@ fn questions_look_among_their_stages() {
     let index = upward(4, 17);
     let mut tally = Tally::default();
     let wake = StageSet::from(Stage::Wake);
-    let nearest = index.question(&[9], None, 1, wake, None, None, &mut tally).unwrap();
+    let nearest = index.question(&[9], None, 1, wake, None, &mut tally).unwrap();
     assert_eq!((ids(&nearest), nearest.leaves), (vec![6], 2));
-    let near = index.question(&[1], None, 1, wake, None, None, &mut tally).unwrap();
+    let near = index.question(&[1], None, 1, wake, None, &mut tally).unwrap();
     assert_eq!((ids(&near), near.leaves), (vec![6], 1));
-    let few = index.question(&[1], None, 3, wake, None, None, &mut tally).unwrap();
+    let few = index.question(&[1], None, 3, wake, None, &mut tally).unwrap();
     assert_eq!((ids(&few), few.leaves), (vec![6, 12], 2));
-    let two = index.question(&[16], None, 3, StageSet::of(&[Stage::Wake, Stage::Rem]), None, None, &mut tally).unwrap();
+    let two = index.question(&[16], None, 3, StageSet::of(&[Stage::Wake, Stage::Rem]), None, &mut tally).unwrap();
     assert_eq!((ids(&two), two.leaves), (vec![16, 12, 10], 1));
     assert_eq!(tally, Tally { questions: 4, leaves: 6 });
 }
@@ -73,11 +73,11 @@ fn questions_look_among_their_stages() {
 fn a_stage_that_none_has() {
     let mut index = Index::make(bytes(4), 1).unwrap();
     let rem = StageSet::from(Stage::Rem);
-    assert_eq!(index.question(&[0], None, 1, rem, None, None, &mut Tally::default()), Ok(Found { rows: vec![], leaves: 0 }));
+    assert_eq!(index.question(&[0], None, 1, rem, None, &mut Tally::default()), Ok(Found { rows: vec![], leaves: 0 }));
     for id in 1..=17 {
         index.insert(Epoch { stage: Stage::N2, ..epoch(id) }, &[id as i16]).unwrap();
         let leaves = if id < 17 { 1 } else { 2 };
-        assert_eq!(index.question(&[0], None, 1, rem, None, None, &mut Tally::default()), Ok(Found { rows: vec![], leaves }));
+        assert_eq!(index.question(&[0], None, 1, rem, None, &mut Tally::default()), Ok(Found { rows: vec![], leaves }));
     }
 }
 

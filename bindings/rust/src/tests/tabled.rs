@@ -147,10 +147,10 @@ fn a_tabled_index_refuses_in_the_order_of_the_acts() {
     let other = Epoch { stage: Stage::Unscored, stamp: u32::MAX, ..epoch(16) };
     tabled.insert(other, &[-16]).unwrap();
     assert_eq!((tabled.epoch(16), tabled.point(16)), (Some(other), Some(&[-16][..])));
-    let found = tabled.sound().question(&[-17], None, 1, StageSet::ALL, None, None, &mut Tally::default()).unwrap();
+    let found = tabled.sound().question(&[-17], None, 1, StageSet::ALL, None, &mut Tally::default()).unwrap();
     let mut rows = [Row::default(); 1];
     assert_eq!(
-        tabled.sound().question_into(&[-17], None, 1, StageSet::ALL, None, None, &mut rows, &mut Tally::default()),
+        tabled.sound().question_into(&[-17], None, 1, StageSet::ALL, None, &mut rows, &mut Tally::default()),
         Ok(Counts { rows: 1, leaves: 1 })
     );
     assert_eq!((ids(&found), rows[0].distance), (vec![16], 1));

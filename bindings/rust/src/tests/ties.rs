@@ -13,9 +13,8 @@ fn tied(epochs: &[(u32, u32)]) -> Index<Vec<u8>> {
 
 /// Identifiers and stamps of the rows nearest to (0, 0), the same with the check and without it.
 fn nearest<B: StableBytes>(sound: &SoundIndex<B>, k: usize) -> Vec<(u32, u32)> {
-    let found = sound.question(&[0, 0], None, k, StageSet::ALL, None, None, &mut Tally::default()).unwrap();
-    let checked = Index::new(sound.as_bytes());
-    assert_eq!(checked.question(&[0, 0], None, k, StageSet::ALL, None, None, &mut Tally::default()).as_ref(), Ok(&found));
+    let found = sound.question(&[0, 0], None, k, StageSet::ALL, None, &mut Tally::default()).unwrap();
+    assert_eq!(Index::new(sound.as_bytes()).question(&[0, 0], None, k, StageSet::ALL, None, &mut Tally::default()).as_ref(), Ok(&found));
     found.rows.iter().map(|row| (row.id, row.stamp)).collect()
 }
 

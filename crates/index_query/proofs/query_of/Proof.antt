@@ -31,12 +31,9 @@ features-by-requires c κs = let S = c.before.before.before in let O = c.before 
 window-of-requires : tie.Need-window-of-requires
 window-of-requires c κs = search rules
 
-past_of-requires : tie.Need-past_of-requires
-past_of-requires c κs = search rules
-
 returns : tie.Need-returns
-returns c = let S = c.before.before.before.before.before.before in let O = c.before.before.before.before in
-    query_for S.args.point.now S.args.weights.now S.args.what O.slots-of.result _ O.slots-of.ensures S.requires _ (omega arith) _ c.before.window-of.ensures _ c.past_of.ensures c.before.before.features-by.ensures
+returns c = let S = c.before.before.before.before.before in let O = c.before.before.before in
+    query_for S.args.point.now S.args.weights.now S.args.what O.slots-of.result _ O.slots-of.ensures S.requires _ (omega arith) _ c.window-of.ensures c.before.features-by.ensures
 
 pub query-of-spec : {M : Type 1} → statement M
 query-of-spec =
@@ -47,5 +44,4 @@ query-of-spec =
     slice-aggregate-features-by
     features-by-requires
     window-of-requires
-    past_of-requires
     returns)

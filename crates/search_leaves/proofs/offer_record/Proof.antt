@@ -24,7 +24,7 @@ same-length-2 c = search rules
 
 returns-2 : tie.Need-returns-2
 returns-2 c = let S = c.before.before.before.before.before.before.before.before in
-    record_passed S.args.page.now S.args.i S.args.distance S.args.position S.args.highs.now S.args.lows.now S.args.n S.args.k S.args.choice S.requires.held (λ q w e. sym (c.before.is-candidate.ensures q w e) ∙ not-true _ c.if2.true)
+    record_passed S.args.page.now S.args.i S.args.distance S.args.position S.args.highs.now S.args.lows.now S.args.n S.args.k S.args.choice S.requires.held (λ q w. sym (c.before.is-candidate.ensures q w) ∙ not-true _ c.if2.true)
 
 row-in-requires : tie.Need-row-in-requires
 row-in-requires c κs = search rules
@@ -43,7 +43,7 @@ returns-3 c =
     let S = c.before.before.before.before.before.before.before.before.before.before.before.before.before.before.before.before in
     let a = S.args in
     record_taken a.page.now a.i a.distance a.position a.highs.now a.lows.now a.n a.k a.choice _ _ _
-    (λ q w e. sym (c.before.before.before.before.before.before.before.before.before.is-candidate.ensures q w e) ∙ not-false _ c.before.before.before.before.before.before.before.before.if2.false) (rw c.before.before.before.before.before.row_in_law.ensures at c.before.before.before.before.offer.ensures)
+    (λ q w. sym (c.before.before.before.before.before.before.before.before.before.is-candidate.ensures q w) ∙ not-false _ c.before.before.before.before.before.before.before.before.if2.false) (rw c.before.before.before.before.before.row_in_law.ensures at c.before.before.before.before.offer.ensures)
 
 pub offer-record-spec : {M : Type 1} → statement M
 offer-record-spec =

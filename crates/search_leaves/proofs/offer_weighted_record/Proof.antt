@@ -33,14 +33,14 @@ same-length-3 c = search rules
 returns-2 : tie.Need-returns-2
 returns-2 c = let S = c.before.before.before.before.before.before.before.before.before.before.before.before.before.before.before.before in let a = S.args in
     record_taken a.page.now a.i a.distance a.position a.highs.now a.lows.now a.n a.k a.choice _ _ _
-    (λ q w e. sym (c.before.before.before.before.before.before.before.before.before.is-candidate.ensures q w e) ∙ c.before.before.before.before.before.before.before.before.if2.true) (rw c.before.before.before.before.before.row_in_law.ensures at c.before.before.before.before.offer.ensures)
+    (λ q w. sym (c.before.before.before.before.before.before.before.before.before.is-candidate.ensures q w) ∙ c.before.before.before.before.before.before.before.before.if2.true) (rw c.before.before.before.before.before.row_in_law.ensures at c.before.before.before.before.offer.ensures)
 
 same-length-4 : tie.Need-same-length-4
 same-length-4 c = search rules
 
 returns-3 : tie.Need-returns-3
 returns-3 c = let S = c.before.before.before.before.before.before.before.before in let a = S.args in
-    record_passed a.page.now a.i a.distance a.position a.highs.now a.lows.now a.n a.k a.choice S.requires.held (λ q w e. sym (c.before.is-candidate.ensures q w e) ∙ c.if2.false)
+    record_passed a.page.now a.i a.distance a.position a.highs.now a.lows.now a.n a.k a.choice S.requires.held (λ q w. sym (c.before.is-candidate.ensures q w) ∙ c.if2.false)
 
 pub offer-weighted-record-spec : {M : Type 1} → statement M
 offer-weighted-record-spec =

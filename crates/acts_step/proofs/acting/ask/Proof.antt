@@ -1,4 +1,4 @@
--- `ask` meets its contract: the criteria carry no weights, no dates and no mark.
+-- `ask` meets its contract: the criteria carry no weights and no dates.
 use mathlib.Core.Path.{◌≡◌, ap, subst}
 use mathlib.Core.List.{List}
 use Prim.Native.Nat.{ℕ}
@@ -26,7 +26,7 @@ same_length c = search rules
 same-length-2 : tie.Need-same-length-2
 same-length-2 c = search rules
 
--- criteria without weights, dates and a mark ask for the nearest, of whichever point
+-- criteria without weights and dates ask for the nearest, of whichever point
 asks-nearest : {k stages : ℕ} {c : Criteria} → c ≡ nearest_by k stages → (p : List ℤ) (ws : List ℕ) → question_of p ws c ≡ nearest_of p k stages
 asks-nearest e p ws = ap (question_of p ws) e
 

@@ -3,10 +3,10 @@ use Rattle.test_model.proofs.comparing.compare_rows.Statement.{statement}
 use Rattle.test_model.proofs.comparing.compare_rows.Tie as tie
 
 abbrev invariant-loop : tie.invariant-loop
-invariant-loop index pages distances₀ labels highs lows n differences₀ i₀ distances differences i = (i ≤ n) × (differences ≤ i) × (length distances ≡ length distances₀)
+invariant-loop index pages distances₀ marks highs lows n differences₀ i₀ distances differences i = (i ≤ n) × (differences ≤ i) × (length distances ≡ length distances₀)
 
 abbrev decreases-loop : tie.decreases-loop
-decreases-loop index pages distances₀ labels highs lows n differences₀ i₀ distances differences i = n - i
+decreases-loop index pages distances₀ marks highs lows n differences₀ i₀ distances differences i = n - i
 
 loop-holds : tie.Need-loop-init invariant-loop decreases-loop
 loop-holds c = search rules

@@ -3,10 +3,10 @@ use Rattle.test_model.proofs.leaves.holds.Statement.{statement}
 use Rattle.test_model.proofs.leaves.holds.Tie as tie
 
 abbrev invariant-loop : tie.invariant-loop
-invariant-loop index pages position id label leaf n found₀ i₀ found i = (n ≤ 16) × (i ≤ n) × (found ≤ i)
+invariant-loop index pages position id mark leaf n found₀ i₀ found i = (n ≤ 16) × (i ≤ n) × (found ≤ i)
 
 abbrev decreases-loop : tie.decreases-loop
-decreases-loop index pages position id label leaf n found₀ i₀ found i = n - i
+decreases-loop index pages position id mark leaf n found₀ i₀ found i = n - i
 
 returns : tie.Need-returns invariant-loop decreases-loop
 returns c = search rules

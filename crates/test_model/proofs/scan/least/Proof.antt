@@ -3,10 +3,10 @@ use Rattle.test_model.proofs.scan.least.Statement.{statement}
 use Rattle.test_model.proofs.scan.least.Tie as tie
 
 abbrev invariant-loop : tie.invariant-loop
-invariant-loop distances labels best₀ p₀ best p = (1 ≤ p) × (p ≤ length distances) × (best < length distances)
+invariant-loop distances marks best₀ p₀ best p = (1 ≤ p) × (p ≤ length distances) × (best < length distances)
 
 abbrev decreases-loop : tie.decreases-loop
-decreases-loop distances labels best₀ p₀ best p = length distances - p
+decreases-loop distances marks best₀ p₀ best p = length distances - p
 
 loop-holds : tie.Need-loop-init invariant-loop decreases-loop
 loop-holds c = search rules

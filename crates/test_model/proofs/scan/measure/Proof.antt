@@ -3,19 +3,25 @@ use Rattle.test_model.proofs.scan.measure.Statement.{statement}
 use Rattle.test_model.proofs.scan.measure.Tie as tie
 
 abbrev invariant-loop : tie.invariant-loop
-invariant-loop distances₀ places labels q weights wanted p₀ distances p = (p ≤ length labels) × (length distances ≡ length labels)
+invariant-loop distances₀ places marks q weights wanted p₀ distances p = (p ≤ length marks) × (length distances ≡ length marks)
 
 abbrev decreases-loop : tie.decreases-loop
-decreases-loop distances₀ places labels q weights wanted p₀ distances p = length labels - p
+decreases-loop distances₀ places marks q weights wanted p₀ distances p = length marks - p
 
 loop-holds : tie.Need-loop-init invariant-loop decreases-loop
 loop-holds c = search rules
 
+mul-chosen : tie.Need-overflow-mul-chosen invariant-loop decreases-loop
+mul-chosen c = search rules
+
+shared-slice-read-chosen : tie.Need-shared-slice-read-chosen invariant-loop decreases-loop
+shared-slice-read-chosen c = search rules
+
+chosen-requires : tie.Need-chosen-requires invariant-loop decreases-loop
+chosen-requires c κs = search rules
+
 mul-distance-if : tie.Need-overflow-mul-distance-if invariant-loop decreases-loop
 mul-distance-if c = search rules
-
-shared-slice-read-distance-if : tie.Need-shared-slice-read-distance-if invariant-loop decreases-loop
-shared-slice-read-distance-if c = search rules
 
 distance-if-requires : tie.Need-distance-if-requires invariant-loop decreases-loop
 distance-if-requires c κs = search rules
@@ -48,8 +54,10 @@ measure-spec =
     invariant-loop
     decreases-loop
     loop-holds
+    mul-chosen
+    shared-slice-read-chosen
+    chosen-requires
     mul-distance-if
-    shared-slice-read-distance-if
     distance-if-requires
     mul-distances
     slice-write-distances

@@ -4,13 +4,10 @@ use Rattle.test_scan.proofs.batches.ask_all.Statement.{statement}
 use Rattle.test_scan.proofs.batches.ask_all.Tie as tie
 
 abbrev invariant-loop : tie.invariant-loop
-invariant-loop index places labels pages b leaves way seed n s₀ seen₀ i₀ s seen i = i ≤ n
+invariant-loop index places marks pages b leaves way seed n s₀ seen₀ i₀ s seen i = i ≤ n
 
 abbrev decreases-loop : tie.decreases-loop
-decreases-loop index places labels pages b leaves way seed n s₀ seen₀ i₀ s seen i = n - i
-
-asked-times-requires : tie.Need-asked-times-requires invariant-loop decreases-loop
-asked-times-requires c κs = search rules
+decreases-loop index places marks pages b leaves way seed n s₀ seen₀ i₀ s seen i = n - i
 
 cast-n : tie.Need-overflow-cast-n invariant-loop decreases-loop
 cast-n c = search rules
@@ -48,7 +45,6 @@ ask-all-spec =
     (tie.spec
     invariant-loop
     decreases-loop
-    asked-times-requires
     cast-n
     batch-seed-requires
     loop-holds

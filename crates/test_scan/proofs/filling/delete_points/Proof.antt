@@ -6,10 +6,10 @@ use Rattle.test_scan.proofs.filling.delete_points.Statement.{statement}
 use Rattle.test_scan.proofs.filling.delete_points.Tie as tie
 
 abbrev invariant-loop : tie.invariant-loop
-invariant-loop index₀ labels₀ first refused₀ p₀ index labels refused p = (p ≤ length labels₀ + 3) × (refused ≤ p) × (length index ≡ length index₀) × (length labels ≡ length labels₀)
+invariant-loop index₀ marks₀ first refused₀ p₀ index marks refused p = (p ≤ length marks₀ + 3) × (refused ≤ p) × (length index ≡ length index₀) × (length marks ≡ length marks₀)
 
 abbrev decreases-loop : tie.decreases-loop
-decreases-loop index₀ labels₀ first refused₀ p₀ index labels refused p = length labels₀ + 3 - p
+decreases-loop index₀ marks₀ first refused₀ p₀ index marks refused p = length marks₀ + 3 - p
 
 loop-holds : tie.Need-loop-init invariant-loop decreases-loop
 loop-holds c = search rules

@@ -6,10 +6,10 @@ use Rattle.test_scan.proofs.filling.insert_points.Statement.{statement}
 use Rattle.test_scan.proofs.filling.insert_points.Tie as tie
 
 abbrev invariant-loop : tie.invariant-loop
-invariant-loop index₀ places labels₀ n d seed refused₀ s₀ p₀ index labels refused s p = (p ≤ n) × (refused ≤ p) × (length index ≡ length index₀) × (length labels ≡ length labels₀)
+invariant-loop index₀ places marks₀ n d seed refused₀ s₀ p₀ index marks refused s p = (p ≤ n) × (refused ≤ p) × (length index ≡ length index₀) × (length marks ≡ length marks₀)
 
 abbrev decreases-loop : tie.decreases-loop
-decreases-loop index₀ places labels₀ n d seed refused₀ s₀ p₀ index labels refused s p = n - p
+decreases-loop index₀ places marks₀ n d seed refused₀ s₀ p₀ index marks refused s p = n - p
 
 loop-holds : tie.Need-loop-init invariant-loop decreases-loop
 loop-holds c = search rules
@@ -17,8 +17,8 @@ loop-holds c = search rules
 leap-requires : tie.Need-leap-requires invariant-loop decreases-loop
 leap-requires c κs = search rules
 
-drawn-label-requires : tie.Need-drawn-label-requires invariant-loop decreases-loop
-drawn-label-requires c κs = search rules
+drawn-mark-requires : tie.Need-drawn-mark-requires invariant-loop decreases-loop
+drawn-mark-requires c κs = search rules
 
 insert-if-requires : tie.Need-insert-if-requires invariant-loop decreases-loop
 insert-if-requires c κs = search rules
@@ -52,7 +52,7 @@ insert-points-spec =
     decreases-loop
     loop-holds
     leap-requires
-    drawn-label-requires
+    drawn-mark-requires
     insert-if-requires
     add-refused
     add-p

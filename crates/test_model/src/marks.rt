@@ -1,4 +1,4 @@
-// The label of a point: 0 unless it is live, else its stage and its stamp in one odd number. A question's set of stages is tried by halving.
+// The mark of a point: 0 unless it is live, else its stage and its stamp in one odd number. A question's set of stages is tried by halving.
 ghost use Rattle.std.specs.Prelude.{◌<◌, ◌≤◌};
 
 use crate::Wanted;
@@ -10,17 +10,17 @@ const MIDDLE_STAMP: u32 = 2147483648;
 
 const LAST_STAMP: u32 = 4294967295;
 
-// The label of a live point.
-pub fn label_of(stage: u8, stamp: u32) -> u64 {
+// The mark of a live point.
+pub fn mark_of(stage: u8, stamp: u32) -> u64 {
     512 * stamp as u64 + 2 * stage as u64 + 1
 }
 
-pub fn stage_in(label: u64) -> u8 {
-    (label / 2 % 256) as u8
+pub fn stage_in(mark: u64) -> u8 {
+    (mark / 2 % 256) as u8
 }
 
-pub fn stamp_in(label: u64) -> u32 {
-    (label / 512 % 4294967296) as u32
+pub fn stamp_in(mark: u64) -> u32 {
+    (mark / 512 % 4294967296) as u32
 }
 
 // The stage that a number draws: each of the six, 2 most often and 5 once in 256 times.
@@ -43,7 +43,7 @@ fn drawn_stage(n: u64) -> u8 {
 
 // The stamp that a number draws: a fifth each of the first 20, of 20 in the middle and of the last 20, which many points share, of noons, and of all
 // that are even; a number drawn has 31 bits.
-pub fn drawn_stamp(n: u64) -> u32 {
+fn drawn_stamp(n: u64) -> u32 {
     let turn = n % 5;
     let shared = (n / 5 % 20) as u32;
     if turn == 0 {
@@ -61,13 +61,13 @@ pub fn drawn_stamp(n: u64) -> u32 {
     next(n) as u32 * 2
 }
 
-// The label that a number draws.
-pub fn drawn_label(n: u64) -> u64 {
-    label_of(drawn_stage(n), drawn_stamp(next(n)))
+// The mark that a number draws.
+pub fn drawn_mark(n: u64) -> u64 {
+    mark_of(drawn_stage(n), drawn_stamp(next(n)))
 }
 
-// Whether a stage is in a set: what is left after halving it as often as the stage says is odd.
-fn has_stage(set: u8, stage: u8) -> bool {
+// Whether a set has the mark of a stage: what is left after halving it as often as the stage says is odd.
+fn marks_stage(set: u8, stage: u8) -> bool {
     let mut rest = set;
     let mut s = 0;
     while s < stage {
@@ -77,13 +77,13 @@ fn has_stage(set: u8, stage: u8) -> bool {
     rest % 2 == 1
 }
 
-// Whether a point is live, and its stage and day are wanted.
-pub fn chosen(label: u64, wanted: Wanted) -> bool {
-    if label == 0 {
+// Whether a point is live and wanted.
+pub fn chosen(mark: u64, wanted: Wanted) -> bool {
+    if mark == 0 {
         return false;
     }
-    if !has_stage(wanted.stages, stage_in(label)) {
+    if !marks_stage(wanted.stages, stage_in(mark)) {
         return false;
     }
-    in_days(wanted.days, stamp_in(label))
+    in_days(wanted.days, stamp_in(mark))
 }

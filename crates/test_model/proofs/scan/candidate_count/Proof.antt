@@ -1,21 +1,24 @@
 use Rattle.std.proofs.Common.{◌-◌, ◌≤◌, length, ⊎_elim, arith, rules}
-use Rattle.test_model.proofs.scan.others.Statement.{statement}
-use Rattle.test_model.proofs.scan.others.Tie as tie
+use Rattle.test_model.proofs.scan.candidate_count.Statement.{statement}
+use Rattle.test_model.proofs.scan.candidate_count.Tie as tie
 
 abbrev invariant-loop : tie.invariant-loop
-invariant-loop numbers none n₀ p₀ n p = (p ≤ length numbers) × (n ≤ p)
+invariant-loop marks wanted n₀ p₀ n p = (p ≤ length marks) × (n ≤ p)
 
 abbrev decreases-loop : tie.decreases-loop
-decreases-loop numbers none n₀ p₀ n p = length numbers - p
+decreases-loop marks wanted n₀ p₀ n p = length marks - p
 
 loop-holds : tie.Need-loop-init invariant-loop decreases-loop
 loop-holds c = search rules
 
-mul-if1 : tie.Need-overflow-mul-if1 invariant-loop decreases-loop
-mul-if1 c = search rules
+mul-chosen : tie.Need-overflow-mul-chosen invariant-loop decreases-loop
+mul-chosen c = search rules
 
-shared-slice-read-if1 : tie.Need-shared-slice-read-if1 invariant-loop decreases-loop
-shared-slice-read-if1 c = search rules
+shared-slice-read-chosen : tie.Need-shared-slice-read-chosen invariant-loop decreases-loop
+shared-slice-read-chosen c = search rules
+
+chosen-requires : tie.Need-chosen-requires invariant-loop decreases-loop
+chosen-requires c κs = search rules
 
 add-n : tie.Need-overflow-add-n invariant-loop decreases-loop
 add-n c = search rules
@@ -32,15 +35,16 @@ loop-again c = ⊎_elim (λ w. omega arith) (λ w. omega arith) c.if1.branch
 returns : tie.Need-returns invariant-loop decreases-loop
 returns c = search rules
 
-pub others-spec : {M : Type 1} → statement M
-others-spec =
+pub candidate-count-spec : {M : Type 1} → statement M
+candidate-count-spec =
     tie.close
     (tie.spec
     invariant-loop
     decreases-loop
     loop-holds
-    mul-if1
-    shared-slice-read-if1
+    mul-chosen
+    shared-slice-read-chosen
+    chosen-requires
     add-n
     add-p
     loop-less

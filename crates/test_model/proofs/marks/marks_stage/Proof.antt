@@ -1,6 +1,6 @@
 use Rattle.std.proofs.Common.{◌-◌, ◌≤◌, rules}
-use Rattle.test_model.proofs.labels.has_stage.Statement.{statement}
-use Rattle.test_model.proofs.labels.has_stage.Tie as tie
+use Rattle.test_model.proofs.marks.marks_stage.Statement.{statement}
+use Rattle.test_model.proofs.marks.marks_stage.Tie as tie
 
 abbrev invariant-loop : tie.invariant-loop
 invariant-loop set stage rest₀ s₀ rest s = s ≤ stage
@@ -23,5 +23,5 @@ loop-again c = search rules
 returns : tie.Need-returns invariant-loop decreases-loop
 returns c = search rules
 
-pub has-stage-spec : {M : Type 1} → statement M
-has-stage-spec = tie.close (tie.spec invariant-loop decreases-loop loop-holds add-s loop-less loop-again returns)
+pub marks-stage-spec : {M : Type 1} → statement M
+marks-stage-spec = tie.close (tie.spec invariant-loop decreases-loop loop-holds add-s loop-less loop-again returns)
