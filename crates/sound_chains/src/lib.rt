@@ -1,6 +1,7 @@
 // Identifiers in a chained hash table: those with the same low 14 bits are in one bucket, each bucket a chain from its last identifier to its first.
 // A link is one more than a place, or 0 for none.
 #![tactic(auto)]
+
 ghost use Rattle.std.specs.Prelude.{◌≡◌, ◌+◌, ◌≤◌, ◌<◌, ◌%◌, length, get_or};
 ghost use Rattle.sound_chains.specs.Repeats.{lower_page};
 ghost use Rattle.sound_chains.specs.Chains.{buckets, bucket_of, latest, met_of, Heads, Chained, Room};
