@@ -1,5 +1,6 @@
 // A question as the code holds it, and the least distance to the grid points of one pyramid and height.
 #![tactic(auto)]
+
 pub mod asked;
 pub mod slices;
 pub mod tables;

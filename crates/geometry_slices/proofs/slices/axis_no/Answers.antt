@@ -1,0 +1,10 @@
+use native.Mathlib.Omega.{arith}
+use Rattle.geometry_slices.proofs.PackedLaws.{axis_low, axis_high}
+use Rattle.geometry_slices.proofs.slices.axis_no.Goals as goal
+
+-- `slices::axis_no` meets its contract: by the test.
+pub returns-then-i-d : goal.returns-then-i-d
+returns-then-i-d c = let a = c.args in (axis_low a.d a.i c.if-i-d.true, c.if-i-d.true)
+
+pub returns-else-i-d : goal.returns-else-i-d
+returns-else-i-d c = let a = c.args in (axis_high a.d a.i c.if-i-d.false, omega (arith, c.requires))
