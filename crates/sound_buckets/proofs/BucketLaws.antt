@@ -1,5 +1,5 @@
 -- Laws of buckets: an identifier compared with those of its bucket, a turn of a walk, and what all walks say.
-use Prim.Native.Nat.{ℕ, zero, suc, ◌+◌, ◌-◌, ◌≤◌, ◌<◌}
+use Prim.Native.Nat.{ℕ, zero, suc, ◌+◌, ◌≤◌, ◌<◌}
 use mathlib.Core.Path.{◌≡◌, refl, sym, ap, ◌∙◌}
 use mathlib.Core.Logic.{◌≢◌, ◌⊎◌, inl, inr, ⊎_elim}
 use mathlib.Core.List.{List}
@@ -8,7 +8,6 @@ use lib.ListN.{length, get_or, set}
 use lib.Seq.{get_or-set_same, get_or-set_other}
 use lib.Dec.{leb}
 use borrow.Author.Tests.{leb-true, leb-false}
-use Rattle.lists.specs.Basics.{if}
 use Rattle.lists.specs.Tests.{decide, by_cases}
 use Rattle.sound_chains.specs.Repeats.{lowest_repeat, Under}
 use Rattle.sound_chains.specs.Chains.{bucket_of, latest, met_of, Heads, Chained, Blank}

@@ -2,6 +2,7 @@
 // with at most nine each. Where that does not settle it, and for more identifiers, the buckets are walked one after the other, and a last-seen
 // table says where the high 18 bits of each identifier were met last: two of a bucket with the same high bits are the same.
 #![tactic(auto)]
+
 ghost use Rattle.std.specs.Prelude.{true, ◌≡◌, ◌+◌, ◌≤◌, ◌<◌, ◌/◌, length, get_or};
 ghost use Rattle.sound_chains.specs.Repeats.{lowest_repeat};
 ghost use Rattle.sound_chains.specs.Chains.{buckets, max_idents, bucket_of, latest, Heads, Chained, Room, Blank};

@@ -2,6 +2,7 @@
 //
 // Where all differ by their low 12 or 16 bits, they are distinct. Else they go by buckets.
 #![tactic(auto)]
+
 ghost use Rattle.std.specs.Prelude.{true, ◌≡◌, ◌≤◌, ◌<◌, length, take};
 ghost use Rattle.lists.specs.Distinct.{Distinct};
 ghost use Rattle.sound_chains.specs.Repeats.{lowest_repeat};
