@@ -2,6 +2,7 @@
 // From height h to h + 1 a distance falls by what its coordinates come down, and rises by what the axis goes on past its range: two
 // weighted sums.
 #![tactic(auto)]
+
 pub mod bisection;
 mod pulls;
 
