@@ -23,7 +23,7 @@ use Rattle.search_heap.specs.Heap.{Heap, held, Popped}
 use Rattle.search_heap.proofs.HeapLaws.{held_top}
 use Rattle.search_theory.specs.Nearest.{Outcome, exceeds, offered}
 use Rattle.search_theory.specs.Frontier.{seek}
-use Rattle.search_theory.specs.FrontierLaws.{seek_end, seek_stop, seek_read, seek_open, seek_full}
+use Rattle.search_theory.proofs.FrontierLaws.{seek_end, seek_stop, seek_read, seek_open, seek_full}
 use Rattle.search_rows.specs.declared.Row.{Row}
 use Rattle.search_rows.specs.Rows.{row_order}
 use Rattle.search_rows.specs.Held.{rows_in, behind_all, Held}

@@ -14,8 +14,8 @@ use Rattle.lists.specs.Orders.{lower, higher, by_lower, by_equal, by_higher_law,
 use Rattle.geometry.specs.Numbers.{max_features}
 use Rattle.search_theory.specs.Nearest.{Outcome, reading, exceeds, offered, visit, best_first}
 use Rattle.search_theory.specs.Frontier.{leaves_under, Descends, seek}
-use Rattle.search_theory.specs.FrontierLaws.{seek_end, seek_read, seek_root}
-use Rattle.search_theory.specs.VisitLaws.{visit_read}
+use Rattle.search_theory.proofs.FrontierLaws.{seek_end, seek_read, seek_root}
+use Rattle.search_theory.proofs.VisitLaws.{visit_read}
 use Rattle.search_rows.specs.declared.Row.{Row}
 use Rattle.tree_model.specs.Trees.{Item, leaves}
 use Rattle.search_model.specs.Asked.{Asked, Askable}

@@ -14,7 +14,7 @@ use Rattle.lists.specs.SortingLaws.{filter_sort, filter_all, count_append}
 use Rattle.lists.specs.ConcatMapLaws.{map_append, all_every}
 use Rattle.lists.specs.Counts.{mult, mult_append}
 use Rattle.search_theory.specs.Nearest.{Outcome, nearest, candidates, in_set, best_first}
-use Rattle.search_theory.specs.Promises as flatly
+use Rattle.search_theory.proofs.Promises as flatly
 use Rattle.search_rows.specs.declared.Row.{Row}
 use Rattle.search_theory.specs.Marks.{Strict}
 use Rattle.search_rows.specs.Rows.{newest_first}

@@ -15,7 +15,7 @@ use Rattle.lists.specs.Orders.{by, lower, by_weak, by_same, lower_weak, lower_sa
 use Rattle.lists.specs.ConcatMapLaws.{all_every}
 use Rattle.lists.specs.Lengths.{length_none}
 use Rattle.search_theory.specs.Nearest.{nearest, in_set, Floor}
-use Rattle.search_theory.specs.Promises as flatly
+use Rattle.search_theory.proofs.Promises as flatly
 use Rattle.search_rows.specs.declared.Row.{Row}
 use Rattle.search_rows.specs.RowLaws.{row_order_law}
 use Rattle.pagestore_page.specs.declared.Record.{Record}

@@ -17,7 +17,7 @@ use Rattle.lists.specs.Orders.{lex, by, lower, higher, Weak, by_weak, by_higher_
 use Rattle.search_theory.specs.Nearest.{candidates, nearest}
 use Rattle.search_theory.specs.Marks.{Strict, read_on, unmarked}
 use Rattle.search_theory.specs.Marks as marks
-use Rattle.search_theory.specs.Promises.{lists_join}
+use Rattle.search_theory.proofs.Promises.{lists_join}
 use Rattle.search_rows.specs.declared.Row.{Row}
 use Rattle.search_rows.specs.Rows.{distance, stamp, id, position, id_order, tie_order, newest_tie, row_order, newest_first, by_distance, by_identifier}
 

@@ -11,10 +11,10 @@ use Rattle.lists.specs.Orders.{by}
 use Rattle.search_theory.specs.Nearest.{Ranking, row_order, candidates, nearest, kth, in_set, Outcome, Floor, best_first}
 use Rattle.search_theory.specs.Marks.{read_on, Strict, unmarked}
 use Rattle.search_theory.specs.Ranges.{within_reach}
-use Rattle.search_theory.specs.VisitLaws.{visit_exact, visit_alike}
-use Rattle.search_theory.specs.KthLaws.{in_set_larger, in_set_floor, kth_carried}
-use Rattle.search_theory.specs.MarksLaws.{read_on_joins}
-use Rattle.search_theory.specs.RangesLaws.{reach_read, near_reached}
+use Rattle.search_theory.proofs.VisitLaws.{visit_exact, visit_alike}
+use Rattle.search_theory.proofs.KthLaws.{in_set_larger, in_set_floor, kth_carried}
+use Rattle.search_theory.proofs.MarksLaws.{read_on_joins}
+use Rattle.search_theory.proofs.RangesLaws.{reach_read, near_reached}
 
 -- r: how the question ranks rows. bound, rows: of a leaf; leaves of equal bound are taken by tie. ls: the leaves.
 module _ {A L : Type 0} (r : Ranking A) (o : Order (row_order r)) (bound : L → ℕ) (tie : L → L → Bool) (oL : Order (by bound tie)) (ls : List L) where

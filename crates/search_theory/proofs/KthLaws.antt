@@ -15,7 +15,7 @@ use Rattle.lists.specs.SortingLaws.{sorted_sort, length_sort, count_sort, length
 use Rattle.lists.specs.Orders.{by}
 use Rattle.lists.specs.Choices.{indicator_le}
 use Rattle.search_theory.specs.Nearest.{Ranking, row_order, candidates, nearest, kth, at_most, in_set}
-use Rattle.search_theory.specs.VisitLaws.{by_floor, below, below_far, below_more, exceeds_below, in_set_exceeds}
+use Rattle.search_theory.proofs.VisitLaws.{by_floor, below, below_far, below_more, exceeds_below, in_set_exceeds}
 
 module _ {A : Type 0} (f : A → ℕ) (tie : A → A → Bool) where
   -- numbers of a sorted list rise

@@ -14,7 +14,7 @@ use Rattle.lists.specs.Sorting.{count, sum, Order, sort, insert_all, Sorted, end
 use Rattle.lists.specs.SortingLaws.{irrefl, not_before, all_ins_all, all_sort, sorted_ins_all, sort_first, sort_canonical, length_sort, count_append}
 use Rattle.lists.specs.ConcatMapLaws.{all_both, all_concat_map, concat_map_same, count_concat_map, sum_same, sum_ins_all}
 use Rattle.search_theory.specs.Nearest.{Ranking, reading, exceeds, offered, visit}
-use Rattle.search_theory.specs.VisitLaws.{exceeds_below, below_more, visit_stop, visit_read}
+use Rattle.search_theory.proofs.VisitLaws.{exceeds_below, below_more, visit_stop, visit_read}
 use Rattle.search_theory.specs.Frontier.{leaves_under, Descends, seek}
 
 module _ {E : Type 0} (is_leaf : E → Bool) (kids : E → List E) where

@@ -14,8 +14,8 @@ use Rattle.lists.specs.Tabulated.{all_take}
 use Rattle.lists.specs.ConcatMapLaws.{all_both, count_concat_map, count_filter, sum_sort}
 use Rattle.lists.specs.Orders.{by}
 use Rattle.search_theory.specs.Nearest.{Ranking, row_order, candidates, nearest, kth, at_most, in_set, Outcome, Floor, best_first}
-use Rattle.search_theory.specs.VisitLaws.{visit_exact}
-use Rattle.search_theory.specs.KthLaws.{length_candidates, count_kth, kth_count, nearest_at_most, in_set_lower, in_set_few, in_set_kth}
+use Rattle.search_theory.proofs.VisitLaws.{visit_exact}
+use Rattle.search_theory.proofs.KthLaws.{length_candidates, count_kth, kth_count, nearest_at_most, in_set_lower, in_set_few, in_set_kth}
 use Rattle.search_theory.specs.Ranges.{may_be, within_reach}
 
 module _ {A L : Type 0} (rows : L → List A) (p : A → Bool) where

@@ -1,0 +1,6 @@
+pub mod VisitLaws
+pub mod MarksLaws
+pub mod KthLaws
+pub mod RangesLaws
+pub mod Promises
+pub mod FrontierLaws
