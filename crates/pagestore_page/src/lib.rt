@@ -1,6 +1,7 @@
 // One page in bytes: keys, entries and records, leaf, inner and freed pages. docs/LAYOUT.md has the table of offsets. Each function is handed a
 // page's part of the index, 1,024 bytes; which part that is, is the affair of `pagestore`.
 #![tactic(auto)]
+
 use geometry::{Key, MAX_FEATURES};
 
 mod inners;

@@ -1,0 +1,16 @@
+use mathlib.Core.Path.{◌≡◌}
+use native.Mathlib.Omega.{arith}
+use Rattle.pagestore_page.specs.Layout.{put_coords}
+use Rattle.pagestore_page.proofs.WriteLaws.{coords_next}
+use borrow.Author.Rules.{rules}
+use Rattle.pagestore_page.proofs.leaves.put_coords.Goals as goal
+
+pub loop-m-init : goal.loop-m-init
+unfolding put_coords
+loop-m-init c = search rules
+
+pub loop-m-preserved : goal.loop-m-preserved
+loop-m-preserved c = let L = c.loop-m in (search rules, search rules, coords_next _ _ _ _ L.m _ L.invariant.2 c.put_u16.ensures)
+
+pub returns : goal.returns
+returns c = let L = c.loop-m in let e : L.m ≡ 16 = omega arith in rw e at L.invariant.2
