@@ -1,6 +1,7 @@
 // The page store: an index is lent bytes in whole pages of 1,024, and page 0 is the header. docs/LAYOUT.md has the table of offsets.
 // Every function is total: a page number out of range reads as an empty page, and a write there does nothing.
 #![tactic(auto)]
+
 mod counting;
 mod header;
 mod inners;

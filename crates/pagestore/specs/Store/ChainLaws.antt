@@ -6,7 +6,7 @@ use Rattle.std.proofs.Math.Bool.{true, false}
 use mathlib.Core.List.{List, [], ◌∷◌}
 use Prim.Native.Nat.{ℕ, zero, suc, ◌-◌, ◌≤◌, ◌<◌}
 use Rattle.std.proofs.lemmas.Bool.{eqb-false}
-use Rattle.lists.specs.Basics.{All, none, also}
+use Rattle.lists.specs.Basics.{indicator, All, none, also}
 use Rattle.lists.specs.Counts.{mult, mult_more, mult_self, mult_not}
 use Rattle.lists.specs.Tests.{by_cases}
 use Rattle.pagestore.specs.Store.{in_range, link_at, chain, chain_end}
@@ -118,7 +118,9 @@ chain_once (suc n) b p e q =
     (λ t. let f : chain_end n b (link_at b p) ≡ 0 = sym (end_in n b p t) ∙ e in
     rw (chain_in n b p t)
     (by_cases (eqb q p)
-    (λ g. let same : q ≡ p = eqb-true q p g in rw same (omega (arith, mult_self p (chain n b (link_at b p)), chain_head n b p t f)))
+    (λ g. let same : q ≡ p = eqb-true q p g in
+    let gone : mult q (chain n b (link_at b p)) ≡ 0 = ap (λ (x : ℕ). mult x (chain n b (link_at b p))) same ∙ chain_head n b p t f in
+    omega (arith, ap indicator g))
     (λ g. omega (arith, mult_not q p (chain n b (link_at b p)) (eqb-false q p g), chain_once n b (link_at b p) f q))))
     (λ t. rw (chain_out (suc n) b p t) (omega arith))
 
