@@ -1,9 +1,7 @@
 use native.Mathlib.Omega.{arith}
 use mathlib.Core.Path.{sym, ◌∙◌}
-use borrow.Author.Tests.{not-true, not-false}
 use Rattle.calendar.proofs.CodeLaws.{number_none, number_some}
 use Rattle.calendar.proofs.TestLaws.{calendar_test}
-use borrow.Author.Rules.{rules}
 use Rattle.calendar.proofs.day_number.Goals as goal
 
 pub returns-then-not-in_calendar : goal.returns-then-not-in_calendar
@@ -22,4 +20,4 @@ pub overflow_sub-result : goal.overflow_sub-result
 overflow_sub-result c = let g = calendar_test _ (sym c.in_calendar.ensures ∙ c.if-not-in_calendar.false) in omega arith
 
 pub returns : goal.returns
-returns c = number_some _ _ _ _ (sym c.in_calendar.ensures ∙ c.if-not-in_calendar.false) c.days_of_years-years.ensures.value c.leap-long.ensures c.days_of_months-months.ensures.value
+returns c = let n = number_some _ _ _ _ (sym c.in_calendar.ensures ∙ c.if-not-in_calendar.false) c.days_of_years-years.ensures.value c.leap-long.ensures c.days_of_months-months.ensures.value in record { value = n.0; upper_bound = n.1 }

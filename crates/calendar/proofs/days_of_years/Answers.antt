@@ -1,6 +1,5 @@
 use Rattle.calendar.proofs.CodeLaws.{years_counted}
 use native.Mathlib.Omega.{arith}
-use borrow.Author.Rules.{rules}
 use Rattle.calendar.proofs.days_of_years.Goals as goal
 
 pub returns : goal.returns

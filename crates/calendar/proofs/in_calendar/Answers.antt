@@ -4,7 +4,6 @@ use mathlib.Core.Bool.{Bool}
 use Rattle.calendar.proofs.CodeLaws.{outside}
 use Rattle.calendar.specs.Dates.{days_in, month_days}
 use Rattle.calendar.proofs.TestLaws.{test_calendar}
-use borrow.Author.Rules.{rules}
 use Rattle.calendar.proofs.in_calendar.Goals as goal
 
 -- `in_calendar` meets its contract: each test that fails is a rule that is broken.

@@ -1,6 +1,5 @@
 use Rattle.calendar.proofs.CodeLaws.{month_none, month_in}
 use mathlib.Core.Bool.{true, false}
-use borrow.Author.Rules.{rules}
 use Rattle.calendar.proofs.month_days.Goals as goal
 
 -- `month_days` meets its contract: the tables are those of the definition.

@@ -1,15 +1,13 @@
 use mathlib.Core.Path.{ap, ◌∙◌}
 use native.Mathlib.Omega.{arith}
 use Prim.Native.Nat.{ℕ, ◌+◌}
-use borrow.Author.Tests.{not-true, not-false}
-use borrow.Author.Rules.{rules}
 use Rattle.calendar.specs.Days.{noon}
 use Rattle.calendar.proofs.WindowLaws.{window_none, window_some}
 use Rattle.calendar.proofs.window_of.Goals as goal
 
 -- `window_of` meets its contract: from noon of the first day up to noon after the last one.
 pub returns-then-not-dated : goal.returns-then-not-dated
-returns-then-not-dated c = let a = c.args in window_none a.dated a.dates (not-true a.dated c.if-not-dated.true)
+returns-then-not-dated c = let a = c.args in window_none a.dated a.dates c.if-not-dated.true
 
 pub noon_of-from-requires : goal.noon_of-from-requires
 noon_of-from-requires c = omega (arith, c.day_number.ensures.upper_bound)
@@ -23,6 +21,6 @@ noon_of-until-requires c = omega (arith, c.day_number-2.ensures.upper_bound)
 pub returns : goal.returns
 returns c =
     let a = c.args in
-    window_some a.dated a.dates (not-false a.dated c.if-not-dated.false) _ _
+    window_some a.dated a.dates c.if-not-dated.false _ _
     (c.noon_of-from.ensures ∙ ap noon c.day_number.ensures.value)
     (c.noon_of-until.ensures ∙ ap (λ (n : ℕ). noon (n + 1)) c.day_number-2.ensures.value)
