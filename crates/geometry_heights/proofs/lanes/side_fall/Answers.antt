@@ -1,0 +1,11 @@
+use borrow.Author.Tests.{lt-ltb, le-ltb}
+use mathlib.Core.Path.{sym, ap}
+use mathlib.Core.Bool.{Bool}
+use Rattle.lists.specs.Basics.{if}
+use Rattle.geometry_heights.proofs.lanes.side_fall.Goals as goal
+
+pub returns-then-m-j : goal.returns-then-m-j
+returns-then-m-j c = let a = c.args in sym (ap (λ (b : Bool). if b a.before a.after) (lt-ltb a.m a.j c.if-m-j.true))
+
+pub returns-else-m-j : goal.returns-else-m-j
+returns-else-m-j c = let a = c.args in sym (ap (λ (b : Bool). if b a.before a.after) (le-ltb a.m a.j c.if-m-j.false))
