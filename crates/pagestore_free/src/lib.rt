@@ -1,5 +1,6 @@
 // Free pages: taking one, and freeing one.
 #![tactic(auto)]
+
 ghost use Rattle.std.specs.Prelude.{◌≡◌};
 ghost use Rattle.pagestore.specs.Store.{page_taken, take_page, free_page};
 

@@ -1,5 +1,6 @@
 // A use of the page store by its published laws alone: a leaf moves to a new page.
 #![tactic(auto)]
+
 ghost use Rattle.std.specs.Prelude.{◌≡◌};
 ghost use Rattle.pagestore.specs.Store.{page_taken};
 ghost use Rattle.pagestore_use.specs.Moved.{moved_to};

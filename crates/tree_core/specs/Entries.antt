@@ -1,7 +1,6 @@
 -- Entries of inner pages: the child of each, and the one that a page is given.
 use Rattle.std.specs.Prelude.{List, map, ℕ, get_or}
 use Rattle.lists.specs.Ascending.{head_or, last_or}
-use Rattle.geometry.specs.declared.Key.{Key}
 use Rattle.pagestore_page.specs.declared.Record.{Record}
 use Rattle.pagestore_page.specs.declared.Entry.{Entry}
 use Rattle.tree_model.specs.Trees.{first_key, last_key}

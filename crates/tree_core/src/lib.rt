@@ -1,5 +1,6 @@
 // What insertion, deletion and lookup share: the definitions of the tree's acts on bytes, keys of records, entries of pages.
 #![tactic(auto)]
+
 use pagestore::{Entry, Record};
 
 mod entries;

@@ -1,0 +1,15 @@
+use mathlib.Core.Path.{◌≡◌}
+use lib.ListN.{length}
+use Rattle.tree_core.proofs.EntryLaws.{child_in, child_out}
+use borrow.Author.Rules.{rules}
+use Rattle.lists.specs.Lengths.{unmapped}
+use Rattle.tree_core.proofs.entries.child_at.Goals as goal
+
+pub returns-then-i-n : goal.returns-then-i-n
+returns-then-i-n c = let S = c in let F = c.filled-n in child_in S.args.inner.entries F.result S.args.inner.count S.args.i F.ensures c.if-i-n.true
+
+pub returns : goal.returns
+returns c = let S = c in
+    let F = c.filled-n in
+    let slots : length S.args.inner.entries ≡ 16 = search (unmapped, rules) in
+    child_out S.args.inner.entries F.result S.args.inner.count S.args.i slots F.ensures c.if-i-n.false
