@@ -1,3 +1,4 @@
 // The bound of a span for a question.
 #![tactic(auto)]
+
 pub mod bounds;
