@@ -21,7 +21,7 @@ use Rattle.pagestore.specs.Store.RangeLaws.{range_fits}
 use Rattle.pagestore.specs.Store.PageLaws.{page_same, page_other, leaf_view, inner_view, page_fill}
 use Rattle.pagestore.specs.Store.FreeLaws.{free_page_law, freed_part}
 use Rattle.pagestore.specs.Store.TakeLaws.{taken_first, page_take, free_take}
-use Rattle.tree_model.specs.Trees.{Item, records, pages, rank_of, entry_of, node}
+use Rattle.tree_model.specs.Trees.{Item, pages, rank_of, entry_of, node}
 use Rattle.tree_model.specs.TreeLaws.{fill_node, no_pages_law}
 use Rattle.tree_model.specs.Inserting.{choose, replaced, insert_record, no_tree, chosen, Cut, cut, insert_tree, run_of}
 use Rattle.tree_core.specs.Entries.{child_at, leaf_entry, inner_entry}

@@ -1,6 +1,6 @@
 -- The key of a record that fits can be stored, and ranks of different identifiers differ.
-use Rattle.std.specs.Prelude.{◌≡◌, refl, List, [], ◌∷◌, ℕ, zero, suc, ◌+◌, ◌-◌, ◌^◌, ◌≤◌, ◌<◌, ltb, eqb, ℤ, pos, negsuc, nat_abs, length, get_or, take}
-use Rattle.std.proofs.Common.{ap, arith, length-take, ltb-true, ltb-false, lt-ltb, le-ltb}
+use Rattle.std.specs.Prelude.{◌≡◌, refl, List, [], ◌∷◌, ℕ, zero, suc, ◌+◌, ◌^◌, ◌≤◌, ◌<◌, ltb, eqb, ℤ, pos, nat_abs, length, get_or, take}
+use Rattle.std.proofs.Common.{arith, length-take, ltb-true, ltb-false}
 use Rattle.lists.specs.Basics.{if, All, none, also}
 use Rattle.lists.specs.Choices.{bool_cases}
 use Rattle.lists.specs.Tabulated.{all_take}

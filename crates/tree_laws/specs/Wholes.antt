@@ -8,7 +8,7 @@ use Rattle.lists.specs.AscendingBy.{AscendingBy, rising_of, ascending_of}
 use Rattle.lists.specs.Tests.{by_cases}
 use Rattle.pagestore_page.specs.declared.Record.{Record}
 use Rattle.pagestore_page.specs.Fits.{RecordFits}
-use Rattle.pagestore.specs.Store.{size, features, root, level, total, freed, fresh, field_at, in_range, leaf_at, records_in, freed_at, fresh_at, free_at, view_of}
+use Rattle.pagestore.specs.Store.{size, features, root, level, total, fresh, field_at, in_range, leaf_at, records_in, freed_at, fresh_at, free_at, view_of}
 use Rattle.pagestore.specs.Store.RangeLaws.{range_past}
 use Rattle.pagestore.specs.Store.PageLaws.{records_fit as stored-fit}
 use Rattle.tree_model.specs.Trees.{Item, records, pages, rank_of, ident_of, Rep, tree_at, tree_of, live}
