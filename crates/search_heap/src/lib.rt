@@ -1,6 +1,7 @@
 // A min-heap with four children a place in the first n numbers of a lent slice: push and pop.
 // A number on its way down or up moves those it passes by one place, and is put down where it ends.
 #![tactic(auto)]
+
 ghost use Rattle.std.specs.Prelude.{◌≡◌, ◌+◌, ◌≤◌, ◌<◌, min, length, set};
 ghost use Rattle.search_heap.specs.Heap.{Heap, Pushed, Popped};
 ghost use Rattle.search_heap.specs.Sifting.{Sinking, Rising, lower_of, LeastIn, Sifted};
