@@ -4,7 +4,7 @@ use Rattle.std.proofs.Common.{inl, inr, arith}
 use Rattle.pagestore.specs.Store.{view_of}
 use Rattle.tree_model.specs.Sound.{Permitted}
 use Rattle.sound_faults.specs.Faults.{FailsAt}
-use Rattle.sound_faults.specs.Decided.{sound_none}
+use Rattle.sound_faults.proofs.Decided.{sound_none}
 use Rattle.sound_check.specs.declared.Checked.{Checked}
 use Rattle.sound_check.specs.Outcome.{Verdict}
 use Rattle.index_refusals.specs.Refusals.{Rule, First, unsound, bad_length, live_times, check_rules}

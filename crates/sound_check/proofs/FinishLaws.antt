@@ -11,13 +11,13 @@ use Rattle.tree_model.specs.Trees.{live}
 use Rattle.sound_faults.specs.Faults.{IsPage, RootFill, Rooted, Reached, EntryAt, NoFault, EntryFault, FailsAt}
 use Rattle.sound_faults.specs.Linked.{HeaderFine, InState}
 use Rattle.sound_faults.specs.Stored.{view_stored}
-use Rattle.sound_faults.specs.Assembled.{reached_page, live_count}
+use Rattle.sound_faults.proofs.Assembled.{reached_page, live_count}
 use Rattle.sound_links.specs.Marks.{Marked, Seen, Clear, Ready, Grown, MarksAre, FreedOk, marked_to}
 use Rattle.sound_pages.specs.Pages.{PagesFine, Named, Lost}
 use Rattle.sound_visit.specs.Collect.{pairs_to, Collected, Gathered}
 use Rattle.sound_check.specs.Outcome.{Start, Counted, Lent, Whole}
 use Rattle.sound_links.proofs.MarkLaws.{clear_marks, marks_are}
-use Rattle.sound_faults.specs.ViewLaws.{few_entries}
+use Rattle.sound_faults.proofs.ViewLaws.{few_entries}
 use Rattle.sound_links.proofs.MarkedLaws.{marked_followed}
 use Rattle.sound_visit.proofs.CollectLaws.{pairs_sum}
 use Rattle.lists.specs.Lengths.{zero_at}

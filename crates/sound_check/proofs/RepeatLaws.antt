@@ -16,7 +16,7 @@ use Rattle.sound_faults.specs.Faults.{FailsAt}
 use Rattle.sound_faults.specs.Linked.{Followed}
 use Rattle.sound_faults.specs.Stored.{view_stored}
 use Rattle.sound_faults.specs.Shapes.{idents}
-use Rattle.sound_faults.specs.Assembled.{reached_page, live_idents}
+use Rattle.sound_faults.proofs.Assembled.{reached_page, live_idents}
 use Rattle.sound_faults.specs.Repeated.{repeated_fails}
 use Rattle.sound_chains.specs.Repeats.{lowest_repeat, Repeated}
 use Rattle.sound_chains.proofs.RepeatsLaws.{lowest_repeat_law}

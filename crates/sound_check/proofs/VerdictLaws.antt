@@ -14,7 +14,7 @@ use Rattle.tree_model.specs.Trees.{ident_of, live}
 use Rattle.tree_model.specs.Sound.{Permitted, SoundIndex}
 use Rattle.sound_faults.specs.Faults.{FailsAt}
 use Rattle.sound_faults.specs.Stored.{view_stored}
-use Rattle.sound_faults.specs.Assembled.{linked_sound}
+use Rattle.sound_faults.proofs.Assembled.{linked_sound}
 use Rattle.lists.specs.Judges.{Found, nowhere, at}
 use Rattle.sound_check.specs.Outcome.{Counted, Verdict}
 

@@ -1,5 +1,5 @@
 -- Soundness is decided: an index is sound or not, by its fields one after the other.
-use Rattle.std.specs.Prelude.{◌≡◌, refl, ◌⊎◌, List, [], ◌∷◌, ◌++◌, map, ℕ, zero, suc, ◌+◌, ◌*◌, ◌%◌, ◌≤◌, ◌<◌, leb, ltb, length, take}
+use Rattle.std.specs.Prelude.{◌≡◌, refl, ◌⊎◌, List, [], ◌∷◌, ◌++◌, map, ℕ, zero, suc, ◌*◌, ◌%◌, ◌≤◌, ◌<◌, leb, ltb, length, take}
 use Rattle.std.proofs.Common.{sym, ap, ◌∙◌, subst, inl, inr, ⊎_elim, arith, leb-true, leb-false, le-ltb}
 use Rattle.lists.specs.Basics.{All, none, also, all_head, all_tail, indicator}
 use Rattle.lists.specs.AscendingLaws.{ascends?}

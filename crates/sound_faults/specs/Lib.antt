@@ -3,9 +3,5 @@ pub mod Faults
 pub mod Stored
 pub mod Shapes
 pub mod Linked
-pub mod Assembled
-pub mod ViewLaws
-pub mod Refuted
 pub mod Repeated
-pub mod Decided
 pub mod Decidable

@@ -17,7 +17,7 @@ use Rattle.pagestore_page.specs.declared.Record.{Record}
 use Rattle.pagestore_page.specs.declared.Entry.{Entry}
 use Rattle.pagestore_page.specs.Layout.{no_entry}
 use Rattle.pagestore.specs.Store.{Page, records_of, entries_of, View}
-use Rattle.tree_model.specs.Trees.{Item, records, pages, key_of, rank_of, ident_of, no_record, first_key, last_key, entry_of, node, Rep, tree_at, tree_of}
+use Rattle.tree_model.specs.Trees.{Item, records, pages, key_of, rank_of, ident_of, no_record, first_key, last_key, entry_of, node, Rep, tree_of}
 use Rattle.tree_model.specs.Sound.{Filled}
 use Rattle.sound_faults.specs.Faults.{first_key_in, last_key_in, ends, ranks_in}
 use Rattle.tree_model.specs.TreeLaws.{no_pages_law, concat_map_records, tree_page}

@@ -15,7 +15,7 @@ use Rattle.sound_faults.specs.Linked.{PageFine}
 use Rattle.sound_keys.specs.Judged.{RecordsFine, RecordsBad, LeafJudged, InnerJudged, PageJudged}
 use Rattle.sound_keys.specs.declared.Span.{Span}
 use Rattle.sound_keys.proofs.SpanLaws.{span_map}
-use Rattle.sound_faults.specs.ViewLaws.{leaf_is, inner_is}
+use Rattle.sound_faults.proofs.ViewLaws.{leaf_is, inner_is}
 
 module _ (b : List ℕ) (p d : ℕ) (same : d ≡ (view_of b).d) where
   module _ (x : Leaf) (e : x ≡ leaf_at b p) (h : level_at b p ≡ 0) where

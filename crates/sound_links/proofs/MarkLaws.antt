@@ -12,7 +12,7 @@ use Rattle.pagestore.specs.Store.{Page, leaf, inner, level_of, fill_of, entries_
 use lib.Dec.{ltb}
 use borrow.Author.Tests.{ltb-true, ltb-false}
 use Rattle.sound_faults.specs.Faults.{RootFill, Reached, FailsAt}
-use Rattle.sound_faults.specs.Assembled.{reached_page}
+use Rattle.sound_faults.proofs.Assembled.{reached_page}
 use Rattle.sound_links.specs.Marks.{Marked, Seen, Clear, Follows, Marks, Ready, Grown, Going, MarksAre}
 
 -- a place has one element

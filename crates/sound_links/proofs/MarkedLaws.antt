@@ -10,7 +10,7 @@ use Rattle.lists.specs.Counts.{mult, mult_self, mult_not, mult_none}
 use Rattle.lists.specs.Tests.{decide}
 use Rattle.pagestore.specs.Store.{View}
 use Rattle.sound_faults.specs.Linked.{Followed}
-use Rattle.sound_faults.specs.Assembled.{reached_page}
+use Rattle.sound_faults.proofs.Assembled.{reached_page}
 use Rattle.sound_links.specs.Marks.{Seen, MarksAre, marked_to}
 
 pub marked_yes : (m : List ℕ) (k : ℕ) → ¬ (get_or m k 0 ≡ 0) → marked_to m (k + 1) ≡ k ∷ marked_to m k

@@ -24,10 +24,10 @@ use Rattle.tree_model.specs.Sound.{RecordOk}
 use Rattle.sound_faults.specs.Faults.{ends, first_key_in, last_key_in, ranks_in, NodeFill, EntryAt, EntryFault}
 use Rattle.sound_faults.specs.Linked.{PageFine}
 use Rattle.sound_faults.specs.Shapes.{first_rank_law, last_rank}
-use Rattle.sound_faults.specs.Assembled.{fill_most}
+use Rattle.sound_faults.proofs.Assembled.{fill_most}
 use Rattle.sound_pages.specs.Pages.{EndsKept}
 use Rattle.sound_keys.proofs.KeyLaws.{key_same, key_fits}
-use Rattle.sound_faults.specs.ViewLaws.{view_fill}
+use Rattle.sound_faults.proofs.ViewLaws.{view_fill}
 
 -- ---- NUMBERS OF THE ENDS
 

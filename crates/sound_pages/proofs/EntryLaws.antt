@@ -12,7 +12,7 @@ use Rattle.pagestore_page.specs.declared.Entry.{Entry}
 use Rattle.pagestore.specs.Store.{Page, level_of, fill_of, entries_of, View, view_of}
 use Rattle.sound_faults.specs.Faults.{NodeFill, Reached, EntryAt, EntryFault}
 use Rattle.sound_faults.specs.Linked.{EntryFine}
-use Rattle.sound_faults.specs.ViewLaws.{few_entries}
+use Rattle.sound_faults.proofs.ViewLaws.{few_entries}
 use Rattle.sound_links.specs.Marks.{Marked, MarksAre, Follows}
 use Rattle.sound_pages.specs.Pages.{Named}
 use Rattle.sound_links.proofs.MarkLaws.{spot_same, set_here, set_keep, set_old, no_entries}

@@ -13,7 +13,7 @@ use Rattle.lists.specs.Tests.{by_cases, decide}
 use Rattle.pagestore.specs.Store.{View, view_of}
 use Rattle.sound_faults.specs.Faults.{IsPage, ranks_in, Reached, FailsAt}
 use Rattle.sound_faults.specs.Linked.{PageFine, InState}
-use Rattle.sound_faults.specs.Assembled.{reached_page}
+use Rattle.sound_faults.proofs.Assembled.{reached_page}
 use Rattle.lists.specs.Judges.{Judges}
 use Rattle.sound_keys.specs.Judged.{PageJudged}
 use Rattle.sound_keys.specs.declared.Span.{Span}

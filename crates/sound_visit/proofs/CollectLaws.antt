@@ -19,11 +19,11 @@ use Rattle.pagestore_page.specs.declared.Leaf.{Leaf}
 use Rattle.pagestore.specs.Store.PageLaws.{records_slots}
 use Rattle.tree_model.specs.Trees.{ident_of}
 use Rattle.sound_faults.specs.Shapes.{idents}
-use Rattle.sound_faults.specs.Assembled.{reached_page}
+use Rattle.sound_faults.proofs.Assembled.{reached_page}
 use Rattle.sound_links.specs.Marks.{Seen, MarksAre, marked_to}
 use Rattle.sound_visit.specs.Collect.{ident_on, holder_of, pairs_on, pairs_if, pairs_to, Joined, Collected, Gathered}
 use Rattle.sound_faults.specs.Prefixes.{take_more}
-use Rattle.sound_faults.specs.ViewLaws.{leaf_is, view_level, inner_points}
+use Rattle.sound_faults.proofs.ViewLaws.{leaf_is, view_level, inner_points}
 use Rattle.sound_links.proofs.MarkedLaws.{marked_yes, marked_no, marked_none}
 
 -- ---- ONE LEAF

@@ -1,12 +1,12 @@
 use Prim.Native.Nat.{◌-◌, ◌<◌, ◌≤◌, ℕ}
-use Rattle.sound_faults.specs.Assembled.{reached_page}
+use Rattle.sound_faults.proofs.Assembled.{reached_page}
 use Rattle.pagestore_page.specs.Layout.{no_entry}
 use Rattle.pagestore.specs.Store.{inner_at, level_at, view_of}
 use Rattle.pagestore_page.specs.declared.Entry.{Entry}
-use Rattle.sound_faults.specs.ViewLaws.{entries_most, inner_count, inner_few, slot_entry}
+use Rattle.sound_faults.proofs.ViewLaws.{entries_most, inner_count, inner_few, slot_entry}
 use Rattle.lists.specs.Judges.{faults, passes}
 use Rattle.sound_links.proofs.MarkLaws.{going_done, going_grown, going_ready, going_skip, going_start, no_entries}
-use Rattle.sound_faults.specs.ViewLaws.{view_level}
+use Rattle.sound_faults.proofs.ViewLaws.{view_level}
 use Rattle.sound_links.specs.Marks.{Follows, Going, Grown, Ready}
 use borrow.Author.Rules.{rules}
 use lib.ListN.{get_or, length-set, set}

@@ -4,7 +4,7 @@ use native.Mathlib.Omega.{arith}
 use Rattle.lists.specs.Judges.{judge_eq}
 use Rattle.lists.specs.Judges.{Judges}
 use Rattle.pagestore.specs.Store.{view_of, level_of}
-use Rattle.sound_faults.specs.ViewLaws.{view_level}
+use Rattle.sound_faults.proofs.ViewLaws.{view_level}
 use Rattle.sound_faults.specs.Faults.{FailsAt}
 use Rattle.sound_links.proofs.MarkLaws.{root_fails}
 use borrow.Author.Rules.{rules}

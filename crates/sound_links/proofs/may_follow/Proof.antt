@@ -4,7 +4,7 @@ use native.Mathlib.Omega.{arith}
 use Rattle.lists.specs.Judges.{judge_le}
 use Rattle.lists.specs.Judges.{Judges}
 use borrow.Author.Tests.{not-true, not-false}
-use Rattle.sound_faults.specs.ViewLaws.{page_of_law, page_out, view_level, view_fill}
+use Rattle.sound_faults.proofs.ViewLaws.{page_of_law, page_out, view_level, view_fill}
 use borrow.Author.Rules.{rules}
 use Rattle.sound_links.proofs.may_follow.Statement.{statement}
 use Rattle.sound_links.proofs.may_follow.Tie as tie

@@ -4,7 +4,7 @@ use Rattle.sound_faults.specs.Linked.{EntryFine}
 use Rattle.pagestore_page.specs.Layout.{no_entry}
 use Rattle.pagestore.specs.Store.{inner_at, view_of}
 use Rattle.pagestore_page.specs.declared.Entry.{Entry}
-use Rattle.sound_faults.specs.ViewLaws.{entries_most, inner_count, inner_few, slot_entry}
+use Rattle.sound_faults.proofs.ViewLaws.{entries_most, inner_count, inner_few, slot_entry}
 use Rattle.sound_pages.proofs.EntryLaws.{named_before, named_done, named_step}
 use Rattle.lists.specs.Judges.{faults, passes}
 use Rattle.lists.specs.Judges.{Judges}

@@ -1,11 +1,11 @@
 use Prim.Native.Nat.{◌<◌, ℕ}
-use Rattle.sound_faults.specs.Assembled.{reached_page}
+use Rattle.sound_faults.proofs.Assembled.{reached_page}
 use Rattle.sound_faults.specs.Faults.{EntryFault}
 use Rattle.pagestore.specs.Store.{level_of, view_of}
 use Rattle.sound_pages.proofs.EndsLaws.{ends_fault, first_right, last_right}
 use Rattle.sound_pages.proofs.EntryLaws.{mark_level, mark_other, mark_reached, past_fresh, reached_fill}
 use Rattle.lists.specs.Judges.{judge_map}
-use Rattle.sound_faults.specs.ViewLaws.{view_level}
+use Rattle.sound_faults.proofs.ViewLaws.{view_level}
 use Rattle.lists.specs.Judges.{Judges}
 use Rattle.sound_links.specs.Marks.{Marked}
 use borrow.Author.Rules.{rules}

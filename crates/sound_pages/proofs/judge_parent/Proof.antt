@@ -1,6 +1,6 @@
 use Prim.Native.Nat.{◌<◌, ◌≤◌, ℕ}
 use Rattle.sound_pages.proofs.EntryLaws.{named_below}
-use Rattle.sound_faults.specs.ViewLaws.{view_level}
+use Rattle.sound_faults.proofs.ViewLaws.{view_level}
 use Rattle.lists.specs.Judges.{Judges}
 use borrow.Author.Rules.{rules}
 use lib.ListN.{get_or}

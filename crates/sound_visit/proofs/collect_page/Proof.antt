@@ -1,8 +1,8 @@
 use Prim.Native.Nat.{ℕ}
 use Rattle.pagestore.specs.Store.{leaf_at, level_at, view_of}
 use Rattle.pagestore.specs.Store.RangeLaws.{pages_few}
-use Rattle.sound_faults.specs.ViewLaws.{leaf_few}
-use Rattle.sound_faults.specs.ViewLaws.{view_level}
+use Rattle.sound_faults.proofs.ViewLaws.{leaf_few}
+use Rattle.sound_faults.proofs.ViewLaws.{view_level}
 use Rattle.sound_visit.proofs.CollectLaws.{gathered_full, gathered_more, gathered_none, leaf_count_law, leaf_joined, other_pairs}
 use borrow.Author.Rules.{rules}
 use lib.ListN.{get_or}

@@ -10,7 +10,7 @@ use Rattle.pagestore.specs.Store.{Page, leaf, inner, level_of, fill_of, records_
 use Rattle.pagestore.specs.Store.PageLaws.{leaf_page, inner_page, page_fill, page_level, leaf_counts, inner_counts, entries_slots}
 use Rattle.pagestore.specs.Store.RangeLaws.{range_low, range_high, range_is, range_whole}
 use Rattle.sound_faults.specs.Faults.{IsPage, Reached}
-use Rattle.sound_faults.specs.Assembled.{fill_most}
+use Rattle.sound_faults.proofs.Assembled.{fill_most}
 use Rattle.sound_faults.specs.Stored.{Counted, view_stored}
 use Rattle.sound_faults.specs.Prefixes.{take_spot}
 

@@ -22,7 +22,7 @@ use Rattle.tree_model.specs.TreeLaws.{fill_node, rep_level, no_pages_law, concat
 use Rattle.tree_model.specs.Sound.{is_page, fresh_pages, Filled, RootFilled, RecordOk, Sound}
 use Rattle.sound_faults.specs.Faults.{IsPage, Freed, Fresh, RootFill, first_key_in, last_key_in, ranks_in, Reached, EntryAt, RecordAt, EntryFault, FailsAt}
 use Rattle.sound_faults.specs.Shapes.{child_of, kids, idents, ranks, item_ranks, named_once, indicator_same, root_is, records_held, first_node, last_node, asc_node}
-use Rattle.sound_faults.specs.Assembled.{is_page_law}
+use Rattle.sound_faults.proofs.Assembled.{is_page_law}
 
 page_is : (v : View) (q : ℕ) → 0 < indicator (is_page v q) → IsPage v q
 page_is v q h =

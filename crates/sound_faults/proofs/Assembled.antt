@@ -1,5 +1,5 @@
 -- Where no link is faulty, the followed pages hold the tree, each just once. With what each page shows by itself, that is soundness.
-use Rattle.std.specs.Prelude.{◌≡◌, ◌≢◌, ◌⊎◌, ltb}
+use Rattle.std.specs.Prelude.{◌≡◌, ◌≢◌, ltb}
 use Rattle.std.proofs.Math.Path.{refl, sym, ap, subst}
 use Rattle.std.proofs.Common.{◌∙◌, ⊎_elim, arith, ltb-true, ltb-false, lt-ltb, le-ltb, ne_eqb}
 use mathlib.Core.List.{List, [], ◌∷◌, ◌++◌, map}

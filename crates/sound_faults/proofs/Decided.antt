@@ -1,5 +1,5 @@
 -- check-sound, the theory: an index of a permitted length is sound exactly if it fails at no page.
-use Rattle.std.specs.Prelude.{◌≡◌, ◌⊎◌, List, map, ℕ, suc, ◌*◌, ◌≤◌, ◌<◌, ltb, leb, length, take}
+use Rattle.std.specs.Prelude.{◌≡◌, List, map, ℕ, suc, ◌*◌, ◌≤◌, ◌<◌, ltb, leb, length, take}
 use Rattle.std.proofs.Common.{ap, inl, inr, ⊎_elim, arith, ltb-true, ltb-false, leb-true, leb-false}
 use Rattle.lists.specs.Ascending.{Ascending}
 use Rattle.lists.specs.AscendingLaws.{ascends?}
@@ -15,9 +15,9 @@ use Rattle.tree_model.specs.Sound.{Permitted, RecordOk, Sound, SoundIndex}
 use Rattle.sound_faults.specs.Faults.{IsPage, Features, Freed, RootFill, first_key_in, last_key_in, ranks_in, Rooted, Reached, EntryAt, EntryFault, NoFault, FailsAt}
 use Rattle.sound_faults.specs.Stored.{Stored, view_stored}
 use Rattle.sound_faults.specs.Linked.{HeaderFine, FreedFine, Grounded, EntryFine, Linked, PageFine, InState}
-use Rattle.sound_faults.specs.Assembled.{linked_sound, tree_followed, live_idents}
+use Rattle.sound_faults.proofs.Assembled.{linked_sound, tree_followed, live_idents}
 use Rattle.sound_faults.specs.Repeated.{twice_fails}
-use Rattle.sound_faults.specs.Refuted.{sound_fails}
+use Rattle.sound_faults.proofs.Refuted.{sound_fails}
 
 -- ---- WHAT IS NOT NOT SO
 

@@ -1,0 +1,4 @@
+pub mod Assembled
+pub mod ViewLaws
+pub mod Refuted
+pub mod Decided
