@@ -7,7 +7,7 @@ use native.Mathlib.Omega.{arith}
 use lib.Dec.{ltb, eqb}
 use lib.ListN.{length, get_or, take, length-append}
 use borrow.Author.Tests.{eq-eqb, ne_eqb, ltb-true, ltb-false}
-use Rattle.lists.specs.Basics.{indicator, if, none, concat_map, concat_map_append}
+use Rattle.lists.specs.Basics.{indicator, if, concat_map, concat_map_append}
 use Rattle.lists.specs.Ascending.{Ascending, one, head_or, last_or, last_append}
 use Rattle.lists.specs.AscendingLaws.{head_no, last_no, asc_append, asc_cross}
 use Rattle.lists.specs.ConcatMapLaws.{map_append}

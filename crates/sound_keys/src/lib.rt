@@ -1,5 +1,6 @@
 // A page judged by itself, for the check: are its records in range, and do its keys ascend?
 #![tactic(auto)]
+
 mod keys;
 mod leads;
 
