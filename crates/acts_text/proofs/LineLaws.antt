@@ -283,7 +283,7 @@ bits_all (also {x = z} {xs = zs} h t) = ap (λ (x : ℤ). x ∷ map of_bits (map
 
 bits_room : {j : ℕ} {zs : List ℤ} → leading ≤ j → All Coordinate zs → RoomFrom j (map bits_of zs)
 bits_room g none = done
-bits_room {j} g (also {x = z} h t) = let p : bits_of z < cell_room j = rw (wide_room j g) (bits_fit z h) in next p (bits_room (omega arith) t)
+bits_room {j} g (also {x = z} h t) = let p : bits_of z < cell_room j = rw (wide_room j g) (bits_fit z h) in next p (bits_room {j = j + 1} (omega arith) t)
 
 -- the leading values of a line
 abbrev leads : ActLine → Lead

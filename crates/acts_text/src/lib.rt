@@ -1,6 +1,7 @@
 // The acts text (01, "The acts program"): reads the line of names and the lines of values, and cuts input into lines.
 // Every function takes any bytes; one that writes asks only for room in the lent buffer.
 #![tactic(auto)]
+
 use lines::MAX_FEATURES;
 
 pub mod input;
