@@ -159,8 +159,8 @@ days_reach dates c s d =
 -- and all dates of the calendar reach the others
 pub widest : (s : ℕ) → InDays all_dates s ↔ ((43200 ≤ s) × (s < 3155803200))
 widest s = (
-  λ d. let w = window_from all_dates first_in last_in s d in (omega (arith, w.0, first_day), omega (arith, w.1, last_day)),
-  λ h. window_to all_dates first_in last_in s (omega (arith, h.0, first_day)) (omega (arith, h.1, last_day)),
+  λ d. let w = window_from all_dates first_in last_in s d in (omega (arith, w.0, first_day), omega (arith, w.1, number_in last_date last_in, number_last)),
+  λ h. window_to all_dates first_in last_in s (omega (arith, h.0, first_day)) (omega (arith, h.1, number_in last_date last_in, number_last)),
 )
 
 -- ---- EXAMPLES
