@@ -19,7 +19,7 @@ use Rattle.tree_model.specs.Trees.{Item, first_key, last_key, leaves_of, point_i
 use Rattle.tree_model.specs.Sound.{Permitted, SoundIndex}
 use Rattle.search_theory.specs.Nearest.{nearest, in_set}
 use Rattle.search_rows.specs.Rows.{distance, newest_tie}
-use Rattle.search_rows.specs.RowLaws.{sort_tied}
+use Rattle.search_rows.proofs.RowLaws.{sort_tied}
 use Rattle.search_model.specs.Numbers.{max_level}
 use Rattle.search_model.specs.Asked.{distance_to, candidate}
 use Rattle.search_model.specs.Branches.{row_of, rows_among}

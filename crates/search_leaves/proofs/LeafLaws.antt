@@ -28,7 +28,7 @@ use Rattle.tree.proofs.CountLaws.{items_next, items_end}
 use Rattle.search_rows.specs.declared.Row.{Row}
 use Rattle.search_rows.specs.Rows.{row_order}
 use Rattle.search_rows.specs.Held.{rows_of, rows_in, behind_all, Held, Offered}
-use Rattle.search_rows.specs.RowLaws.{row_order_law}
+use Rattle.search_rows.proofs.RowLaws.{row_order_law}
 use Rattle.search_rows.proofs.HeldLaws.{offered_behind}
 use Rattle.search_model.specs.declared.Choice.{Choice}
 use Rattle.search_model.specs.Asked.{Asked, distance_to, candidate, asking, asking_point}

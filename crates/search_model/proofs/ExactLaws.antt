@@ -18,7 +18,7 @@ use Rattle.search_theory.proofs.Promises as flatly
 use Rattle.search_rows.specs.declared.Row.{Row}
 use Rattle.search_theory.specs.Marks.{Strict}
 use Rattle.search_rows.specs.Rows.{newest_first}
-use Rattle.search_rows.specs.RowLaws.{row_order_law, of_id, Distinct, nearest_by_stamp, candidates_strict}
+use Rattle.search_rows.proofs.RowLaws.{row_order_law, of_id, Distinct, nearest_by_stamp, candidates_strict}
 use Rattle.pagestore_page.specs.declared.Record.{Record}
 use Rattle.pagestore.specs.Store.{level, total, View, view_of, field_at}
 use Rattle.tree_model.specs.Trees.{Item, leaves, tree_of, leaves_of, ident_of, live}

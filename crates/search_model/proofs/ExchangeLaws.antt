@@ -17,7 +17,7 @@ use Rattle.lists.specs.Lengths.{length_none}
 use Rattle.search_theory.specs.Nearest.{nearest, in_set, Floor}
 use Rattle.search_theory.proofs.Promises as flatly
 use Rattle.search_rows.specs.declared.Row.{Row}
-use Rattle.search_rows.specs.RowLaws.{row_order_law}
+use Rattle.search_rows.proofs.RowLaws.{row_order_law}
 use Rattle.pagestore_page.specs.declared.Record.{Record}
 use Rattle.pagestore.specs.Store.{view_of}
 use Rattle.tree_model.specs.Trees.{Item, key_of, first_key, last_key, leaves, leaves_of}

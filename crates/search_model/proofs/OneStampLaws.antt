@@ -13,7 +13,7 @@ use Rattle.lists.specs.ConcatMapLaws.{all_mapped}
 use Rattle.search_theory.specs.Nearest.{nearest, in_set, kth}
 use Rattle.search_rows.specs.declared.Row.{Row}
 use Rattle.search_rows.specs.Rows.{distance, stamp}
-use Rattle.search_rows.specs.RowLaws.{one_stamp, tie_idle}
+use Rattle.search_rows.proofs.RowLaws.{one_stamp, tie_idle}
 use Rattle.pagestore.specs.Store.{View, view_of}
 use Rattle.tree_model.specs.Trees.{Item, tree_of, live, leaves_of}
 use Rattle.tree_model.specs.Sound.{SoundIndex}

@@ -20,9 +20,9 @@ use Rattle.lists.specs.Orders.{lower, by_lower, by_equal, by_higher_law}
 use Rattle.search_theory.specs.Nearest.{kth}
 use Rattle.search_theory.specs.Nearest as nearest
 use Rattle.search_rows.specs.declared.Row.{Row}
-use Rattle.search_rows.specs.Rows.{distance, stamp, id, position, row_order, id_order, tie_order, age, high_of, low_of, distance_in, row_of, by_distance, FitsWords}
+use Rattle.search_rows.specs.Rows.{distance, id, position, row_order, id_order, tie_order, age, high_of, low_of, distance_in, row_of, by_distance, FitsWords}
 use Rattle.search_rows.specs.Held.{rows_of, rows_in, behind_all, GivesWay, Held, Offered}
-use Rattle.search_rows.specs.RowLaws.{row_order_law, later, as_late, earlier}
+use Rattle.search_rows.proofs.RowLaws.{row_order_law, later, as_late, earlier}
 
 -- ---- comparing
 

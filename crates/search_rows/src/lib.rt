@@ -1,5 +1,6 @@
 // The candidates of a question: the best rows so far, in row order, held in two lent arrays.
 #![tactic(auto)]
+
 ghost use Rattle.std.specs.Prelude.{◌≡◌, ◌+◌, ◌≤◌, length};
 ghost use Rattle.search_rows.specs.Rows.{row_order, row_of, age_of, high_of, low_of, distance_in, FitsWords};
 ghost use Rattle.search_rows.specs.Held.{behind_all, GivesWay, Held, Offered};
