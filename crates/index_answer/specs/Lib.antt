@@ -1,4 +1,3 @@
 pub mod Tallies
 pub mod Filling
-pub mod FillingLaws
 pub mod Delivered

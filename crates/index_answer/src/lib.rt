@@ -1,5 +1,6 @@
 // What a caller lends to a question: a run of rows, and a tally. Both are changed by thin functions; the rest works on values and shared slices.
 #![tactic(auto)]
+
 ghost use Rattle.std.specs.Prelude.{◌≡◌, ◌<◌, min, length};
 ghost use Rattle.index_answer.specs.Tallies.{saturated, counted};
 ghost use Rattle.index_answer.specs.Filling.{row_at, rows_lent, filled};

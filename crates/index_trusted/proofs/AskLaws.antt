@@ -7,7 +7,7 @@ use native.Mathlib.Omega.{arith}
 use lib.ListN.{length}
 use Rattle.pagestore.specs.Store.{view_of}
 use Rattle.search_rows.specs.Held.{rows_in}
-use Rattle.index_answer.specs.FillingLaws.{rows_held}
+use Rattle.index_answer.proofs.FillingLaws.{rows_held}
 use Rattle.search.specs.declared.Query.{Query}
 use Rattle.search.specs.declared.Seen.{Seen}
 use Rattle.search_model.specs.Asked.{Asked}

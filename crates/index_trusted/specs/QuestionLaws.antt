@@ -10,7 +10,7 @@ use Rattle.index_answer.specs.declared.Answer.{Answer}
 use Rattle.index_answer.specs.declared.Tally.{Tally}
 use Rattle.index_answer.specs.Tallies.{counted}
 use Rattle.index_answer.specs.Filling.{filled}
-use Rattle.index_answer.specs.FillingLaws.{filled_is}
+use Rattle.index_answer.proofs.FillingLaws.{filled_is}
 use Rattle.index_answer.specs.Delivered.{Delivered}
 use Rattle.index_query.specs.Asking.{Question, sought}
 use Rattle.index_refusals.specs.Refusals.{Rule, First}
