@@ -1,5 +1,5 @@
 -- Marks of pages: those that are followed, and those that are freed.
-use Rattle.std.specs.Prelude.{◌≡◌, List, [], ◌∷◌, ◌++◌, ℕ, zero, suc, ◌+◌, ◌-◌, ◌≤◌, ◌<◌, eqb, length, get_or}
+use Rattle.std.specs.Prelude.{◌≡◌, List, [], ◌∷◌, ◌++◌, ℕ, zero, suc, ◌-◌, ◌≤◌, ◌<◌, eqb, length, get_or}
 use Rattle.lists.specs.Basics.{if}
 use Rattle.lists.specs.Counts.{mult}
 use Rattle.lists.specs.Members.{At}

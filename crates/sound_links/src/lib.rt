@@ -1,5 +1,6 @@
 // Links between pages, for the check: the header, the freed chain, the root, and the pages that are followed from it.
 #![tactic(auto)]
+
 ghost use Rattle.std.specs.Prelude.{◌≡◌, suc, ◌≤◌};
 ghost use Rattle.pagestore.specs.Store.{view_of, page_at};
 ghost use Rattle.sound_faults.specs.Faults.{RootFill, FailsAt};
