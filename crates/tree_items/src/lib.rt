@@ -1,5 +1,6 @@
 // Items gathered one after the other, up to one more than a page holds, and made into pages.
 #![tactic(auto)]
+
 use pagestore::{Entry, MAX_ITEMS, MIN_ITEMS, Record};
 
 mod items;
