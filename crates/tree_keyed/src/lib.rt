@@ -1,5 +1,6 @@
 // Whether an index holds a record where its key leads. Each function is total, whatever the index holds.
 #![tactic(auto)]
+
 mod keyed;
 
 pub use keyed::holds;
