@@ -11,7 +11,7 @@ use Rattle.pagestore.specs.Store.PageLaws.{SamePage, page_bytes}
 use Rattle.tree_model.specs.Sound.{Permitted, SoundIndex}
 use Rattle.tree_laws.specs.Wholes.{tree_pages}
 use Rattle.tree_laws.specs.DeletePromises.{delete_ident, pages_given, delete_length, delete_pages, delete_others, delete_unused}
-use Rattle.tree_laws.specs.SpacePromises.{pages_given_law}
+use Rattle.tree_laws.proofs.SpacePromises.{pages_given_law}
 use Rattle.search_model.specs.Visit.{Answer as Found}
 use Rattle.search_model.specs.Questions.{AgreeBut}
 use Rattle.index_query.specs.Asking.{Question}

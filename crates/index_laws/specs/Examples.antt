@@ -17,7 +17,8 @@ use Rattle.index_query.specs.Asking.{Question, nearest_of}
 use Rattle.index_refusals.specs.Refusals.{First, question_rules}
 use Rattle.index_refusals.specs.RefusalLaws.{none_fails, Carried, carried_asked}
 use Rattle.index_refusals.specs.Outcomes.{found_with}
-use Rattle.tree_laws.specs.UpwardExample.{upward, seventeen_sound, seventeen_features, seventeen_leaves}
+use Rattle.tree_laws.specs.UpwardExample.{upward}
+use Rattle.tree_laws.proofs.UpwardExample.{seventeen_sound, seventeen_features, seventeen_leaves}
 
 -- a pyramid, a height or a bound; a question of the index 1..17
 pub data Example : Type 0 where

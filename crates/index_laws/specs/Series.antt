@@ -11,7 +11,8 @@ use Rattle.tree_model.specs.Inserting.{insert_record}
 use Rattle.tree_core.specs.Deletion.{delete_from}
 use Rattle.tree_model.specs.Deleting.{delete_record}
 use Rattle.tree_core.specs.Lookup.{find_in}
-use Rattle.tree_laws.specs.InsertPromises.{MayInsert, insert_sound, insert_live, insert_features}
+use Rattle.tree_laws.specs.InsertPromises.{MayInsert}
+use Rattle.tree_laws.proofs.InsertPromises.{insert_sound, insert_live, insert_features}
 use Rattle.tree_laws.specs.DeletePromises.{delete_sound, delete_live, delete_features}
 use Rattle.tree_laws.specs.NewPromises.{new_sound, new_live, new_features}
 use Rattle.search_model.specs.Visit.{Answer as Found}

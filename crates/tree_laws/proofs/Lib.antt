@@ -1,0 +1,4 @@
+pub mod InsertPromises
+pub mod ChildPromises
+pub mod SpacePromises
+pub mod UpwardExample
