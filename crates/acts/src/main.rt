@@ -1,8 +1,8 @@
 // The acts program (01): runs the acts of a text, read from standard input, on a 64-page index, and writes what they print to standard
 // output.
 #![tactic(auto)]
+
 ghost use Rattle.std.specs.Prelude.{◌≡◌, ◌≤◌, length};
-ghost use Rattle.io.specs.Counts.{IsPrefixLen};
 ghost use Rattle.acts_output.specs.Puts.{most_printed};
 ghost use Rattle.acts_step.specs.Steps.{index_bytes};
 ghost use Rattle.acts.specs.Running.{Fits, Ran, UsedUp, Taken, Closed, Whole};
@@ -10,7 +10,10 @@ ghost use Rattle.acts.specs.Running.{Fits, Ran, UsedUp, Taken, Closed, Whole};
 use acts_buffer::{Progress, flush, has_room, make_room, placed};
 use acts_step::{end_input, take_line};
 use acts_text::input::KEPT;
-use libc::STDIN_FILENO;
+use std::io::Read;
+
+// The bytes of each large buffer: of the index, of a chunk of input and of the output.
+const BUFFER: usize = 65536;
 
 // Does the lines that end in a chunk, from `s.at` on, as far as there is room for what they print.
 fn run_chunk(
@@ -32,14 +35,21 @@ fn run_chunk(
 }
 
 // Does all lines that end in a chunk, and hands over what they print where there is no room for more.
-fn use_up(index: &mut [u8], held: &mut [u8], chunk: &[u8], out: &mut [u8], s: Progress) -> Progress
+fn use_up(
+    rt: &impl Print,
+    index: &mut [u8],
+    held: &mut [u8],
+    chunk: &[u8],
+    out: &mut [u8],
+    s: Progress,
+) -> Progress
     requires { Fits index.old held.old out.old s }
     ensures { UsedUp index.old held.old chunk.now out.old s
         index.new held.new out.new result }
 {
     let mut t = placed(s, s.going, 0, s.end);
     while t.going && t.at < chunk.len() {
-        let u = make_room(out, t);
+        let u = make_room(rt, out, t);
         if !u.going {
             return u;
         }
@@ -49,15 +59,16 @@ fn use_up(index: &mut [u8], held: &mut [u8], chunk: &[u8], out: &mut [u8], s: Pr
 }
 
 // Reads once; a read that fails ends the input.
-fn read_chunk(chunk: &mut [u8]) -> usize
-    ensures { IsPrefixLen result chunk.new }
+fn read_chunk(rt: &impl Input, chunk: &mut [u8]) -> usize
+    ensures { result ≤ length chunk.new }
 {
-    let got = libc::read(STDIN_FILENO, chunk);
-    io::count(got, chunk)
+    let mut input = rt.reader();
+    input.read(chunk).unwrap_or(0)
 }
 
 // Reads and runs to the end of input. The loop counts its turns down, from a number that no run uses up.
 fn run_input(
+    rt: &(impl Input + Print),
     index: &mut [u8],
     held: &mut [u8],
     chunk: &mut [u8],
@@ -71,25 +82,25 @@ fn run_input(
     let mut t = s;
     let mut turns = u64::MAX;
     while turns > 0 && t.going {
-        let n = read_chunk(chunk);
+        let n = read_chunk(rt, chunk);
         if n == 0 {
             return t;
         }
-        t = use_up(index, held, &chunk[..n], out, t);
+        t = use_up(rt, index, held, &chunk[..n], out, t);
         turns -= 1;
     }
     t
 }
 
 // The end of input ends a last line, unless the run has ended before.
-fn close(index: &mut [u8], held: &[u8], out: &mut [u8], s: Progress) -> Progress
+fn close(rt: &impl Print, index: &mut [u8], held: &[u8], out: &mut [u8], s: Progress) -> Progress
     requires { Fits index.old held.now out.old s }
     ensures { Closed index.old held.now out.old s index.new out.new result }
 {
     if !s.going {
         return s;
     }
-    let t = make_room(out, s);
+    let t = make_room(rt, out, s);
     if !t.going {
         return t;
     }
@@ -97,7 +108,13 @@ fn close(index: &mut [u8], held: &[u8], out: &mut [u8], s: Progress) -> Progress
 }
 
 // A whole run, from its first line to the end of input. What is left in `out` is still to be written.
-fn run(index: &mut [u8], held: &mut [u8], chunk: &mut [u8], out: &mut [u8]) -> Progress
+fn run(
+    rt: &(impl Input + Print),
+    index: &mut [u8],
+    held: &mut [u8],
+    chunk: &mut [u8],
+    out: &mut [u8],
+) -> Progress
     requires { (length index.old ≡ index_bytes) × (257 ≤ length held.old) × (most_printed ≤ length out.old) }
     ensures { Whole index.old held.old out.old index.new out.new result }
 {
@@ -109,15 +126,15 @@ fn run(index: &mut [u8], held: &mut [u8], chunk: &mut [u8], out: &mut [u8]) -> P
         at: 0,
         end: 0,
     };
-    let t = run_input(index, held, chunk, out, s);
-    close(index, held, out, t)
+    let t = run_input(rt, index, held, chunk, out, s);
+    close(rt, index, held, out, t)
 }
 
-fn main() {
-    let mut index = io::large_buffer();
-    let mut chunk = io::large_buffer();
-    let mut out = io::large_buffer();
+fn main(rt: HostRuntime) {
+    let mut index = [0u8; BUFFER];
+    let mut chunk = [0u8; BUFFER];
+    let mut out = [0u8; BUFFER];
     let mut held = [0u8; KEPT];
-    let r = run(&mut index, &mut held, &mut chunk, &mut out);
-    flush(&out, r);
+    let r = run(&rt, &mut index, &mut held, &mut chunk, &mut out);
+    flush(&rt, &out, r);
 }

@@ -1,11 +1,11 @@
 // Where a run of the acts program stands, and its output buffer: room made for what a line prints, by handing over what stands there.
 #![tactic(auto)]
-ghost use Rattle.std.specs.Prelude.{◌≡◌, true, false, ◌≤◌, length};
+
+ghost use Rattle.std.specs.Prelude.{◌≡◌, true, false, ◌≤◌, ◌<◌, length};
 ghost use Rattle.acts_output.specs.Puts.{most_printed};
 ghost use Rattle.acts_buffer.specs.Room.{Placed, Flushed, Open, Full, Cleared};
 
 use acts_output::MAX_PRINTED;
-use libc::STDOUT_FILENO;
 
 // The last number that a line may have; no input comes to it.
 const LAST: u64 = 18446744073709551614;
@@ -37,12 +37,12 @@ pub fn placed(s: Progress, going: bool, at: usize, end: usize) -> Progress
 }
 
 // Hands over what is printed, to be written. Where that fails the run does not go on.
-pub fn flush(out: &[u8], s: Progress) -> Progress
+pub fn flush(rt: &impl Print, out: &[u8], s: Progress) -> Progress
     requires { s.end ≤ length out.now }
     ensures { Flushed s result }
 {
     let end = s.end;
-    let is_written = io::write_all(STDOUT_FILENO, &out[..end]);
+    let is_written = rt.write_all(&out[..end]).is_ok();
     placed(s, s.going && is_written, s.at, 0)
 }
 
@@ -57,17 +57,25 @@ pub fn has_room(s: Progress, space: usize) -> bool
     MAX_PRINTED <= space - s.end
 }
 
+// Ends a run whose next line has no number; any other stays as it is.
+fn ended_if_last(t: Progress) -> Progress
+    ensures stays { t.number < 18446744073709551615 → result ≡ t }
+    ensures ends { 18446744073709551615 ≤ t.number → Placed t false t.at 0 result }
+{
+    if LAST < t.number {
+        return placed(t, false, t.at, 0);
+    }
+    t
+}
+
 // Makes room for a line. Where it has no number the run does not go on.
-pub fn make_room(out: &[u8], s: Progress) -> Progress
+#[tactic(auto, using(crate::proofs::RoomLaws::flush_makes, crate::proofs::RoomLaws::flush_ends))]
+pub fn make_room(rt: &impl Print, out: &[u8], s: Progress) -> Progress
     requires { (s.end ≤ length out.now) × (most_printed ≤ length out.now) }
     ensures { Cleared out.now s result }
 {
     if has_room(s, out.len()) {
         return s;
     }
-    let t = flush(out, s);
-    if LAST < t.number {
-        return placed(t, false, t.at, 0);
-    }
-    t
+    ended_if_last(flush(rt, out, s))
 }

@@ -8,14 +8,15 @@ use test_parts::show::line;
 // The bytes of the shortest index: 2 pages.
 pub const SHORTEST: usize = 2048;
 
-pub fn made(what: &[u8], d: u8) -> [u8; SHORTEST] {
+pub fn made(rt: &impl Print, what: &[u8], d: u8) -> [u8; SHORTEST] {
     let mut bytes = [0u8; SHORTEST];
-    line(what, index::make(&mut bytes, d) as u64, 0);
+    line(rt, what, index::make(&mut bytes, d) as u64, 0);
     bytes
 }
 
 // An insert with stage 0.
 pub fn insert(
+    rt: &impl Print,
     index: [u8; SHORTEST],
     what: &[u8],
     id: u32,
@@ -28,7 +29,7 @@ pub fn insert(
         stamp: stamp,
     };
     let mut bytes = index;
-    line(what, index::insert(&mut bytes, epoch, point) as u64, 0);
+    line(rt, what, index::insert(&mut bytes, epoch, point) as u64, 0);
     bytes
 }
 

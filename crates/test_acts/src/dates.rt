@@ -42,18 +42,18 @@ pub fn within(k: usize, stages: u8, first: Date, last: Date) -> Criteria {
 }
 
 // As in 2000-2-29.
-fn show_date(date: Date) {
-    number(date.year as u64);
-    text(b"-");
-    number(date.month as u64);
-    text(b"-");
-    number(date.day as u64);
+fn show_date(rt: &impl Print, date: Date) {
+    number(rt, date.year as u64);
+    text(rt, b"-");
+    number(rt, date.month as u64);
+    text(rt, b"-");
+    number(rt, date.day as u64);
 }
 
-pub fn show_dates(first: Date, last: Date) {
-    show_date(first);
-    text(b" to ");
-    show_date(last);
+pub fn show_dates(rt: &impl Print, first: Date, last: Date) {
+    show_date(rt, first);
+    text(rt, b" to ");
+    show_date(rt, last);
 }
 
 // A question in rows lent, without weights.
@@ -63,104 +63,104 @@ pub fn ask_from(index: &[u8], point: &[i16], asked: Criteria) -> Returned {
 }
 
 // The code of a question for one record.
-fn try_dates(index: &[u8], first: Date, last: Date, said: u64) {
+fn try_dates(rt: &impl Print, index: &[u8], first: Date, last: Date, said: u64) {
     let point = [0i16, 0];
     let none = [0u16; 0];
-    show_dates(first, last);
+    show_dates(rt, first, last);
     let answer = answer_to(index, &point, &none, within(1, FULL_SET, first, last), 64);
-    dated(b"", answer.code as u64, said);
+    dated(rt, b"", answer.code as u64, said);
 }
 
 // A date as the first and as the last.
-fn try_date(index: &[u8], year: u16, month: u8, day: u8, said: u64) {
+fn try_date(rt: &impl Print, index: &[u8], year: u16, month: u8, day: u8, said: u64) {
     let date = on(year, month, day);
-    try_dates(index, date, latest(), said);
-    try_dates(index, earliest(), date, said);
+    try_dates(rt, index, date, latest(), said);
+    try_dates(rt, index, earliest(), date, said);
 }
 
 // The last day of a month, and one more.
-fn try_month(index: &[u8], month: u8, days: u8)
+fn try_month(rt: &impl Print, index: &[u8], month: u8, days: u8)
     requires { days ≤ 31 }
 {
     let end = on(2001, month, days);
     let past = on(2001, month, days + 1);
-    try_dates(index, end, end, 0);
-    try_dates(index, past, past, 17);
+    try_dates(rt, index, end, end, 0);
+    try_dates(rt, index, past, past, 17);
 }
 
-fn refused_months(index: &[u8]) {
-    try_month(index, 1, 31);
-    try_month(index, 2, 28);
-    try_month(index, 3, 31);
-    try_month(index, 4, 30);
-    try_month(index, 5, 31);
-    try_month(index, 6, 30);
-    try_month(index, 7, 31);
-    try_month(index, 8, 31);
-    try_month(index, 9, 30);
-    try_month(index, 10, 31);
-    try_month(index, 11, 30);
-    try_month(index, 12, 31);
+fn refused_months(rt: &impl Print, index: &[u8]) {
+    try_month(rt, index, 1, 31);
+    try_month(rt, index, 2, 28);
+    try_month(rt, index, 3, 31);
+    try_month(rt, index, 4, 30);
+    try_month(rt, index, 5, 31);
+    try_month(rt, index, 6, 30);
+    try_month(rt, index, 7, 31);
+    try_month(rt, index, 8, 31);
+    try_month(rt, index, 9, 30);
+    try_month(rt, index, 10, 31);
+    try_month(rt, index, 11, 30);
+    try_month(rt, index, 12, 31);
 }
 
 // Leap days.
-fn refused_leaps(index: &[u8]) {
-    try_date(index, 2000, 2, 29, 0);
-    try_date(index, 2000, 2, 30, 17);
-    try_date(index, 2001, 2, 29, 17);
-    try_date(index, 2004, 2, 29, 0);
-    try_date(index, 2096, 2, 29, 0);
-    try_date(index, 2099, 2, 29, 17);
-    try_date(index, 2100, 2, 29, 17);
+fn refused_leaps(rt: &impl Print, index: &[u8]) {
+    try_date(rt, index, 2000, 2, 29, 0);
+    try_date(rt, index, 2000, 2, 30, 17);
+    try_date(rt, index, 2001, 2, 29, 17);
+    try_date(rt, index, 2004, 2, 29, 0);
+    try_date(rt, index, 2096, 2, 29, 0);
+    try_date(rt, index, 2099, 2, 29, 17);
+    try_date(rt, index, 2100, 2, 29, 17);
 }
 
 // Numbers that no date has, in the first and in the last.
-fn refused_numbers(index: &[u8]) {
-    try_date(index, 2001, 4, 31, 17);
-    try_date(index, 2001, 1, 0, 17);
-    try_date(index, 2001, 1, 255, 17);
-    try_date(index, 2001, 0, 1, 17);
-    try_date(index, 2001, 13, 1, 17);
-    try_date(index, 2001, 255, 1, 17);
-    try_date(index, 0, 0, 0, 17);
+fn refused_numbers(rt: &impl Print, index: &[u8]) {
+    try_date(rt, index, 2001, 4, 31, 17);
+    try_date(rt, index, 2001, 1, 0, 17);
+    try_date(rt, index, 2001, 1, 255, 17);
+    try_date(rt, index, 2001, 0, 1, 17);
+    try_date(rt, index, 2001, 13, 1, 17);
+    try_date(rt, index, 2001, 255, 1, 17);
+    try_date(rt, index, 0, 0, 0, 17);
 }
 
 // The ends of the calendar, and what lies outside.
-fn refused_years(index: &[u8]) {
-    try_date(index, 2000, 1, 1, 0);
-    try_date(index, 2099, 12, 31, 0);
-    try_date(index, 1999, 12, 31, 17);
-    try_date(index, 2100, 1, 1, 17);
-    try_date(index, 0, 1, 1, 17);
-    try_date(index, 65535, 12, 31, 17);
+fn refused_years(rt: &impl Print, index: &[u8]) {
+    try_date(rt, index, 2000, 1, 1, 0);
+    try_date(rt, index, 2099, 12, 31, 0);
+    try_date(rt, index, 1999, 12, 31, 17);
+    try_date(rt, index, 2100, 1, 1, 17);
+    try_date(rt, index, 0, 1, 1, 17);
+    try_date(rt, index, 65535, 12, 31, 17);
 }
 
 // The last before the first: by a day, a month, a year.
-fn refused_order(index: &[u8]) {
-    try_dates(index, on(2001, 5, 6), on(2001, 5, 5), 18);
-    try_dates(index, on(2001, 5, 6), on(2001, 4, 6), 18);
-    try_dates(index, on(2001, 5, 6), on(2000, 5, 6), 18);
-    try_dates(index, on(2001, 5, 1), on(2001, 4, 30), 18);
-    try_dates(index, on(2001, 1, 1), on(2000, 12, 31), 18);
-    try_dates(index, on(2000, 3, 1), on(2000, 2, 29), 18);
-    try_dates(index, latest(), earliest(), 18);
+fn refused_order(rt: &impl Print, index: &[u8]) {
+    try_dates(rt, index, on(2001, 5, 6), on(2001, 5, 5), 18);
+    try_dates(rt, index, on(2001, 5, 6), on(2001, 4, 6), 18);
+    try_dates(rt, index, on(2001, 5, 6), on(2000, 5, 6), 18);
+    try_dates(rt, index, on(2001, 5, 1), on(2001, 4, 30), 18);
+    try_dates(rt, index, on(2001, 1, 1), on(2000, 12, 31), 18);
+    try_dates(rt, index, on(2000, 3, 1), on(2000, 2, 29), 18);
+    try_dates(rt, index, latest(), earliest(), 18);
 }
 
 // The same date twice, or the last after the first, also where its month or day is a lower number.
-fn carried_out(index: &[u8]) {
-    try_dates(index, on(2001, 5, 6), on(2001, 5, 6), 0);
-    try_dates(index, on(2001, 5, 6), on(2001, 5, 7), 0);
-    try_dates(index, on(2001, 5, 6), on(2001, 6, 5), 0);
-    try_dates(index, on(2001, 5, 6), on(2002, 4, 5), 0);
-    try_dates(index, earliest(), latest(), 0);
+fn carried_out(rt: &impl Print, index: &[u8]) {
+    try_dates(rt, index, on(2001, 5, 6), on(2001, 5, 6), 0);
+    try_dates(rt, index, on(2001, 5, 6), on(2001, 5, 7), 0);
+    try_dates(rt, index, on(2001, 5, 6), on(2001, 6, 5), 0);
+    try_dates(rt, index, on(2001, 5, 6), on(2002, 4, 5), 0);
+    try_dates(rt, index, earliest(), latest(), 0);
 }
 
 // 17 comes before 18.
-fn refused_both(index: &[u8]) {
-    try_dates(index, on(2001, 2, 29), earliest(), 17);
-    try_dates(index, latest(), on(2001, 2, 29), 17);
-    try_dates(index, on(2001, 4, 31), on(2001, 2, 29), 17);
-    try_dates(index, on(2100, 1, 1), on(1999, 12, 31), 17);
+fn refused_both(rt: &impl Print, index: &[u8]) {
+    try_dates(rt, index, on(2001, 2, 29), earliest(), 17);
+    try_dates(rt, index, latest(), on(2001, 2, 29), 17);
+    try_dates(rt, index, on(2001, 4, 31), on(2001, 2, 29), 17);
+    try_dates(rt, index, on(2100, 1, 1), on(1999, 12, 31), 17);
 }
 
 // A question with weights that names dates.
@@ -171,6 +171,7 @@ pub fn weighing(k: usize, stages: u8, first: Date, last: Date) -> Criteria {
 }
 
 fn try_code(
+    rt: &impl Print,
     what: &[u8],
     index: &[u8],
     point: &[i16],
@@ -180,17 +181,27 @@ fn try_code(
     said: u64,
 ) {
     let answer = answer_to(index, point, weights, asked, lent);
-    dated(what, answer.code as u64, said);
+    dated(rt, what, answer.code as u64, said);
 }
 
 // Dates that are refused come after 3, 4 and 14.
-fn after_point(index: &[u8], first: Date, last: Date, said: u64) {
+fn after_point(rt: &impl Print, index: &[u8], first: Date, last: Date, said: u64) {
     let fine = [1u16, 1];
     let asked = weighing(1, FULL_SET, first, last);
-    try_code(b"  1 coordinate", index, &[0i16], &fine, asked, 64, 3);
-    try_code(b"  1 weight", index, &[0i16, 0], &[1u16], asked, 64, 3);
-    try_code(b"  from 1001", index, &[1001i16, 0], &fine, asked, 64, 4);
+    try_code(rt, b"  1 coordinate", index, &[0i16], &fine, asked, 64, 3);
+    try_code(rt, b"  1 weight", index, &[0i16, 0], &[1u16], asked, 64, 3);
     try_code(
+        rt,
+        b"  from 1001",
+        index,
+        &[1001i16, 0],
+        &fine,
+        asked,
+        64,
+        4,
+    );
+    try_code(
+        rt,
         b"  weight 1001",
         index,
         &[0i16, 0],
@@ -200,6 +211,7 @@ fn after_point(index: &[u8], first: Date, last: Date, said: u64) {
         14,
     );
     try_code(
+        rt,
         b"  none of these",
         index,
         &[0i16, 0],
@@ -211,28 +223,38 @@ fn after_point(index: &[u8], first: Date, last: Date, said: u64) {
 }
 
 // And after 10, 11 and 16.
-fn after_numbers(index: &[u8], first: Date, last: Date) {
+fn after_numbers(rt: &impl Print, index: &[u8], first: Date, last: Date) {
     let point = [0i16, 0];
     let fine = [1u16, 1];
     let no_k = weighing(0, FULL_SET, first, last);
-    try_code(b"  k 0", index, &point, &fine, no_k, 64, 10);
+    try_code(rt, b"  k 0", index, &point, &fine, no_k, 64, 10);
     let above = weighing(65, FULL_SET, first, last);
-    try_code(b"  k 65", index, &point, &fine, above, 100, 10);
+    try_code(rt, b"  k 65", index, &point, &fine, above, 100, 10);
     let three = weighing(3, FULL_SET, first, last);
-    try_code(b"  k 3, 2 rows lent", index, &point, &fine, three, 2, 11);
+    try_code(
+        rt,
+        b"  k 3, 2 rows lent",
+        index,
+        &point,
+        &fine,
+        three,
+        2,
+        11,
+    );
     let no_set = weighing(1, 0, first, last);
-    try_code(b"  set 0", index, &point, &fine, no_set, 64, 16);
+    try_code(rt, b"  set 0", index, &point, &fine, no_set, 64, 16);
     let seventh = weighing(1, 64, first, last);
-    try_code(b"  set 64", index, &point, &fine, seventh, 64, 16);
+    try_code(rt, b"  set 64", index, &point, &fine, seventh, 64, 16);
 }
 
 // And after 1 and 2.
-fn after_index(damaged: &[u8], first: Date, last: Date) {
+fn after_index(rt: &impl Print, damaged: &[u8], first: Date, last: Date) {
     let short = [0u8; SHORTEST - 1];
     let fine = [1u16, 1];
     let asked = weighing(1, FULL_SET, first, last);
-    try_code(b"  2047 bytes", &short, &[0i16, 0], &fine, asked, 64, 1);
+    try_code(rt, b"  2047 bytes", &short, &[0i16, 0], &fine, asked, 64, 1);
     try_code(
+        rt,
         b"  a damaged index",
         damaged,
         &[0i16, 0],
@@ -243,71 +265,71 @@ fn after_index(damaged: &[u8], first: Date, last: Date) {
     );
 }
 
-fn show_row(row: Row, id: u64, distance: u64) {
-    dated(b"  identifier of a row", row.id as u64, id);
-    dated(b"  its distance", row.distance, distance);
+fn show_row(rt: &impl Print, row: Row, id: u64, distance: u64) {
+    dated(rt, b"  identifier of a row", row.id as u64, id);
+    dated(rt, b"  its distance", row.distance, distance);
 }
 
 // A refused question leaves rows and tally as they are.
-fn refused_rows(index: &[u8], first: Date, last: Date, said: u64) {
+fn refused_rows(rt: &impl Print, index: &[u8], first: Date, last: Date, said: u64) {
     let kept = ask_from(index, &[0i16, 0], within(1, FULL_SET, first, last));
     let answer = kept.answer;
-    dated(b"  code, in rows lent", answer.code as u64, said);
-    dated(b"  rows", answer.count as u64, 0);
-    dated(b"  leaves read", answer.leaves as u64, 0);
-    show_tally(kept.tally, 0, 0);
+    dated(rt, b"  code, in rows lent", answer.code as u64, said);
+    dated(rt, b"  rows", answer.count as u64, 0);
+    dated(rt, b"  leaves read", answer.leaves as u64, 0);
+    show_tally(rt, kept.tally, 0, 0);
     let rows = kept.rows;
-    show_row(rows[0], 7, 7);
+    show_row(rt, rows[0], 7, 7);
 }
 
 // Dates that are refused, with all else that may be wrong.
-fn refused_last(index: &[u8], damaged: &[u8], first: Date, last: Date, said: u64) {
-    show_dates(first, last);
-    text(b"\n");
-    after_index(damaged, first, last);
-    after_point(index, first, last, said);
-    after_numbers(index, first, last);
-    refused_rows(index, first, last, said);
+fn refused_last(rt: &impl Print, index: &[u8], damaged: &[u8], first: Date, last: Date, said: u64) {
+    show_dates(rt, first, last);
+    text(rt, b"\n");
+    after_index(rt, damaged, first, last);
+    after_point(rt, index, first, last, said);
+    after_numbers(rt, index, first, last);
+    refused_rows(rt, index, first, last, said);
 }
 
 // The first row of a question without dates, with some handed over.
-fn try_disregarded(index: &[u8], first: Date, last: Date) {
+fn try_disregarded(rt: &impl Print, index: &[u8], first: Date, last: Date) {
     let mut asked = within(1, FULL_SET, first, last);
     asked.dated = false;
-    text(b"not given: ");
-    show_dates(first, last);
-    text(b"\n");
+    text(rt, b"not given: ");
+    show_dates(rt, first, last);
+    text(rt, b"\n");
     let kept = ask_from(index, &[0i16, 0], asked);
     let answer = kept.answer;
-    dated(b"  code", answer.code as u64, 0);
-    dated(b"  rows", answer.count as u64, 1);
+    dated(rt, b"  code", answer.code as u64, 0);
+    dated(rt, b"  rows", answer.count as u64, 1);
     let rows = kept.rows;
-    show_row(rows[0], 1, 1000000);
+    show_row(rt, rows[0], 1, 1000000);
 }
 
 // Dates that are not given are disregarded. The stamps here are 0, which lies in no day.
-fn disregarded(index: &[u8]) {
-    try_disregarded(index, earliest(), latest());
-    try_disregarded(index, latest(), earliest());
-    try_disregarded(index, on(2001, 2, 29), on(65535, 255, 255));
+fn disregarded(rt: &impl Print, index: &[u8]) {
+    try_disregarded(rt, index, earliest(), latest());
+    try_disregarded(rt, index, latest(), earliest());
+    try_disregarded(rt, index, on(2001, 2, 29), on(65535, 255, 255));
 }
 
-fn refusals(index: &[u8]) {
-    refused_months(index);
-    refused_leaps(index);
-    refused_numbers(index);
-    refused_years(index);
-    refused_order(index);
-    carried_out(index);
-    refused_both(index);
-    disregarded(index);
+fn refusals(rt: &impl Print, index: &[u8]) {
+    refused_months(rt, index);
+    refused_leaps(rt, index);
+    refused_numbers(rt, index);
+    refused_years(rt, index);
+    refused_order(rt, index);
+    carried_out(rt, index);
+    refused_both(rt, index);
+    disregarded(rt, index);
 }
 
 // On the index with three points at the ends of the ranges.
-pub fn run(index: [u8; SHORTEST]) {
-    text(b"dates\n");
-    refusals(&index);
+pub fn run(rt: &impl Print, index: [u8; SHORTEST]) {
+    text(rt, b"dates\n");
+    refusals(rt, &index);
     let damaged = damage(index);
-    refused_last(&index, &damaged, on(2001, 2, 29), latest(), 17);
-    refused_last(&index, &damaged, latest(), earliest(), 18);
+    refused_last(rt, &index, &damaged, on(2001, 2, 29), latest(), 17);
+    refused_last(rt, &index, &damaged, latest(), earliest(), 18);
 }

@@ -9,20 +9,21 @@ use test_parts::FULL_SET;
 use test_parts::answers::{show_answer, show_stamp};
 use test_parts::show::{line, ordered, text};
 
-fn delete(index: [u8; SHORTEST], what: &[u8], id: u32) -> [u8; SHORTEST] {
+fn delete(rt: &impl Print, index: [u8; SHORTEST], what: &[u8], id: u32) -> [u8; SHORTEST] {
     let mut bytes = index;
-    line(what, index::delete(&mut bytes, id) as u64, 0);
+    line(rt, what, index::delete(&mut bytes, id) as u64, 0);
     bytes
 }
 
 // Five points at distance 25, two of them with stamp 1, and a farther one with the latest stamp.
-fn filled() -> [u8; SHORTEST] {
-    let empty = made(b"make in 2048 bytes, d 2", 2);
-    let a = insert(empty, b"insert of 1 with stamp 0", 1, 0, &[3i16, -4]);
-    let b = insert(a, b"insert of 6 with stamp 1", 6, 1, &[3i16, 4]);
-    let c = insert(b, b"insert of 5 with stamp 1", 5, 1, &[4i16, -3]);
-    let e = insert(c, b"insert of 7 with stamp 2", 7, 2, &[-5i16, 0]);
+fn filled(rt: &impl Print) -> [u8; SHORTEST] {
+    let empty = made(rt, b"make in 2048 bytes, d 2", 2);
+    let a = insert(rt, empty, b"insert of 1 with stamp 0", 1, 0, &[3i16, -4]);
+    let b = insert(rt, a, b"insert of 6 with stamp 1", 6, 1, &[3i16, 4]);
+    let c = insert(rt, b, b"insert of 5 with stamp 1", 5, 1, &[4i16, -3]);
+    let e = insert(rt, c, b"insert of 7 with stamp 2", 7, 2, &[-5i16, 0]);
     let f = insert(
+        rt,
         e,
         b"insert of 9 with stamp 4294967295",
         9,
@@ -30,6 +31,7 @@ fn filled() -> [u8; SHORTEST] {
         &[0i16, 5],
     );
     insert(
+        rt,
         f,
         b"insert of 8 with stamp 4294967295",
         8,
@@ -38,10 +40,10 @@ fn filled() -> [u8; SHORTEST] {
     )
 }
 
-fn show_row(row: Row, id: u64, distance: u64, stamp: u64) {
-    ordered(b"  identifier of a row", row.id as u64, id);
-    ordered(b"  its distance", row.distance, distance);
-    show_stamp(row, stamp);
+fn show_row(rt: &impl Print, row: Row, id: u64, distance: u64, stamp: u64) {
+    ordered(rt, b"  identifier of a row", row.id as u64, id);
+    ordered(rt, b"  its distance", row.distance, distance);
+    show_stamp(rt, row, stamp);
 }
 
 fn ask_centre(index: &[u8], k: usize) -> Returned {
@@ -58,53 +60,53 @@ fn ask_centre(index: &[u8], k: usize) -> Returned {
 }
 
 // All six; the row past them keeps its contents.
-fn ask_all(index: &[u8]) {
-    text(b"from 0, k 7\n");
+fn ask_all(rt: &impl Print, index: &[u8]) {
+    text(rt, b"from 0, k 7\n");
     let kept = ask_centre(index, 7);
-    show_answer(kept.answer, 0, 6, 1);
+    show_answer(rt, kept.answer, 0, 6, 1);
     let rows = kept.rows;
-    show_row(rows[0], 9, 25, 4294967295);
-    show_row(rows[1], 7, 25, 2);
-    show_row(rows[2], 5, 25, 1);
-    show_row(rows[3], 6, 25, 1);
-    show_row(rows[4], 1, 25, 0);
-    show_row(rows[5], 8, 36, 4294967295);
-    show_row(rows[6], 7, 7, 7);
+    show_row(rt, rows[0], 9, 25, 4294967295);
+    show_row(rt, rows[1], 7, 25, 2);
+    show_row(rt, rows[2], 5, 25, 1);
+    show_row(rt, rows[3], 6, 25, 1);
+    show_row(rt, rows[4], 1, 25, 0);
+    show_row(rt, rows[5], 8, 36, 4294967295);
+    show_row(rt, rows[6], 7, 7, 7);
 }
 
 // Of the five, k lets in the two latest.
-fn ask_two(index: &[u8]) {
-    text(b"from 0, k 2\n");
+fn ask_two(rt: &impl Print, index: &[u8]) {
+    text(rt, b"from 0, k 2\n");
     let kept = ask_centre(index, 2);
-    show_answer(kept.answer, 0, 2, 1);
+    show_answer(rt, kept.answer, 0, 2, 1);
     let rows = kept.rows;
-    show_row(rows[0], 9, 25, 4294967295);
-    show_row(rows[1], 7, 25, 2);
-    show_row(rows[2], 7, 7, 7);
+    show_row(rt, rows[0], 9, 25, 4294967295);
+    show_row(rt, rows[1], 7, 25, 2);
+    show_row(rt, rows[2], 7, 7, 7);
 }
 
 // 9 comes back with the stamp of 5 and 6.
-fn stamped_again(index: [u8; SHORTEST]) -> [u8; SHORTEST] {
-    let a = delete(index, b"delete of 9", 9);
-    insert(a, b"insert of 9 with stamp 1", 9, 1, &[0i16, 5])
+fn stamped_again(rt: &impl Print, index: [u8; SHORTEST]) -> [u8; SHORTEST] {
+    let a = delete(rt, index, b"delete of 9", 9);
+    insert(rt, a, b"insert of 9 with stamp 1", 9, 1, &[0i16, 5])
 }
 
-fn ask_four(index: &[u8]) {
-    text(b"from 0, k 4\n");
+fn ask_four(rt: &impl Print, index: &[u8]) {
+    text(rt, b"from 0, k 4\n");
     let kept = ask_centre(index, 4);
-    show_answer(kept.answer, 0, 4, 1);
+    show_answer(rt, kept.answer, 0, 4, 1);
     let rows = kept.rows;
-    show_row(rows[0], 7, 25, 2);
-    show_row(rows[1], 5, 25, 1);
-    show_row(rows[2], 6, 25, 1);
-    show_row(rows[3], 9, 25, 1);
+    show_row(rt, rows[0], 7, 25, 2);
+    show_row(rt, rows[1], 5, 25, 1);
+    show_row(rt, rows[2], 6, 25, 1);
+    show_row(rt, rows[3], 9, 25, 1);
 }
 
-pub fn run() {
-    text(b"newest first among equals\n");
-    let index = filled();
-    ask_all(&index);
-    ask_two(&index);
-    let later = stamped_again(index);
-    ask_four(&later);
+pub fn run(rt: &impl Print) {
+    text(rt, b"newest first among equals\n");
+    let index = filled(rt);
+    ask_all(rt, &index);
+    ask_two(rt, &index);
+    let later = stamped_again(rt, index);
+    ask_four(rt, &later);
 }

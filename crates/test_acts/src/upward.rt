@@ -57,39 +57,45 @@ fn insert_up_to(index: &mut [u8], n: u16, daily: bool) -> u64
 }
 
 // Two leaves: 1 to n, and those after it, of which there are 8.
-fn show_two(index: &[u8], n: u64)
+fn show_two(rt: &impl Print, index: &[u8], n: u64)
     requires { n ≤ 9 }
 {
     let mut pages = [0u32; MAX_LEAVES];
     let leaves = list_leaves(index, &mut pages);
-    line(b"  leaves", leaves as u64, 2);
-    show_leaf(index, pages[0], n, 1, n);
-    show_leaf(index, pages[1], 8, n + 1, n + 8);
+    line(rt, b"  leaves", leaves as u64, 2);
+    show_leaf(rt, index, pages[0], n, 1, n);
+    show_leaf(rt, index, pages[1], 8, n + 1, n + 8);
 }
 
 // One leaf: 1 to 15.
-fn show_one(index: &[u8]) {
+fn show_one(rt: &impl Print, index: &[u8]) {
     let mut pages = [0u32; MAX_LEAVES];
     let leaves = list_leaves(index, &mut pages);
-    line(b"  leaves", leaves as u64, 1);
-    show_leaf(index, pages[0], 15, 1, 15);
+    line(rt, b"  leaves", leaves as u64, 1);
+    show_leaf(rt, index, pages[0], 15, 1, 15);
 }
 
 // The 17 inserts; `said` is what 01 says of the last one.
-pub fn fill(index: &mut [u8], daily: bool, said: u64) {
-    line(b"make", index::make(index, 1) as u64, 0);
+pub fn fill(rt: &impl Print, index: &mut [u8], daily: bool, said: u64) {
+    line(rt, b"make", index::make(index, 1) as u64, 0);
     line(
+        rt,
         b"inserts of 1 to 16 carried out",
         insert_up_to(index, 16, daily),
         16,
     );
-    line(b"insert of 17", insert_one(index, 17, daily) as u64, said);
+    line(
+        rt,
+        b"insert of 17",
+        insert_one(index, 17, daily) as u64,
+        said,
+    );
 }
 
-fn show_check(index: &[u8]) {
+fn show_check(rt: &impl Print, index: &[u8]) {
     let checked = index::check(index);
-    line(b"check", checked.code as u64, 0);
-    line(b"  page", checked.page as u64, 0);
+    line(rt, b"check", checked.code as u64, 0);
+    line(rt, b"  page", checked.page as u64, 0);
 }
 
 // The question for the k nearest of the point n.
@@ -102,82 +108,82 @@ fn ask(index: &[u8], n: u16, k: usize, highs: &mut [u64], lows: &mut [u64]) -> A
     index::question_outcome(index, &point, &none, what, MAX_ROWS, highs, lows)
 }
 
-fn ask_nine(index: &[u8]) {
+fn ask_nine(rt: &impl Print, index: &[u8]) {
     let mut highs = [0u64; MAX_ROWS];
     let mut lows = [0u64; MAX_ROWS];
-    text(b"from 9, k 1\n");
+    text(rt, b"from 9, k 1\n");
     let one = ask(index, 9, 1, &mut highs, &mut lows);
-    show_answer(one, 0, 1, 1);
-    text(b"from 9, k 2\n");
+    show_answer(rt, one, 0, 1, 1);
+    text(rt, b"from 9, k 2\n");
     let two = ask(index, 9, 2, &mut highs, &mut lows);
-    show_answer(two, 0, 2, 2);
-    show_row(row_of(highs[0], lows[0]), 9, 0);
-    show_row(row_of(highs[1], lows[1]), 8, 1);
+    show_answer(rt, two, 0, 2, 2);
+    show_row(rt, row_of(highs[0], lows[0]), 9, 0);
+    show_row(rt, row_of(highs[1], lows[1]), 8, 1);
 }
 
-fn ask_one(index: &[u8]) {
+fn ask_one(rt: &impl Print, index: &[u8]) {
     let mut highs = [0u64; MAX_ROWS];
     let mut lows = [0u64; MAX_ROWS];
-    text(b"from 1, k 9\n");
+    text(rt, b"from 1, k 9\n");
     let nine = ask(index, 1, 9, &mut highs, &mut lows);
-    show_answer(nine, 0, 9, 1);
-    text(b"from 1, k 18\n");
+    show_answer(rt, nine, 0, 9, 1);
+    text(rt, b"from 1, k 18\n");
     let all = ask(index, 1, 18, &mut highs, &mut lows);
-    show_answer(all, 0, 17, 2);
+    show_answer(rt, all, 0, 17, 2);
 }
 
-fn delete_one(index: &mut [u8]) {
-    line(b"delete of 17", index::delete(index, 17) as u64, 0);
-    show_two(index, 8);
+fn delete_one(rt: &impl Print, index: &mut [u8]) {
+    line(rt, b"delete of 17", index::delete(index, 17) as u64, 0);
+    show_two(rt, index, 8);
 }
 
 // One leaf is left, and its page: 2 of the 3 pages after the header were freed.
-fn delete_two(index: &mut [u8]) {
-    line(b"delete of 16", index::delete(index, 16) as u64, 0);
-    show_one(index);
-    line(b"  pages free", free_count(index) as u64, 2);
-    line(b"  the first never used", fresh_page(index) as u64, 4);
+fn delete_two(rt: &impl Print, index: &mut [u8]) {
+    line(rt, b"delete of 16", index::delete(index, 16) as u64, 0);
+    show_one(rt, index);
+    line(rt, b"  pages free", free_count(index) as u64, 2);
+    line(rt, b"  the first never used", fresh_page(index) as u64, 4);
 }
 
 // Space set free is used again.
-fn insert_again(index: &mut [u8]) {
-    line(b"insert of 16", insert_one(index, 16, false) as u64, 0);
-    line(b"insert of 17", insert_one(index, 17, false) as u64, 0);
-    show_two(index, 9);
+fn insert_again(rt: &impl Print, index: &mut [u8]) {
+    line(rt, b"insert of 16", insert_one(index, 16, false) as u64, 0);
+    line(rt, b"insert of 17", insert_one(index, 17, false) as u64, 0);
+    show_two(rt, index, 9);
 }
 
-fn three_pages(index: &mut [u8]) {
-    text(b"3 pages, d 1, identifiers 1 to 17 at 1 to 17\n");
-    fill(index, false, 9);
-    show_check(index);
+fn three_pages(rt: &impl Print, index: &mut [u8]) {
+    text(rt, b"3 pages, d 1, identifiers 1 to 17 at 1 to 17\n");
+    fill(rt, index, false, 9);
+    show_check(rt, index);
 }
 
-fn four_pages(index: &mut [u8]) {
-    text(b"4 pages, the same\n");
-    fill(index, false, 0);
-    show_check(index);
-    show_two(index, 9);
+fn four_pages(rt: &impl Print, index: &mut [u8]) {
+    text(rt, b"4 pages, the same\n");
+    fill(rt, index, false, 0);
+    show_check(rt, index);
+    show_two(rt, index, 9);
 }
 
-fn questions(index: &[u8]) {
-    ask_nine(index);
-    ask_one(index);
+fn questions(rt: &impl Print, index: &[u8]) {
+    ask_nine(rt, index);
+    ask_one(rt, index);
 }
 
-fn fewer(index: &mut [u8]) {
-    delete_one(index);
-    delete_two(index);
-    insert_again(index);
+fn fewer(rt: &impl Print, index: &mut [u8]) {
+    delete_one(rt, index);
+    delete_two(rt, index);
+    insert_again(rt, index);
 }
 
-pub fn run() {
+pub fn run(rt: &impl Print) {
     let mut three = [0u8; 3 * PAGE_SIZE];
-    three_pages(&mut three);
+    three_pages(rt, &mut three);
     let mut four = [0u8; 4 * PAGE_SIZE];
-    four_pages(&mut four);
-    questions(&four);
-    lent::run(&four);
-    stages::ask_two_leaves(&four);
-    weights::ask_two_leaves(&four);
-    fewer(&mut four);
+    four_pages(rt, &mut four);
+    questions(rt, &four);
+    lent::run(rt, &four);
+    stages::ask_two_leaves(rt, &four);
+    weights::ask_two_leaves(rt, &four);
+    fewer(rt, &mut four);
 }

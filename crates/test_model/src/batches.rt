@@ -5,7 +5,6 @@ use crate::days::{any_day, drawn_days};
 use crate::numbers::{CLUSTERED, TIED, WIDE, leap};
 use crate::{Batch, Seen, Wanted};
 use search_rows::MAX_ROWS;
-use std::num::wrapping_add_u64;
 use test_parts::{FULL_SET, show};
 
 // The questions of a round are asked in three ways: without weights, with them, and with dates, every other time with weights.
@@ -60,9 +59,9 @@ pub fn asked_points(way: u32, seed: u64) -> Wanted {
 
 pub fn both(a: Seen, b: Seen) -> Seen {
     Seen {
-        rows: wrapping_add_u64(a.rows, b.rows),
-        leaves: wrapping_add_u64(a.leaves, b.leaves),
-        differences: wrapping_add_u64(a.differences, b.differences),
+        rows: a.rows.wrapping_add(b.rows),
+        leaves: a.leaves.wrapping_add(b.leaves),
+        differences: a.differences.wrapping_add(b.differences),
     }
 }
 
@@ -73,47 +72,47 @@ pub fn batch_seed(b: Batch, seed: u64) -> u64 {
     leap(seed % 65536 + 100 * kind + d)
 }
 
-fn show_kind(kind: u32) {
+fn show_kind(rt: &impl Print, kind: u32) {
     if kind == WIDE {
-        show::text(b" wide");
+        show::text(rt, b" wide");
     }
     if kind == CLUSTERED {
-        show::text(b" clustered");
+        show::text(rt, b" clustered");
     }
     if kind == TIED {
-        show::text(b" tied");
+        show::text(rt, b" tied");
     }
 }
 
-fn show_seen(b: Batch, seen: Seen) {
-    show::field(b"questions", b.questions as u64);
-    show::field(b"rows compared", seen.rows);
-    show::field(b"leaves read", seen.leaves);
-    show::field(b"differences", seen.differences);
+fn show_seen(rt: &impl Print, b: Batch, seen: Seen) {
+    show::field(rt, b"questions", b.questions as u64);
+    show::field(rt, b"rows compared", seen.rows);
+    show::field(rt, b"leaves read", seen.leaves);
+    show::field(rt, b"differences", seen.differences);
 }
 
-pub fn report(b: Batch, points: usize, refused: u64, seen: Seen) {
-    show::text(b"full scan:");
-    show::field(b"d", b.d as u64);
-    show_kind(b.kind);
-    show::field(b"acts refused", refused);
-    show::field(b"points", points as u64);
-    show_seen(b, seen);
-    show::text(b"\n");
+pub fn report(rt: &impl Print, b: Batch, points: usize, refused: u64, seen: Seen) {
+    show::text(rt, b"full scan:");
+    show::field(rt, b"d", b.d as u64);
+    show_kind(rt, b.kind);
+    show::field(rt, b"acts refused", refused);
+    show::field(rt, b"points", points as u64);
+    show_seen(rt, b, seen);
+    show::text(rt, b"\n");
 }
 
 // The same questions with weights; and n of them with ones and with none, how far the answers differ.
-pub fn report_weighted(b: Batch, seen: Seen, n: u32, differences: u64) {
-    show::text(b"  with weights:");
-    show_seen(b, seen);
-    show::field(b"ones beside none", n as u64);
-    show::field(b"differences", differences);
-    show::text(b"\n");
+pub fn report_weighted(rt: &impl Print, b: Batch, seen: Seen, n: u32, differences: u64) {
+    show::text(rt, b"  with weights:");
+    show_seen(rt, b, seen);
+    show::field(rt, b"ones beside none", n as u64);
+    show::field(rt, b"differences", differences);
+    show::text(rt, b"\n");
 }
 
 // The same questions with dates.
-pub fn report_dated(b: Batch, seen: Seen) {
-    show::text(b"  with dates:");
-    show_seen(b, seen);
-    show::text(b"\n");
+pub fn report_dated(rt: &impl Print, b: Batch, seen: Seen) {
+    show::text(rt, b"  with dates:");
+    show_seen(rt, b, seen);
+    show::text(rt, b"\n");
 }

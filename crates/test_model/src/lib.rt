@@ -1,6 +1,7 @@
 // What a question must give, worked out apart from the index and its search: points drawn by a generator of numbers, a full scan of them,
 // the leaves whose bound is at most a distance, and an answer compared with these.
 #![tactic(auto)]
+
 use crate::days::Days;
 use geometry::MAX_FEATURES;
 

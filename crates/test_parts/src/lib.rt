@@ -1,5 +1,6 @@
 // What the test programs share: lines of output, coordinates by their places, and the leaves of an index in key order.
 #![tactic(auto)]
+
 pub mod answers;
 pub mod listing;
 pub mod places;

@@ -127,6 +127,7 @@ fn ask_all(
 }
 
 fn ask_weighted(
+    rt: &impl Print,
     index: &[u8],
     places: &[u16],
     marks: &[u64],
@@ -139,10 +140,11 @@ fn ask_weighted(
 {
     let seen = ask_all(index, places, marks, pages, b, leaves, WEIGHTED, seed);
     let n = b.questions / 4;
-    report_weighted(b, seen, n, ones_and_none(index, b, n, seed));
+    report_weighted(rt, b, seen, n, ones_and_none(index, b, n, seed));
 }
 
 fn ask_dated(
+    rt: &impl Print,
     index: &[u8],
     places: &[u16],
     marks: &[u64],
@@ -154,96 +156,128 @@ fn ask_dated(
     requires { Fits b × (leaves ≤ length pages.now) × Arrays places.now marks.now }
 {
     let seen = ask_all(index, places, marks, pages, b, leaves, DATED, seed);
-    report_dated(b, seen);
+    report_dated(rt, b, seen);
 }
 
 // Questions on an index as it is, after acts of which some were refused.
-fn round(index: &[u8], places: &[u16], marks: &[u64], b: Batch, refused: u64, seed: u64)
+fn round(
+    rt: &impl Print,
+    index: &[u8],
+    places: &[u16],
+    marks: &[u64],
+    b: Batch,
+    refused: u64,
+    seed: u64,
+)
     requires { Fits b × Arrays places.now marks.now }
 {
     let mut pages = [0u32; MAX_LEAVES];
     let leaves = list_leaves(index, &mut pages);
     let seen = ask_all(index, places, marks, &pages, b, leaves, PLAIN, seed);
-    report(b, live_count(marks), refused, seen);
-    ask_weighted(index, places, marks, &pages, b, leaves, seed);
-    ask_dated(index, places, marks, &pages, b, leaves, seed);
+    report(rt, b, live_count(marks), refused, seen);
+    ask_weighted(rt, index, places, marks, &pages, b, leaves, seed);
+    ask_dated(rt, index, places, marks, &pages, b, leaves, seed);
 }
 
 // All points are inserted.
-fn fill(index: &mut [u8], places: &mut [u16], marks: &mut [u64], b: Batch, seed: u64)
+fn fill(
+    rt: &impl Print,
+    index: &mut [u8],
+    places: &mut [u16],
+    marks: &mut [u64],
+    b: Batch,
+    seed: u64,
+)
     requires { Fits b × Arrays places.old marks.old }
     ensures { Arrays places.new marks.new }
 {
     index::make(index, b.d as u8);
     draw(places, b.kind, 0, seed);
     let refused = insert_points(index, places, marks, b.points, b.d, seed);
-    round(index, places, marks, b, refused, seed);
+    round(rt, index, places, marks, b, refused, seed);
 }
 
 // Every third point is deleted.
-fn thin_out(index: &mut [u8], places: &[u16], marks: &mut [u64], b: Batch, first: usize, seed: u64)
+fn thin_out(
+    rt: &impl Print,
+    index: &mut [u8],
+    places: &[u16],
+    marks: &mut [u64],
+    b: Batch,
+    first: usize,
+    seed: u64,
+)
     requires { Fits b × (first ≤ 3) × Arrays places.now marks.old }
     ensures { length marks.new ≡ 1024 }
 {
     let refused = delete_points(index, marks, first);
-    round(index, places, marks, b, refused, seed);
+    round(rt, index, places, marks, b, refused, seed);
 }
 
 // Those deleted are inserted again.
-fn refill(index: &mut [u8], places: &[u16], marks: &mut [u64], b: Batch, seed: u64)
+fn refill(rt: &impl Print, index: &mut [u8], places: &[u16], marks: &mut [u64], b: Batch, seed: u64)
     requires { Fits b × Arrays places.now marks.old }
 {
     let refused = insert_points(index, places, marks, b.points, b.d, seed);
-    round(index, places, marks, b, refused, seed);
+    round(rt, index, places, marks, b, refused, seed);
 }
 
-fn run_on(index: &mut [u8], places: &mut [u16], marks: &mut [u64], b: Batch)
+fn run_on(rt: &impl Print, index: &mut [u8], places: &mut [u16], marks: &mut [u64], b: Batch)
     requires { Fits b × Arrays places.old marks.old }
 {
-    fill(index, places, marks, b, 12345);
-    thin_out(index, places, marks, b, 1, 777);
-    thin_out(index, places, marks, b, 0, 4242);
-    refill(index, places, marks, b, 99);
+    fill(rt, index, places, marks, b, 12345);
+    thin_out(rt, index, places, marks, b, 1, 777);
+    thin_out(rt, index, places, marks, b, 0, 4242);
+    refill(rt, index, places, marks, b, 99);
 }
 
 // A batch in an index of 256 pages.
-fn run_batch(b: Batch)
+fn run_batch(rt: &impl Print, b: Batch)
     requires { Fits b }
 {
     let mut index = [0u8; 256 * PAGE_SIZE];
     let mut places = [0u16; MAX_FEATURES * POINTS];
     let mut marks = [0u64; POINTS];
-    run_on(&mut index, &mut places, &mut marks, b);
+    run_on(rt, &mut index, &mut places, &mut marks, b);
 }
 
 // Batches of d features, for each way in which points lie.
-fn run_features(d: usize, questions: u32)
+fn run_features(rt: &impl Print, d: usize, questions: u32)
     requires { (1 ≤ d) × (d ≤ 16) }
 {
-    run_batch(Batch {
-        d: d,
-        points: 900,
-        kind: WIDE,
-        questions: questions,
-    });
-    run_batch(Batch {
-        d: d,
-        points: 700,
-        kind: CLUSTERED,
-        questions: questions,
-    });
-    run_batch(Batch {
-        d: d,
-        points: 500,
-        kind: TIED,
-        questions: questions,
-    });
+    run_batch(
+        rt,
+        Batch {
+            d: d,
+            points: 900,
+            kind: WIDE,
+            questions: questions,
+        },
+    );
+    run_batch(
+        rt,
+        Batch {
+            d: d,
+            points: 700,
+            kind: CLUSTERED,
+            questions: questions,
+        },
+    );
+    run_batch(
+        rt,
+        Batch {
+            d: d,
+            points: 500,
+            kind: TIED,
+            questions: questions,
+        },
+    );
 }
 
-pub fn run() {
-    run_features(1, 100);
-    run_features(2, 100);
-    run_features(3, 100);
-    run_features(8, 50);
-    run_features(16, 25);
+pub fn run(rt: &impl Print) {
+    run_features(rt, 1, 100);
+    run_features(rt, 2, 100);
+    run_features(rt, 3, 100);
+    run_features(rt, 8, 50);
+    run_features(rt, 16, 25);
 }

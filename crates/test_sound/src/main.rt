@@ -3,10 +3,10 @@
 // The sound index: 8 pages, one feature. Pages 1 and 2 are leaves of the points 1 .. 8 and 9 .. 16, page 3 is the root over them, page 4 is
 // freed, and pages 5 to 7 were never used.
 #![tactic(auto)]
+
 ghost use Rattle.std.specs.Prelude.{◌≤◌};
 
 use geometry::{Height, Key, Pyramid};
-use libc::STDOUT_FILENO;
 use pagestore::{
     Entry, Inner, Leaf, Record, make, set_features, set_freed_head, set_fresh_page, set_index_size,
     set_inner, set_leaf, set_root_level, set_root_page, set_total_records,
@@ -253,21 +253,19 @@ fn judged(index: &mut [u8], k: u32) -> Checked {
     check(index)
 }
 
-fn print_case(k: u32) {
+// A write that fails is passed over.
+fn print_case(rt: &impl Print, k: u32) {
     let mut index = [0u8; 8192];
     let r = judged(&mut index, k);
-    io::print_decimal(STDOUT_FILENO, k as u64);
-    io::write_all(STDOUT_FILENO, b" ");
-    io::print_decimal(STDOUT_FILENO, r.code as u64);
-    io::write_all(STDOUT_FILENO, b" ");
-    io::print_decimal(STDOUT_FILENO, r.page as u64);
-    io::write_all(STDOUT_FILENO, b"\n");
+    let code = r.code;
+    let page = r.page;
+    let _ = println!(rt; "{k} {code} {page}");
 }
 
-fn main() {
+fn main(rt: HostRuntime) {
     let mut k = 0;
     while k < 33 {
-        print_case(k);
+        print_case(&rt, k);
         k += 1;
     }
 }

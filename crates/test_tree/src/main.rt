@@ -1,5 +1,6 @@
 // The tree's examples of 01: d = 1, the identifiers 1 to 17 at 1 to 17, inserted upward.
 #![tactic(auto)]
+
 ghost use Rattle.std.specs.Prelude.{◌≤◌, ◌<◌};
 
 use geometry::MAX_FEATURES;
@@ -29,17 +30,18 @@ fn insert_up_to(index: &mut [u8], n: u16)
     }
 }
 
-fn show(n: u32) {
-    io::print_decimal(1, n as u64);
-    io::write_all(1, b" ");
+// A write that fails is passed over.
+fn show(rt: &impl Print, n: u32) {
+    let _ = rt.print(n);
+    let _ = rt.write_all(b" ");
 }
 
-fn end_line() {
-    io::write_all(1, b"\n");
+fn end_line(rt: &impl Print) {
+    let _ = rt.write_all(b"\n");
 }
 
 // How many records a leaf has, and its first and last identifier.
-fn show_leaf(index: &[u8], page: u32) {
+fn show_leaf(rt: &impl Print, index: &[u8], page: u32) {
     let leaf = pagestore::leaf_at(index, page);
     let n = leaf.count;
     if n == 0 {
@@ -50,82 +52,82 @@ fn show_leaf(index: &[u8], page: u32) {
     }
     let first = leaf.records[0];
     let last = leaf.records[n - 1];
-    show(n as u32);
-    show(first.id);
-    show(last.id);
+    show(rt, n as u32);
+    show(rt, first.id);
+    show(rt, last.id);
 }
 
 // The total, the root's page and level, and the number of leaves.
-fn show_root(index: &[u8]) {
+fn show_root(rt: &impl Print, index: &[u8]) {
     let level = pagestore::root_level(index);
     let root = pagestore::root_page(index);
-    show(pagestore::total_records(index));
-    show(root);
-    show(level as u32);
+    show(rt, pagestore::total_records(index));
+    show(rt, root);
+    show(rt, level as u32);
     if level <= 4 {
         let leaves = tree::leaf_count(index, level as usize, root);
-        io::print_decimal(1, leaves as u64);
-        io::write_all(1, b" ");
+        let _ = rt.print(leaves);
+        let _ = rt.write_all(b" ");
     }
 }
 
 // Pages wanted by the insertion of 17, and the pages lent, the lowest never used and the one freed last.
-fn show_wanted(index: &[u8]) {
-    show(tree::pages_wanted(index, record_of(17)));
-    show(pagestore::page_count(index));
-    show(pagestore::fresh_page(index));
-    show(pagestore::freed_head(index));
-    end_line();
+fn show_wanted(rt: &impl Print, index: &[u8]) {
+    show(rt, tree::pages_wanted(index, record_of(17)));
+    show(rt, pagestore::page_count(index));
+    show(rt, pagestore::fresh_page(index));
+    show(rt, pagestore::freed_head(index));
+    end_line(rt);
 }
 
-fn show_all(index: &[u8]) {
-    show_root(index);
-    show_leaf(index, 1);
-    show_leaf(index, 2);
-    end_line();
+fn show_all(rt: &impl Print, index: &[u8]) {
+    show_root(rt, index);
+    show_leaf(rt, index, 1);
+    show_leaf(rt, index, 2);
+    end_line(rt);
 }
 
 // The pages freed, the last freed first, and whether 15 and 16 are found.
-fn show_freed(index: &[u8]) {
+fn show_freed(rt: &impl Print, index: &[u8]) {
     let freed = pagestore::freed_head(index);
-    show(freed);
-    show(pagestore::link_at(index, freed));
+    show(rt, freed);
+    show(rt, pagestore::link_at(index, freed));
     let x = tree::find(index, 15);
-    show(x.id);
+    show(rt, x.id);
     let y = tree::find(index, 16);
-    show(y.id);
-    end_line();
+    show(rt, y.id);
+    end_line(rt);
 }
 
 // In 3 pages the 17th insertion wants more pages than there are.
-fn three_pages(index: &mut [u8]) {
+fn three_pages(rt: &impl Print, index: &mut [u8]) {
     pagestore::make(index, 1);
     insert_up_to(index, 16);
-    show_wanted(index);
+    show_wanted(rt, index);
 }
 
 // In 4 it succeeds: leaves 1..9 and 10..17.
-fn four_pages(index: &mut [u8]) {
+fn four_pages(rt: &impl Print, index: &mut [u8]) {
     pagestore::make(index, 1);
     insert_up_to(index, 16);
-    show_wanted(index);
+    show_wanted(rt, index);
     tree::insert(index, record_of(17));
-    show_all(index);
+    show_all(rt, index);
 }
 
 // Without 17: leaves 1..8 and 9..16. Without 16: one leaf, two pages freed.
-fn fewer_records(index: &mut [u8]) {
+fn fewer_records(rt: &impl Print, index: &mut [u8]) {
     tree::delete(index, record_of(17));
-    show_all(index);
+    show_all(rt, index);
     tree::delete(index, record_of(16));
-    show_all(index);
-    show_freed(index);
+    show_all(rt, index);
+    show_freed(rt, index);
 }
 
-fn main() {
+fn main(rt: HostRuntime) {
     let mut three = [0u8; 3072];
-    three_pages(&mut three);
+    three_pages(&rt, &mut three);
     let mut four = [0u8; 4096];
-    four_pages(&mut four);
-    fewer_records(&mut four);
+    four_pages(&rt, &mut four);
+    fewer_records(&rt, &mut four);
 }
