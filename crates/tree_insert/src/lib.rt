@@ -1,5 +1,6 @@
 // Insertion into the tree. Each function is total, whatever the index holds.
 #![tactic(auto)]
+
 mod insertion;
 mod roots;
 
