@@ -1,5 +1,6 @@
 // The followed pages, for the check: each by itself, then its entries; then the pages in no state.
 #![tactic(auto)]
+
 ghost use Rattle.std.specs.Prelude.{◌≡◌, ◌+◌, ◌*◌, ◌<◌, ◌≤◌, length};
 ghost use Rattle.pagestore.specs.Store.{view_of, level_at};
 ghost use Rattle.sound_faults.specs.Faults.{Reached, EntryFault};
