@@ -1,5 +1,6 @@
 // The output's lines, written into a lent buffer at an index; each function returns the index after what it wrote.
 #![tactic(auto)]
+
 ghost use Rattle.std.specs.Prelude.{◌≡◌, [], ◌∷◌, ◌+◌, ◌<◌, ◌≤◌, length};
 ghost use Rattle.acts_fields.specs.Decimal.{last_digit, decimal};
 ghost use Rattle.acts_fields.specs.Bytes.{Written, Stored};

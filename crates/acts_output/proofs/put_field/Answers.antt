@@ -1,0 +1,6 @@
+use Rattle.acts_output.proofs.OutputLaws.{field_put}
+use borrow.Author.Rules.{rules}
+use Rattle.acts_output.proofs.put_field.Goals as goal
+
+pub returns : goal.returns
+returns c = search (field_put, rules)
