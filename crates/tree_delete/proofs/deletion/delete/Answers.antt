@@ -1,0 +1,7 @@
+use Rattle.tree_core.proofs.DeletionLaws.{delete_steps}
+use Rattle.tree_delete.proofs.deletion.delete.Goals as goal
+
+pub returns : goal.returns
+returns c = let a = c.args in
+    delete_steps a.index.now a.x c.features_of-d.ensures c.root_level-level.ensures c.root_page-root.ensures
+    c.delete_at-left.ensures c.collapse_root.ensures c.take_from_total.ensures
