@@ -14,7 +14,7 @@ use Rattle.lists.specs.Sorting.{sum}
 use Rattle.lists.specs.Tests.{decide}
 use Rattle.lists.specs.Lengths.{length_none}
 use Rattle.pagestore_page.specs.declared.Record.{Record}
-use Rattle.pagestore.specs.Store.{leaf, records_of, records_in, View, view_of, page_at, level_at, leaf_at}
+use Rattle.pagestore.specs.Store.{records_of, records_in, View, view_of, page_at, level_at, leaf_at}
 use Rattle.pagestore_page.specs.declared.Leaf.{Leaf}
 use Rattle.pagestore.specs.Store.PageLaws.{records_slots}
 use Rattle.tree_model.specs.Trees.{ident_of}

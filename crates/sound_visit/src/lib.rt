@@ -1,6 +1,7 @@
 // The visit of the followed pages in turn: each is judged by itself, its first and last key are kept, and the identifiers of a leaf are
 // collected, each with its page.
 #![tactic(auto)]
+
 ghost use Rattle.std.specs.Prelude.{◌≡◌, map, ◌+◌, ◌<◌, ◌≤◌, length};
 ghost use Rattle.pagestore.specs.Store.{view_of, leaf_at, records_in};
 ghost use Rattle.tree_model.specs.Trees.{ident_of};
