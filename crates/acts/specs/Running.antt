@@ -1,6 +1,6 @@
 -- What holds while the program runs: its buffers are large enough, its lines are done, and what they print stands in the output buffer or
 -- was handed over.
-use Rattle.std.specs.Prelude.{◌≡◌, ◌⊎◌, true, false, List, [], ◌++◌, ℕ, ◌+◌, ◌≤◌, ◌<◌, length, take, drop}
+use Rattle.std.specs.Prelude.{◌≡◌, ◌⊎◌, true, false, List, [], ◌++◌, ℕ, ◌≤◌, ◌<◌, length, take, drop}
 use Rattle.acts_fields.specs.Bytes.{Written}
 use Rattle.acts_output.specs.Puts.{most_printed}
 use Rattle.acts_step.specs.Steps.{index_bytes}
