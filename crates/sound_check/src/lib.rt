@@ -4,6 +4,7 @@
 // recursion, which marks the pages that are followed; these pages in turn, each by itself; their entries; the total; pages in no state;
 // identifiers. Linear on any bytes.
 #![tactic(auto)]
+
 ghost use Rattle.std.specs.Prelude.{◌≡◌, ◌≤◌, eqb};
 ghost use Rattle.lists.specs.Basics.{if};
 ghost use Rattle.pagestore.specs.Store.{view_of};
