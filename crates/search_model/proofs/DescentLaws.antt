@@ -54,10 +54,10 @@ unfolding leaf_branches leaf_branch
 leaves_behind q d x n [] p l none = none
 leaves_behind q d x n (t ∷ ts) p l (also h a) = also (behind x (leaf_branch q d n t) h p l) (leaves_behind q d x (suc n) ts (omega arith) l a)
 
-length_branches : (q : Asked) (d p l : ℕ) (ts : List (Item (suc l))) → length (item_branches q d p l ts) ≡ length ts
+length_branches : (q : Asked) (d l p : ℕ) (ts : List (Item (suc l))) → length (item_branches q d l p ts) ≡ length ts
 unfolding item_branches
-length_branches q d p l [] = refl
-length_branches q d p l (t ∷ ts) = ap suc (length_branches q d (p + length (leaves l t)) l ts)
+length_branches q d l p [] = refl
+length_branches q d l p (t ∷ ts) = ap suc (length_branches q d l (p + length (leaves l t)) ts)
 
 -- what is seen of a visit: its rows, and the leaves read, each by its position and its page
 abbrev pub shown : Outcome Row Branch → List Row × List (ℕ × ℕ)
@@ -76,7 +76,7 @@ module _ (c : List ℕ) (q : Asked) (d : ℕ) (low : 1 ≤ d) (high : d ≤ max_
   abbrev Downward : (l : ℕ) → Type 0
   Downward l = (p : ℕ) (t : Item (suc l)) → p + length (leaves l t) ≤ last_place → Frame c d l t → Ordered d l t → Down l (item_branch q d p l t)
 
-  down_list : (l p : ℕ) (ts : List (Item (suc l))) → p + length (concat_map (leaves l) ts) ≤ last_place → Downward l → All (Frame c d l) ts → All (Ordered d l) ts → All (Down l) (item_branches q d p l ts)
+  down_list : (l p : ℕ) (ts : List (Item (suc l))) → p + length (concat_map (leaves l) ts) ≤ last_place → Downward l → All (Frame c d l) ts → All (Ordered d l) ts → All (Down l) (item_branches q d l p ts)
   unfolding item_branches concat_map
   down_list l p [] m h none none = none
   down_list l p (t ∷ ts) m h (also f a) (also o b) =
@@ -88,7 +88,7 @@ module _ (c : List ℕ) (q : Asked) (d : ℕ) (low : 1 ≤ d) (high : d ≤ max_
   unfolding Descends Frame Branching leaves
   down_inner l B p t m h f o b = λ e.
       let k = opened_is c q d p l t m f in (
-        rw (k, length_branches q d p l t.1) o.some.0,
+        rw (k, length_branches q d l p t.1) o.some.0,
         rw (under_inner c q d l B p t m f) (leaves_behind q d (inner B p l t) p (leaves (suc l) t) (le_refl p) (omega arith) b),
         rw k (down_list l p t.1 m h f.2 (ordered_kids d l t o)),
       )

@@ -20,8 +20,8 @@ use Rattle.search_theory.specs.Marks.{Strict}
 use Rattle.search_rows.specs.Rows.{newest_first}
 use Rattle.search_rows.proofs.RowLaws.{row_order_law, of_id, Distinct, nearest_by_stamp, candidates_strict}
 use Rattle.pagestore_page.specs.declared.Record.{Record}
-use Rattle.pagestore.specs.Store.{level, total, View, view_of, field_at}
-use Rattle.tree_model.specs.Trees.{Item, leaves, tree_of, leaves_of, ident_of, live}
+use Rattle.pagestore.specs.Store.{total, View, view_of, field_at}
+use Rattle.tree_model.specs.Trees.{Item, tree_of, leaves_of, ident_of, live}
 use Rattle.tree_model.specs.Sound.{SoundIndex}
 use Rattle.search_model.specs.Asked.{Asked, candidate, Askable}
 use Rattle.search_model.specs.Branches.{Branch, branch_bound, tied, before, row_of, rows_among, rows_at}

@@ -20,7 +20,7 @@ use Rattle.search_rows.specs.declared.Row.{Row}
 use Rattle.search_rows.proofs.RowLaws.{row_order_law}
 use Rattle.pagestore_page.specs.declared.Record.{Record}
 use Rattle.pagestore.specs.Store.{view_of}
-use Rattle.tree_model.specs.Trees.{Item, key_of, first_key, last_key, leaves, leaves_of}
+use Rattle.tree_model.specs.Trees.{Item, key_of, first_key, last_key, leaves_of}
 use Rattle.tree_model.specs.Sound.{SoundIndex}
 use Rattle.search_model.specs.Asked.{Asked, Askable}
 use Rattle.search_model.specs.Branches.{rows_among}

@@ -14,7 +14,6 @@ use Rattle.lists.specs.ConcatMapLaws.{all_concat_map, map_append, all_both, conc
 use Rattle.lists.specs.Ascending.{Ascending, asc_left, asc_right}
 use Rattle.geometry.specs.Numbers.{max_features}
 use Rattle.search_theory.specs.Frontier.{leaves_under}
-use Rattle.pagestore_page.specs.declared.Record.{Record}
 use Rattle.pagestore.specs.Store.{in_range, inner_at, entries_in}
 use Rattle.tree_model.specs.Trees.{Item, no_record, rank_of, first_key, last_key, records, leaves, entry_of}
 use Rattle.tree_core.specs.Lookup.{leaf_count}
@@ -69,10 +68,10 @@ module _ (q : Asked) (d : ℕ) where
   unfoldable pub item_branch : ℕ → (l : ℕ) → Item (suc l) → Branch
   item_branch p l t = record { bound = span_bound q (first_key d (records (suc l) t)) (last_key d (records (suc l) t)); place = p; level = l; page = t.0 }
 
-  unfoldable pub item_branches : ℕ → (l : ℕ) → List (Item (suc l)) → List Branch
+  unfoldable pub item_branches : (l : ℕ) → ℕ → List (Item (suc l)) → List Branch
   unfolding item_branch leaves
-  item_branches p l [] = []
-  item_branches p l (t ∷ ts) = item_branch p l t ∷ item_branches (p + length (leaves l t)) l ts
+  item_branches l p [] = []
+  item_branches l p (t ∷ ts) = item_branch p l t ∷ item_branches l (p + length (leaves l t)) ts
 
   -- those of leaves, by position
   unfoldable pub leaf_branches : ℕ → List (Item 1) → List Branch
@@ -96,24 +95,24 @@ inner B p l t = record { bound = B; place = p; level = suc l; page = t.0 }
 
 module _ (c : List ℕ) (q : Asked) (d : ℕ) where
   -- what an inner page gives when it is opened, where there are positions for the leaves under it
-  pub kids_are : (p l : ℕ) (ts : List (Item (suc l))) → p + length (concat_map (leaves l) ts) ≤ last_place → All (Frame c d l) ts → branches c q l p (map (entry_of d l) ts) ≡ item_branches q d p l ts
+  pub kids_are : (l p : ℕ) (ts : List (Item (suc l))) → p + length (concat_map (leaves l) ts) ≤ last_place → All (Frame c d l) ts → branches c q l p (map (entry_of d l) ts) ≡ item_branches q d l p ts
   unfolding branches item_branches item_branch entry_of page_in concat_map
-  kids_are p l [] m none = refl
-  kids_are p l (t ∷ ts) m (also f a) =
+  kids_are l p [] m none = refl
+  kids_are l p (t ∷ ts) m (also f a) =
       let n = length-append (leaves l t) (concat_map (leaves l) ts) in
       let e : min p last_place ≡ p = omega arith in
-      rw (e, frame_range c d l t f, count_leaves c d l t f, kids_are (p + length (leaves l t)) l ts (omega arith) a)
+      rw (e, frame_range c d l t f, count_leaves c d l t f, kids_are l (p + length (leaves l t)) ts (omega arith) a)
 
-  pub opened_is : (p l : ℕ) (t : Item (suc (suc l))) → p + length (leaves (suc l) t) ≤ last_place → Frame c d (suc l) t → opened c q (suc l) p t.0 ≡ item_branches q d p l t.1
+  pub opened_is : (p l : ℕ) (t : Item (suc (suc l))) → p + length (leaves (suc l) t) ≤ last_place → Frame c d (suc l) t → opened c q (suc l) p t.0 ≡ item_branches q d l p t.1
   unfolding opened Frame leaves
-  opened_is p l t m f = ap (branches c q l p) f.1 ∙ kids_are p l t.1 m f.2
+  opened_is p l t m f = ap (branches c q l p) f.1 ∙ kids_are l p t.1 m f.2
 
   -- the leaves under a branch are these
   abbrev Under : (l p : ℕ) → Item (suc l) → Type 0
   Under l p t = leaves_under is_leaf (kids c q) l (item_branch q d p l t) ≡ leaf_branches q d p (leaves l t)
 
   under_list : (l p : ℕ) (ts : List (Item (suc l))) → p + length (concat_map (leaves l) ts) ≤ last_place → ((n : ℕ) (t : Item (suc l)) → n + length (leaves l t) ≤ last_place → Frame c d l t → Under l n t)
-      → All (Frame c d l) ts → concat_map (leaves_under is_leaf (kids c q) l) (item_branches q d p l ts) ≡ leaf_branches q d p (concat_map (leaves l) ts)
+      → All (Frame c d l) ts → concat_map (leaves_under is_leaf (kids c q) l) (item_branches q d l p ts) ≡ leaf_branches q d p (concat_map (leaves l) ts)
   unfolding concat_map item_branches leaf_branches
   under_list l p [] m h none = refl
   under_list l p (t ∷ ts) m h (also f a) =

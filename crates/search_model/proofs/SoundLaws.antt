@@ -17,10 +17,10 @@ use Rattle.lists.specs.Lengths.{length_none}
 use Rattle.lists.specs.Choices.{indicator_true, indicator_le}
 use Rattle.pagestore_page.specs.declared.Record.{Record}
 use Rattle.pagestore_page.specs.Fits.{RecordFits}
-use Rattle.pagestore.specs.Store.{level, root, total, View, view_of, in_range, pages_in, leaf_at, records_in}
+use Rattle.pagestore.specs.Store.{View, view_of, in_range, pages_in, leaf_at, records_in}
 use Rattle.pagestore.specs.Store.PageLaws.{leaf_view, inner_view, records_fit}
 use Rattle.pagestore.specs.Store.RangeLaws.{range_high}
-use Rattle.tree_model.specs.Trees.{Item, records, pages, leaves, entry_of, node, Rep, tree_at, tree_of, live, leaves_of}
+use Rattle.tree_model.specs.Trees.{Item, records, pages, leaves, entry_of, node, Rep, tree_of, live, leaves_of}
 use Rattle.tree_model.specs.Sound.{is_page, fresh_pages, RootFilled, Filled, SoundIndex}
 use Rattle.search_model.specs.Numbers.{max_level}
 use Rattle.search_model.proofs.FrameLaws.{Frame, Branching, Ordered, ordered_kids, leaf_records, parts_right}

@@ -16,7 +16,6 @@ use Rattle.lists.specs.Counts.{mult, mult_self, mult_more, mult_append, all_of_m
 use Rattle.search_theory.specs.Nearest.{in_set}
 use Rattle.search_theory.proofs.Promises as flatly
 use Rattle.search_rows.proofs.RowLaws.{row_order_law}
-use Rattle.pagestore_page.specs.declared.Record.{Record}
 use Rattle.pagestore_page.specs.declared.Leaf.{Leaf}
 use Rattle.pagestore.specs.Store.{Field, level, total, root, view_of, in_range, records_in, entries_in, field_at}
 use Rattle.pagestore.specs.Store.PageLaws.{SamePage, bytes_page, bytes_field}

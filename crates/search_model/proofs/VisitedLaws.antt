@@ -18,7 +18,7 @@ use Rattle.search_theory.specs.Frontier.{seek}
 use Rattle.search_rows.specs.declared.Row.{Row}
 use Rattle.pagestore_page.specs.declared.Record.{Record}
 use Rattle.pagestore.specs.Store.{level, total, root, View, view_of, pages_in, leaf_at, records_in, field_at}
-use Rattle.tree_model.specs.Trees.{Item, leaves, pages, tree_of, leaves_of}
+use Rattle.tree_model.specs.Trees.{Item, leaves, tree_of, leaves_of}
 use Rattle.tree_model.specs.Sound.{SoundIndex}
 use Rattle.search_model.specs.Numbers.{max_level}
 use Rattle.search_model.specs.Asked.{Asked, distance_to, candidate, Askable}

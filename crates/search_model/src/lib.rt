@@ -1,6 +1,7 @@
 // What is asked of an index, the visit that answers it, and what is promised of its answer. All of it is in specs/ and proofs/; this
 // file holds no function, only the numbers and the choice of which they speak.
 #![tactic(auto)]
+
 use calendar::Window;
 
 // The highest level of a root.
