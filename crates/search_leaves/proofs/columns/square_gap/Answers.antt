@@ -1,34 +1,25 @@
--- `columns::square_gap` meets its contract: the magnitude of the gap, which is the same either way.
 use mathlib.Core.Path.{◌≡◌, ap, ◌∙◌}
 use Prim.Native.Nat.{ℕ, ◌+◌, ◌-◌, ◌*◌, ◌≤◌}
 use native.Mathlib.Omega.{arith}
 use lib.IntN.{ℤ, pos, nat_abs, ◌-ℤ◌}
-use borrow.Author.Rules.{rules}
 use Rattle.geometry.proofs.IntLaws.{gap_pos}
 use Rattle.search_leaves.specs.Columns.{gap_square}
 use Rattle.search_leaves.proofs.ColumnLaws.{square_most}
 use Rattle.search_leaves.proofs.WordLaws.{back_16, gap_most}
-use Rattle.search_leaves.proofs.columns.square_gap.Statement.{statement}
-use Rattle.search_leaves.proofs.columns.square_gap.Tie as tie
+use Rattle.search_leaves.proofs.columns.square_gap.Goals as goal
 
-gap-of-requires : tie.Need-gap-of-requires
-gap-of-requires c κs = search rules
-
-squared-requires : tie.Need-squared-requires
-squared-requires c κs =
-    let a = c.before.args in let G = c.gap_of in
-    let h : nat_abs G.result ≤ 2047 = rw G.ensures (gap_most a.y a.x c.before.requires.1 c.before.requires.0) in
+pub squared-requires : goal.squared-requires
+squared-requires c =
+    let a = c.args in let G = c.gap_of in
+    let h : nat_abs G.result ≤ 2047 = rw G.ensures (gap_most a.y a.x c.requires.1 c.requires.0) in
     rw (back_16 G.result h) h
 
-returns : tie.Need-returns
+pub returns : goal.returns
 unfolding gap_square
 returns c =
-    let a = c.before.before.args in let P = c.before.before.requires in let G = c.before.gap_of in
+    let a = c.args in let P = c.requires in let G = c.gap_of in
     let h : nat_abs G.result ≤ 2047 = rw G.ensures (gap_most a.y a.x P.1 P.0) in
     let g : nat_abs (pos a.y -ℤ pos a.x) ≡ (a.x - a.y) + (a.y - a.x) = omega (arith, gap_pos a.y a.x) in
     let e : c.squared.result ≡ gap_square a.x a.y =
     c.squared.ensures ∙ ap (λ (z : ℤ). nat_abs z * nat_abs z) (back_16 G.result h ∙ G.ensures) ∙ ap (λ (n : ℕ). n * n) g in
     (e, omega (arith, e, square_most a.x a.y P.0 P.1))
-
-pub square-gap-spec : {M : Type 1} → statement M
-square-gap-spec = tie.close (tie.spec gap-of-requires squared-requires returns)
