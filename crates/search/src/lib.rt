@@ -4,6 +4,7 @@
 // from the highest on, and page. The first one is taken until its bound exceeds the k-th distance: an inner page gives its
 // entries to the heap, a leaf page is handed to the one function that reads leaf pages.
 #![tactic(auto)]
+
 ghost use Rattle.search.specs.Steps.{asks, Seeks, Looks, Searches, Searched};
 ghost use Rattle.search_model.specs.Asked.{asking};
 

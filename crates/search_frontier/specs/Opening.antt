@@ -1,5 +1,5 @@
 -- What opening an inner page does to the frontier.
-use Rattle.std.specs.Prelude.{◌≡◌, List, ℕ, ◌+◌, ◌≤◌, ◌<◌, length}
+use Rattle.std.specs.Prelude.{◌≡◌, List, ℕ, ◌+◌, ◌≤◌, length}
 use Rattle.lists.specs.Sorting.{insert_all}
 use Rattle.geometry_bounds.specs.Bounds.{Ready}
 use Rattle.pagestore_page.specs.declared.Entry.{Entry}

@@ -1,5 +1,6 @@
 // The frontier: keys of branches in a heap.
 #![tactic(auto)]
+
 ghost use Rattle.std.specs.Prelude.{◌≡◌, ◌≤◌, ◌<◌, min};
 ghost use Rattle.search_model.specs.Numbers.{max_level};
 ghost use Rattle.search_model.specs.Branches.{last_place, page_in};
