@@ -1,5 +1,5 @@
 -- Laws of a point as it is stored, of its weights, and of the query for both.
-use Rattle.std.specs.Prelude.{◌≡◌, refl, Bool, true, false, List, [], ◌∷◌, map, ℕ, zero, suc, ◌+◌, ◌≤◌, ℤ, length, take, replicate}
+use Rattle.std.specs.Prelude.{◌≡◌, refl, Bool, true, false, List, ◌∷◌, map, ℕ, zero, suc, ◌+◌, ◌≤◌, ℤ, length, take, replicate}
 use Rattle.std.proofs.Common.{sym, ap, ap₂, ◌∙◌, subst, arith}
 use Rattle.std.proofs.lemmas.List.{length-map, length-replicate}
 use Rattle.lists.specs.Basics.{All, none, also, if}

@@ -1,5 +1,6 @@
 // What a caller asks, as the search takes it; its definitions say when a question is answered.
 #![tactic(auto)]
+
 ghost use Rattle.std.specs.Prelude.{◌≡◌, true, ◌≤◌, length, replicate};
 ghost use Rattle.lists.specs.Basics.{if};
 ghost use Rattle.geometry_slices.specs.Questions.{LaidOut};
