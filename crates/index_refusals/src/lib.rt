@@ -1,6 +1,7 @@
 // The refusal table: which number an act gives, tested in its order. Of the bytes nothing is known here, and number 2 goes by the header's level
 // alone.
 #![tactic(auto)]
+
 ghost use Rattle.std.specs.Prelude.{◌≡◌, true, ◌≤◌, ◌<◌, length};
 ghost use Rattle.geometry.specs.Stored.{in_range};
 ghost use Rattle.pagestore.specs.Store.{free_at};
