@@ -8,7 +8,7 @@ use Rattle.index_answer.specs.Delivered.{Delivered}
 use Rattle.index_query.specs.Asking.{Question}
 use Rattle.index_query.specs.Answers.{Answers}
 use Rattle.index_refusals.specs.Refusals.{question_rules}
-use Rattle.index_refusals.specs.RefusalLaws.{question_carried}
+use Rattle.index_refusals.proofs.CarriedLaws.{question_carried}
 use Rattle.index_refusals.specs.TrustedLaws.{question_same}
 use Rattle.index_trusted.specs.Questions.{Places, TrustedOutcome}
 use Rattle.index_trusted.specs.QuestionLaws.{handed_over}

@@ -12,11 +12,12 @@ use Rattle.search_model.specs.Questions.{Exchanged, reading_order, to_read}
 use Rattle.search_model.specs.Visit.{leaves_read}
 use Rattle.search_model.specs.OneStamp.{due_by_id, OneStamp}
 use Rattle.index_query.specs.Asking.{Question, sought, Light, Suited}
-use Rattle.index_query.specs.AskingLaws.{read_ordered, any_stamp_exact, one_stamp_exact, exchange_same}
+use Rattle.index_query.proofs.AskingLaws.{read_ordered, any_stamp_exact, one_stamp_exact, exchange_same}
 use Rattle.index_refusals.specs.Refusals.{First, bad_features, bad_coordinate, bad_weight, question_rules, asked_rules}
-use Rattle.index_refusals.specs.RefusalLaws.{question_sound, question_carried}
+use Rattle.index_refusals.proofs.CarriedLaws.{question_sound, question_carried}
 use Rattle.index_refusals.specs.Outcomes.{found_with}
-use Rattle.index_query.specs.Answers.{Answers, search_answers}
+use Rattle.index_query.specs.Answers.{Answers}
+use Rattle.index_query.proofs.AnswerLaws.{search_answers}
 
 -- ---- A QUESTION CARRIED OUT
 

@@ -15,7 +15,8 @@ use Rattle.search_model.specs.Examples.{record_no, unstamped}
 use Rattle.search_model.proofs.ExampleLaws as search-laws
 use Rattle.index_query.specs.Asking.{Question, nearest_of}
 use Rattle.index_refusals.specs.Refusals.{First, question_rules}
-use Rattle.index_refusals.specs.RefusalLaws.{none_fails, Carried, carried_asked}
+use Rattle.index_refusals.specs.RefusalLaws.{none_fails, Carried}
+use Rattle.index_refusals.proofs.CarriedLaws.{carried_asked}
 use Rattle.index_refusals.specs.Outcomes.{found_with}
 use Rattle.tree_laws.specs.UpwardExample.{upward}
 use Rattle.tree_laws.proofs.UpwardExample.{seventeen_sound, seventeen_features, seventeen_leaves}

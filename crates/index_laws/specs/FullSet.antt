@@ -11,9 +11,10 @@ use Rattle.search_model.specs.Visit.{ranking}
 use Rattle.search_model.specs.FullSet.{plain_due}
 use Rattle.search_model.specs.OneStamp.{id_ranking, OneStampLive}
 use Rattle.index_query.specs.Asking.{Question, nearest_of, sought, max_rows}
-use Rattle.index_query.specs.AskingLaws.{full_exact, plain_exact}
+use Rattle.index_query.proofs.AskingLaws.{full_exact, plain_exact}
 use Rattle.index_refusals.specs.Refusals.{Rule, First, question_rules, bad_length, unsound, bad_features, bad_coordinate, bad_k, few_rows, bad_stage_set, day_rules}
-use Rattle.index_refusals.specs.RefusalLaws.{Hold, first_one, none_fails, question_sound, question_carried}
+use Rattle.index_refusals.specs.RefusalLaws.{Hold, first_one, none_fails}
+use Rattle.index_refusals.proofs.CarriedLaws.{question_sound, question_carried}
 use Rattle.index_refusals.specs.Outcomes.{found_with}
 
 -- its rules of the number of rows

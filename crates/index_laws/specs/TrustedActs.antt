@@ -10,9 +10,10 @@ use Rattle.search_model.specs.Questions.{AgreeBut, unread_pages}
 use Rattle.search_model.proofs.SoundLaws.{tree_level}
 use Rattle.search_model.proofs.UnreadLaws.{agree_field}
 use Rattle.index_query.specs.Asking.{Question, sought, AsMany}
-use Rattle.index_query.specs.AskingLaws.{header_read, unread_same}
+use Rattle.index_query.proofs.AskingLaws.{header_read, unread_same}
 use Rattle.index_refusals.specs.Refusals.{First, insert_rules, delete_rules, question_rules, check_rules}
-use Rattle.index_refusals.specs.RefusalLaws.{first_one, none_fails, Carried, carried_asked, question_sound, question_carried}
+use Rattle.index_refusals.specs.RefusalLaws.{first_one, none_fails, Carried}
+use Rattle.index_refusals.proofs.CarriedLaws.{carried_asked, question_sound, question_carried}
 use Rattle.index_refusals.specs.Outcomes.{inserted_with, deleted_with, found_with}
 use Rattle.index_refusals.specs.Trusted.{Suits, trusted_insert, trusted_delete, trusted_question}
 use Rattle.index_refusals.specs.TrustedLaws.{insert_same, delete_same, question_same}

@@ -28,10 +28,10 @@ use Rattle.search_model.specs.Questions.{rows_from, rows_of, leaf_bound, to_read
 use Rattle.search_model.proofs.SoundLaws.{none_held}
 use Rattle.search_model.proofs.SetLaws.{leaves_bound}
 use Rattle.index_query.specs.Asking.{unweighed, weighed, Question, sought, AsMany, Light, Suited}
-use Rattle.index_query.specs.PointLaws.{ones_light}
-use Rattle.index_query.specs.AskingLaws.{question_suits}
+use Rattle.index_query.proofs.PointLaws.{ones_light}
+use Rattle.index_query.proofs.AskingLaws.{question_suits}
 use Rattle.index_refusals.specs.Refusals.{Rule, First, bad_length, unsound, bad_features, bad_coordinate, bad_weight, question_rules, asked_rules}
-use Rattle.index_refusals.specs.RefusalLaws.{question_sound, question_carried}
+use Rattle.index_refusals.proofs.CarriedLaws.{question_sound, question_carried}
 use Rattle.index_refusals.specs.Outcomes.{unless_refused, found_with, nothing_found}
 use Rattle.index_refusals.specs.Trusted.{Suits, trusted_question}
 use Rattle.index.specs.Acts.{question, does}

@@ -1,11 +1,9 @@
 -- What it means that a question is answered: demands 2 and 3, of the live records and the leaves of a sound index.
-use Rattle.std.specs.Prelude.{◌≡◌, true, ◌&&◌, ◌↔◌, List, map, ℕ, ◌≤◌, length, take, ℤ}
-use Rattle.std.proofs.Common.{ap, ◌∙◌}
+use Rattle.std.specs.Prelude.{◌≡◌, true, ◌&&◌, ◌↔◌, List, map, ℕ, length, take, ℤ}
 use Rattle.lists.specs.Basics.{All}
 use Rattle.lists.specs.Sorting.{count, filter, sort}
-use Rattle.calendar.specs.Days.{undated, Passes, InCalendars}
+use Rattle.calendar.specs.Days.{undated, Passes}
 use Rattle.calendar.specs.Counting.{window_of, in_window}
-use Rattle.calendar.proofs.Promises.{window_days}
 use Rattle.geometry.specs.Features.{dist_to}
 use Rattle.pagestore_page.specs.declared.Record.{Record}
 use Rattle.pagestore.specs.Store.{view_of}
@@ -14,11 +12,9 @@ use Rattle.tree_model.specs.Sound.{SoundIndex}
 use Rattle.search_theory.specs.Nearest.{nearest}
 use Rattle.search_rows.specs.Rows.{newest_first}
 use Rattle.search_model.specs.Asked.{in_stages, full_set, distance_to}
-use Rattle.search_model.specs.Visit.{Answer as Found, ranking, found}
+use Rattle.search_model.specs.Visit.{Answer as Found, ranking}
 use Rattle.search_model.specs.Questions.{live_candidates, Called, rows_of, to_read}
-use Rattle.search_model.proofs.ExactLaws.{rows_by_stamp}
-use Rattle.index_query.specs.Asking.{Question, sought, distance_by, Suited, bare, bare_of}
-use Rattle.index_query.specs.AskingLaws.{distance_by_law, gap_by, among_live, full_live, live_rows, called_for, sought_exact}
+use Rattle.index_query.specs.Asking.{Question, sought, distance_by, bare, bare_of}
 
 -- f answers the question w on index b
 pub record Answers (b : List ℕ) (w : Question) (f : Found) : Type 0 where
@@ -48,19 +44,3 @@ pub record Answers (b : List ℕ) (w : Question) (f : Found) : Type 0 where
 abbrev pub AnswersIfSound : List ℕ → Question → Found → Type 0
 AnswersIfSound b w f = SoundIndex b → Answers b w f
 
--- what the search finds on a sound index that the question suits, its dates being in the calendar
-pub search_answers : (b : List ℕ) → SoundIndex b → (w : Question) → Suited (view_of b).d w → 1 ≤ w.k → InCalendars w.days → Answers b w (found b (sought w))
-search_answers b s w d one dates =
-    let e = sought_exact b s w d one in
-    record {
-      rows = ap (λ (f : Found). f.rows) e;
-      order = ap (λ (f : Found). f.rows) e ∙ rows_by_stamp b s (sought w);
-      each = live_rows w (view_of b);
-      among = among_live w (view_of b);
-      full = full_live b s w;
-      days = window_days w.days dates;
-      squared = gap_by (view_of b).d w d;
-      grid = distance_by_law w.weights w.point;
-      leaves = ap (λ (f : Found). f.leaves) e;
-      set = called_for b s w d;
-    }

@@ -1,4 +1,2 @@
 pub mod Asking
-pub mod PointLaws
-pub mod AskingLaws
 pub mod Answers

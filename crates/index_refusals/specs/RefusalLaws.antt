@@ -14,7 +14,7 @@ use Rattle.tree_laws.specs.KeyedPromises.{found_all}
 use Rattle.search_model.specs.Asked.{full_set}
 use Rattle.index_query.specs.Asking.{Question, Light, Suited, max_rows}
 use Rattle.index_refusals.specs.declared.Epoch.{Epoch}
-use Rattle.index_refusals.specs.Refusals.{Rule, First, numbers, live_times, make_rules, insert_rules, delete_rules, question_rules, asked_rules, check_rules}
+use Rattle.index_refusals.specs.Refusals.{Rule, First, numbers, live_times, make_rules, insert_rules, delete_rules, question_rules, check_rules}
 
 pub first_one : (rules : List Rule) (m n : ℕ) → First rules m → First rules n → m ≡ n
 first_one [] m n e f = e ∙ sym f
@@ -110,17 +110,3 @@ pub record Carried (d : ℕ) (w : Question) (n : ℕ) : Type 0 where
   pub set : (1 ≤ w.stages) × (w.stages ≤ full_set)
   pub dates : InCalendars w.days
   pub order : InOrder w.days
-
-pub asked_carried : (d : ℕ) (w : Question) (n : ℕ) → Suited d w → in_range w.point ≡ true → Light w.weights → Hold (asked_rules w n) → Carried d w n
-asked_carried d w n e r l h = record { features = e; ranges = r; light = l; some = h.0.0; most = h.0.1; lent = h.1.0; set = h.1.1.0; dates = h.1.1.1.0; order = h.1.1.1.1.0 }
-
--- and conversely
-pub carried_asked : (d : ℕ) (w : Question) (n : ℕ) → Carried d w n → Hold (asked_rules w n)
-carried_asked d w n h = ((h.some, h.most), (h.lent, (h.set, (h.dates, (h.order, tt)))))
-
-module _ (b : List ℕ) (w : Question) (n : ℕ) (h : First (question_rules b w n) 0) where
-  pub question_sound : SoundIndex b
-  question_sound = (all_hold (question_rules b w n) refl h).1.0
-
-  pub question_carried : Carried (view_of b).d w n
-  question_carried = let a = all_hold (question_rules b w n) refl h in asked_carried (view_of b).d w n a.1.1.0 a.1.1.1.0 a.1.1.1.1.0 a.1.1.1.1.1

@@ -12,7 +12,7 @@ use Rattle.search_model.proofs.SoundLaws.{tree_level}
 use Rattle.index_query.specs.Asking.{Question}
 use Rattle.index_refusals.specs.declared.Epoch.{Epoch}
 use Rattle.index_refusals.specs.Refusals.{Rule, First, numbers, live_times, insert_rules, delete_rules, question_rules}
-use Rattle.index_refusals.specs.RefusalLaws.{all_hold, later, Carried, asked_carried}
+use Rattle.index_refusals.specs.RefusalLaws.{later}
 use Rattle.index_refusals.specs.Trusted.{Suits, trusted_insert, trusted_delete, trusted_question}
 use Rattle.search_model.specs.Numbers.{max_level}
 
@@ -112,6 +112,3 @@ module _ (b : List ℕ) (s : SoundIndex b) where
       )
 
 -- ---- A QUESTION THAT IS NOT REFUSED
-
-pub trusted_carried : (b : List ℕ) (w : Question) (n : ℕ) → First (trusted_question b w n) 0 → Carried (view_of b).d w n
-trusted_carried b w n h = let a = all_hold (trusted_question b w n) refl h in asked_carried (view_of b).d w n (a.1.1.0.0.2, a.1.1.0.1) a.1.1.1.0 a.1.1.1.1.0 a.1.1.1.1.1

@@ -15,11 +15,12 @@ use Rattle.search.specs.Steps.{asks, Searches, Searched}
 use Rattle.search_model.specs.Visit.{Answer as Found, found}
 use Rattle.index_answer.specs.declared.Answer.{Answer}
 use Rattle.index_query.specs.Asking.{Question, Searchable, QueryFor, sought}
-use Rattle.index_query.specs.AskingLaws.{weights_own}
-use Rattle.index_query.specs.Answers.{AnswersIfSound, search_answers}
+use Rattle.index_query.proofs.AskingLaws.{weights_own}
+use Rattle.index_query.specs.Answers.{AnswersIfSound}
+use Rattle.index_query.proofs.AnswerLaws.{search_answers}
 use Rattle.index_refusals.specs.Refusals.{Rule, First}
 use Rattle.index_refusals.specs.Trusted.{trusted_question}
-use Rattle.index_refusals.specs.TrustedLaws.{trusted_carried}
+use Rattle.index_refusals.proofs.CarriedLaws.{trusted_carried}
 use Rattle.index_refusals.specs.Outcomes.{found_with, nothing_found}
 use Rattle.index_trusted.specs.Questions.{Places, OutcomeBy, Refused, Answered}
 use Rattle.index_refusals.proofs.RuleLaws.{none_refuses}

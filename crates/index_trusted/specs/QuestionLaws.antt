@@ -18,7 +18,7 @@ use Rattle.index_refusals.specs.RefusalLaws.{Carried}
 use Rattle.index_refusals.specs.Outcomes.{unless_refused, found_with, nothing_found}
 use Rattle.index_query.specs.Answers.{AnswersIfSound}
 use Rattle.index_refusals.specs.Trusted.{trusted_question}
-use Rattle.index_refusals.specs.TrustedLaws.{trusted_carried}
+use Rattle.index_refusals.proofs.CarriedLaws.{trusted_carried}
 use Rattle.index_trusted.specs.Questions.{written, Places, QuestionedBy, OutcomeBy, TrustedOutcome, TrustedQuestioned}
 
 module _ (lent : List Row) (hs ls : List ℕ) (c : ℕ) (f : Found) where

@@ -1,7 +1,7 @@
 use mathlib.Core.Path.{refl, sym}
 use native.Mathlib.Omega.{arith}
 use lib.Seq.{length-take-le}
-use Rattle.index_query.specs.PointLaws.{first_ones, laid_as}
+use Rattle.index_query.proofs.PointLaws.{first_ones, laid_as}
 use Rattle.index_query.proofs.features_by.Goals as goal
 
 -- `features_by` meets its contract: where no weights are carried, the first of its ones are as many as the point has coordinates.

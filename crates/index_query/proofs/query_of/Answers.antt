@@ -2,7 +2,7 @@ use mathlib.Core.Path.{◌≡◌, sym, ◌∙◌}
 use native.Mathlib.Omega.{arith}
 use lib.ListN.{length, length-take}
 use lib.Seq.{length-take-le}
-use Rattle.index_query.specs.PointLaws.{own_weights, query_for}
+use Rattle.index_query.proofs.PointLaws.{own_weights, query_for}
 use borrow.Author.Rules.{rules}
 use Rattle.lists.specs.Lengths.{unmapped}
 use Rattle.index_query.proofs.query_of.Goals as goal
