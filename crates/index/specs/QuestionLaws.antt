@@ -11,7 +11,7 @@ use Rattle.index_refusals.specs.Refusals.{question_rules}
 use Rattle.index_refusals.proofs.CarriedLaws.{question_carried}
 use Rattle.index_refusals.specs.TrustedLaws.{question_same}
 use Rattle.index_trusted.specs.Questions.{Places, TrustedOutcome}
-use Rattle.index_trusted.specs.QuestionLaws.{handed_over}
+use Rattle.index_trusted.proofs.QuestionLaws.{handed_over}
 use Rattle.index.specs.Questions.{QuestionOutcome, Questioned}
 
 pub asked_same : (b : List ℕ) → SoundIndex b → (w : Question) (m : ℕ) (hs ls : List ℕ) (r : Answer) → TrustedOutcome b w m hs ls r → QuestionOutcome b w m hs ls r

@@ -1,5 +1,2 @@
 pub mod AskLaws
-pub mod LocalLoans
-pub mod QuestionMir
-pub mod QuestionWalk
-pub mod QuestionMeets
+pub mod QuestionLaws

@@ -1,3 +1,2 @@
 pub mod Changes
 pub mod Questions
-pub mod QuestionLaws

@@ -2,6 +2,7 @@
 // (`trusted_same`), and leaves a sound one. On any other bytes it ends without a fault, and what it returns and leaves is stated too:
 // a level that no sound index has is refused with 2.
 #![tactic(auto)]
+
 ghost use Rattle.index_query.specs.Asking.{question_of, Searchable};
 ghost use Rattle.index_trusted.specs.Changes.{TrustedInserted, TrustedDeleted};
 ghost use Rattle.index_trusted.specs.Questions.{Places, Refused, Answered, TrustedOutcome, TrustedQuestioned};
