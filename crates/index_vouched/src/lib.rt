@@ -4,6 +4,7 @@
 // the identifier in it twice. A delete of a record that is not there is refused, so that a wrong word does no harm. On any bytes each ends
 // without a fault, and what it returns and leaves is stated.
 #![tactic(auto)]
+
 ghost use Rattle.index_refusals.specs.Refusals.{First};
 ghost use Rattle.index_vouched.specs.Vouched.{vouched_insert, VouchedInserted, VouchedDeleted};
 
