@@ -43,7 +43,7 @@ step_kept {d = d} {n = n} {b = b} {l = l} {c = c} {t = t} (acted e w) =
 
 pub runs_kept : {d n : ℕ} {b c t : List ℕ} (ls : List (List ℕ)) → Runs d b n (map kept ls) c t → Runs d b n ls c t
 runs_kept [] texts.end = texts.end
-runs_kept (l ∷ ls) (texts.next h r) = texts.next (step_kept h) (runs_kept ls r)
+runs_kept {d = d} {n = n} {c = c} (l ∷ ls) (texts.next {m = m} h r) = texts.next (step_kept h) (runs_kept {d = d} {n = n + 1} {b = m} {c = c} ls r)
 
 -- ---- A TEXT IS A SERIES OF ACTS
 

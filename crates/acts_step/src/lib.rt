@@ -1,6 +1,7 @@
 // The acts program by the line (01, "The acts program"): what the first line and each line of values do to the index and print, and how a
 // run goes on from chunk to chunk of input.
 #![tactic(auto)]
+
 mod acting;
 mod input;
 mod lines;

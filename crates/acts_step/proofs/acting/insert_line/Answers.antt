@@ -1,0 +1,8 @@
+use native.Mathlib.Omega.{arith}
+use Rattle.acts_step.proofs.ActLaws.{inserted}
+use Rattle.acts_step.proofs.acting.insert_line.Goals as goal
+
+pub returns : goal.returns
+returns c =
+    let a = c.args in let P = c.put_result in let I = c.insert-code in
+    inserted _ _ _ _ _ _ _ _ P.ensures.1 a.epoch _ (omega arith, omega arith) I.ensures.0 I.ensures.1 P.ensures.0
