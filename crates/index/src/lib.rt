@@ -2,6 +2,7 @@
 // (`index_refusals`). An act is the check and then the act without it (`index_trusted`), which a caller that holds its index alone may use by
 // itself. A caller that also keeps the identifiers and their points may insert and delete without a look for the identifier (`index_vouched`).
 #![tactic(auto)]
+
 use index_answer::{Answer, Tally};
 use search_rows::{MAX_ROWS, Row};
 
