@@ -3,8 +3,8 @@
  *
  * A point is 1 to 16 whole numbers from -1,000 to 1,000. An epoch is a point with an identifier, a sleep stage and a stamp: seconds since
  * 1 January 2000 00:00 by the lab clock. An index is whole pages of 1,024 bytes, and all of it lies in those bytes: they may be stored,
- * sent and mapped as they are. Link target/staticlib/libepoch_index.a (x86-64 Linux), which `rt staticlib epoch_index` writes once every
- * function in it is proved to meet its contract.
+ * sent and mapped as they are. Link target/staticlib/libepoch_index.a (x86-64 Linux), which `./build archive` writes once every function
+ * in it is proved to meet its contract.
  *
  * What holds of every function here:
  * - All memory is the caller's. Nothing is allocated, and no pointer is kept after the return. There is no other state, so threads may work

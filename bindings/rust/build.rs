@@ -1,5 +1,5 @@
-//! Links libepoch_index.a, which `rt staticlib epoch_index` writes. It is looked for in the folder that EPOCH_INDEX_LIB_DIR names, and
-//! without that variable in target/staticlib of the repository that this crate stands in.
+//! Links libepoch_index.a, which `./build archive` writes at the top of the repository. It is looked for in the folder that
+//! EPOCH_INDEX_LIB_DIR names, and without that variable in target/staticlib of the repository that this crate stands in.
 use std::env;
 use std::path::{Path, PathBuf};
 
@@ -12,7 +12,7 @@ fn main() {
     };
     let archive = folder.join("libepoch_index.a");
     if !archive.is_file() {
-        panic!("there is no {}: run `rt staticlib epoch_index`, or set EPOCH_INDEX_LIB_DIR to its folder", archive.display());
+        panic!("there is no {}: run `./build archive` at the top of the repository, or set EPOCH_INDEX_LIB_DIR to its folder", archive.display());
     }
     println!("cargo:rerun-if-changed={}", archive.display());
     println!("cargo:rustc-link-search=native={}", folder.display());
