@@ -12,7 +12,8 @@ use Rattle.tree_model.specs.Sound.{Permitted}
 use Rattle.index_query.specs.Asking.{Question}
 use Rattle.index.specs.Acts.{Act, question, Done, Series, end, next, held_by}
 use Rattle.index.specs.Acts as acts
-use Rattle.index_laws.specs.Series.{Stands, series}
+use Rattle.index_laws.specs.Series.{Stands}
+use Rattle.index_laws.proofs.Series.{series}
 use Rattle.index_query.specs.Answers.{Answers}
 use Rattle.index_laws.specs.Answers.{question_answers}
 use Rattle.acts_text.specs.declared.ActLine.{ActLine}

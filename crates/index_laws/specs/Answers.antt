@@ -39,15 +39,19 @@ module _ (b : List ℕ) (w : Question) (n : ℕ) (h : First (question_rules b w 
 
 -- ---- EXCHANGE
 
+-- of two sound indexes of the same d
+code_kept : (b c : List ℕ) → SoundIndex b → SoundIndex c → (view_of c).d ≡ (view_of b).d → (w : Question) (n m : ℕ) → First (question_rules b w n) m → First (question_rules c w n) m
+unfolding view_of
+code_kept b c sb sc same w n m (inl e) = absurd (e.1 sb.lent)
+code_kept b c sb sc same w n m (inr (l, inl e)) = absurd (e.1 sb)
+code_kept b c sb sc same w n m (inr (l, inr (s, rest))) =
+    inr (sc.lent, inr (sc, subst (λ (d : ℕ). First ((bad_features, Suited d w) ∷ (bad_coordinate, in_range w.point ≡ true) ∷ (bad_weight, Light w.weights) ∷ asked_rules w n) m) (sym same) rest))
+
 -- two sound indexes of the same d
 module _ (b c : List ℕ) (sb : SoundIndex b) (sc : SoundIndex c) (alike : (view_of c).d ≡ (view_of b).d) (w : Question) (n : ℕ) where
   -- the number is the same
   pub exchange_code : (m : ℕ) → First (question_rules b w n) m → First (question_rules c w n) m
-  unfolding view_of
-  exchange_code m (inl e) = absurd (e.1 sb.lent)
-  exchange_code m (inr (l, inl e)) = absurd (e.1 sb)
-  exchange_code m (inr (l, inr (s, rest))) =
-      inr (sc.lent, inr (sc, subst (λ (d : ℕ). First ((bad_features, Suited d w) ∷ (bad_coordinate, in_range w.point ≡ true) ∷ (bad_weight, Light w.weights) ∷ asked_rules w n) m) (sym alike) rest))
+  exchange_code m = code_kept b c sb sc alike w n m
 
   -- The leaves of b's set have the same records in c, any other leaf the same record number, first key and last key: rows and
   -- count are the same, and the rows are the k nearest of the records that c holds.
@@ -56,4 +60,4 @@ module _ (b c : List ℕ) (sb : SoundIndex b) (sc : SoundIndex c) (alike : (view
   exchange_answers h x =
       let a = question_carried b w n h in
       let e : found_with 0 c w ≡ found_with 0 b w = exchange_same b sb w a.features a.some c sc alike x in
-      (e, rw (sym e) (question_answers c w n (exchange_code 0 h)))
+      (e, rw (sym e) (question_answers c w n (code_kept b c sb sc alike w n 0 h)))

@@ -1,11 +1,10 @@
--- series (01, demand 2): after any list of acts on a newly made index, make apart, the index is sound, the live records are those
--- inserted and not deleted since, and each question returns the k nearest of those whose stage is in its set and whose stamp lies in its days, with the exact number of leaves.
-use Rattle.std.specs.Prelude.{◌≡◌, refl, List, [], ◌∷◌, ◌++◌, ℕ, zero, suc, ◌≤◌, ◌<◌, ℤ, length}
-use Rattle.std.proofs.Common.{sym, ap, subst, ◌∙◌, arith}
+-- What stands after acts: a sound index whose live records are those inserted and not deleted since; and what a series comes to at one of its acts.
+use Rattle.std.specs.Prelude.{◌≡◌, refl, List, ℕ, zero, suc, ◌≤◌, ◌<◌, ℤ, length}
+use Rattle.std.proofs.Common.{ap, ◌∙◌, arith}
 use Rattle.pagestore_page.specs.declared.Record.{Record}
-use Rattle.pagestore.specs.Store.{view_of, new_index}
+use Rattle.pagestore.specs.Store.{view_of}
 use Rattle.tree_model.specs.Trees.{live}
-use Rattle.tree_model.specs.Sound.{Permitted, SoundIndex}
+use Rattle.tree_model.specs.Sound.{SoundIndex}
 use Rattle.tree_core.specs.Insertion.{insert_into}
 use Rattle.tree_model.specs.Inserting.{insert_record}
 use Rattle.tree_core.specs.Deletion.{delete_from}
@@ -14,7 +13,6 @@ use Rattle.tree_core.specs.Lookup.{find_in}
 use Rattle.tree_laws.specs.InsertPromises.{MayInsert}
 use Rattle.tree_laws.proofs.InsertPromises.{insert_sound, insert_live, insert_features}
 use Rattle.tree_laws.specs.DeletePromises.{delete_sound, delete_live, delete_features}
-use Rattle.tree_laws.specs.NewPromises.{new_sound, new_live, new_features}
 use Rattle.search_model.specs.Visit.{Answer as Found}
 use Rattle.index_query.specs.Asking.{Question}
 use Rattle.index_refusals.specs.declared.Epoch.{Epoch}
@@ -23,8 +21,6 @@ use Rattle.index_refusals.specs.RefusalLaws.{all_hold}
 use Rattle.index_refusals.specs.Outcomes.{unless_refused}
 use Rattle.index.specs.Acts.{EpochFits, Act, insert, delete, question, check, Done, does, Does, Series, end, next, changed_by, held_after, held_by}
 use Rattle.index_laws.specs.NewRecords.{record_fits, record_ok}
-use Rattle.index_query.specs.Answers.{Answers}
-use Rattle.index_laws.specs.Answers.{question_answers}
 
 -- a sound index of d features whose live records are rs, in key order
 pub record Stands (d : ℕ) (rs : List Record) (b : List ℕ) : Type 0 where
@@ -84,18 +80,10 @@ sound_after b s a code f c h = (act_stands (view_of b).d (live (view_of b)) b (r
 
 -- ---- A SERIES
 
-series_stands : (d : ℕ) (rs : List Record) {b c : List ℕ} {os : List Done} → Stands d rs b → Series b os c → Stands d (held_by d os rs) c
+pub series_stands : (d : ℕ) (rs : List Record) {b c : List ℕ} {os : List Done} → Stands d rs b → Series b os c → Stands d (held_by d os rs) c
 unfolding held_by
 series_stands d rs s end = s
 series_stands d rs {b = b} s (next {m = m} {o = o} h t) = series_stands d (held_after d o rs) (act_stands d rs b s o.act o.code o.answer m h) t
-
-module _ (b : List ℕ) (d : ℕ) (lent : Permitted (length b)) (low : 1 ≤ d) (high : d ≤ 16) where
-  pub new_stands : Stands d [] (new_index b d)
-  new_stands = record { sound = new_sound b d lent low high; features = new_features b d lent low high; holds = new_live b d lent low high }
-
-  -- the index after any series on a newly made one
-  pub series : {os : List Done} {c : List ℕ} → Series (new_index b d) os c → Stands d (held_by d os []) c
-  series h = series_stands d [] new_stands h
 
 -- ---- EACH QUESTION OF A SERIES
 
@@ -107,20 +95,6 @@ pub record Reached (b : List ℕ) (xs : List Done) (o : Done) (ys : List Done) (
   pub done : Does met o left
   pub after : Series left ys c
 
-reached : (b : List ℕ) (xs : List Done) (o : Done) (ys : List Done) (c : List ℕ) → Series b (xs ++ (o ∷ ys)) c → Reached b xs o ys c
-reached b [] o ys c (next {m = m} h t) = record { met = b; left = m; before = end; done = h; after = t }
-reached b (x ∷ xs) o ys c (next {m = m} h t) =
-    let r = reached m xs o ys c t in record { met = r.met; left = r.left; before = next h r.before; done = r.done; after = r.after }
-
 -- a question as it is done when it is carried out
 abbrev pub asked : Question → ℕ → Found → Done
 asked w n f = record { act = question w n; code = 0; answer = f }
-
-module _ (b : List ℕ) (d : ℕ) (lent : Permitted (length b)) (low : 1 ≤ d) (high : d ≤ 16) where
-  -- each question in a series returns the k nearest of the records inserted and not deleted before it whose stage is in its set and whose stamp lies in its
-  -- days, and reads the leaves of the exact set
-  pub series_question : (xs ys : List Done) (w : Question) (n : ℕ) (f : Found) (c : List ℕ) → Series (new_index b d) (xs ++ (asked w n f ∷ ys)) c
-      → (m : List ℕ) × (Series (new_index b d) xs m × (Stands d (held_by d xs []) m × Answers m w f))
-  series_question xs ys w n f c h =
-      let r = reached (new_index b d) xs (asked w n f) ys c h in
-      (r.met, (r.before, (series b d lent low high r.before, subst (Answers r.met w) (sym r.done.1) (question_answers r.met w n r.done.0))))
