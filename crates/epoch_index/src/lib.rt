@@ -1,6 +1,7 @@
 // The acts for programs in C and other languages (include/epoch_index.h, include/epoch_index_unchecked.h). Each is the act of `index`,
 // `index_trusted` or `index_vouched` and promises what that promises.
 #![tactic(auto)]
+
 ghost use Rattle.index_query.specs.Asking.{question_of};
 ghost use Rattle.index_trusted.specs.Changes.{TrustedInserted, TrustedDeleted};
 ghost use Rattle.index_trusted.specs.Questions.{TrustedQuestioned};
