@@ -112,6 +112,7 @@ fn at_most_255(x: u32) -> u8
 }
 
 // The act that a readable line asks for.
+#[tactic(auto, using(crate::proofs::ActLaws::does_delete))]
 pub fn do_act(index: &mut [u8], a: ActLine, number: u64, out: &mut [u8], at: usize) -> usize
     requires { (a.d ≤ 16) × (at + most_printed ≤ length out.old) }
     ensures { Puts (Acted (asked_by a) index.old number index.new)

@@ -2,7 +2,7 @@ use mathlib.Core.Path.{◌≡◌, sym}
 use native.Mathlib.Omega.{arith}
 use lib.ListN.{length, take}
 use lib.Seq.{length-take-le}
-use Rattle.acts_step.proofs.ActLaws.{does_insert, does_delete, does_question}
+use Rattle.acts_step.proofs.ActLaws.{does_insert, does_question}
 use borrow.Author.Rules.{rules}
 use Rattle.lists.specs.Lengths.{unmapped}
 use Rattle.acts_step.proofs.acting.do_act.Goals.{Start}
@@ -15,9 +15,6 @@ slots c = search (unmapped, rules)
 
 fits : (c : Start) → c.args.a.d ≡ length (take c.args.a.d c.args.a.coords)
 fits c = sym (length-take-le c.args.a.d c.args.a.coords (omega (arith, slots c, c.requires.0)))
-
-pub returns-then-a-eq2 : goal.returns-then-a-eq2
-returns-then-a-eq2 c = does_delete c.args.a _ _ _ _ _ _ _ c.if-a-eq2.true c.delete_line.ensures
 
 pub slice_bounds-coords-end : goal.slice_bounds-coords-end
 slice_bounds-coords-end c = omega (arith, slots (goal.at.slice_bounds-coords-end c).Start, c.requires.0)

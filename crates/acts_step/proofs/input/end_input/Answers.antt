@@ -1,7 +1,7 @@
-use mathlib.Core.Path.{refl, sym}
+use mathlib.Core.Path.{sym}
 use mathlib.Core.Logic.{inl, inr}
 use lib.Seq.{length-take-le}
-use Rattle.acts_step.specs.Advances.{closed, last}
+use Rattle.acts_step.specs.Advances.{last}
 use Rattle.acts_step.proofs.input.end_input.Goals as goal
 
 -- `input::end_input` meets its contract. Assumes nothing.
@@ -10,9 +10,6 @@ slice_bounds-end_line-end c = sym (length-take-le _ _ c.requires.1)
 
 pub returns-then-s-eq1 : goal.returns-then-s-eq1
 returns-then-s-eq1 c = last (inl c.if-s-eq1.true) c.end_line.ensures.0
-
-pub returns-then-n-eq0 : goal.returns-then-n-eq0
-returns-then-n-eq0 c = closed c.if-s-eq1.false c.if-n-eq0.true refl refl refl
 
 pub slice_bounds-end_line-end-2 : goal.slice_bounds-end_line-end-2
 slice_bounds-end_line-end-2 c = sym (length-take-le _ _ c.requires.1)
