@@ -1,5 +1,6 @@
 // The geometry of the index: keys, the pyramid and height of a point, gaps and what they cost.
 #![tactic(auto)]
+
 pub mod keys;
 pub mod points;
 

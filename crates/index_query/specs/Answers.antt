@@ -43,4 +43,3 @@ pub record Answers (b : List ℕ) (w : Question) (f : Found) : Type 0 where
 -- where nothing is known of the index: it does if the index is sound
 abbrev pub AnswersIfSound : List ℕ → Question → Found → Type 0
 AnswersIfSound b w f = SoundIndex b → Answers b w f
-

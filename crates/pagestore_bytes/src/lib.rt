@@ -1,5 +1,6 @@
 // Numbers in bytes, little-endian.
 #![tactic(auto)]
+
 ghost use Rattle.std.specs.Prelude.{◌≡◌, [], ◌∷◌, ◌+◌, ◌<◌, ◌≤◌, length, replicate};
 ghost use Rattle.pagestore_bytes.specs.Bytes.{byte_at, le_at, le_bytes, put};
 

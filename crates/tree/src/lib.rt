@@ -1,5 +1,6 @@
 // The tree over the page store: insert, delete, find, the number of leaves. Nothing is assumed of what the index holds.
 #![tactic(auto)]
+
 mod lookup;
 
 pub use lookup::{find, leaf_count};
