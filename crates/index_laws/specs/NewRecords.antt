@@ -1,5 +1,5 @@
 -- The record that an insert brings can be stored and is in range.
-use Rattle.std.specs.Prelude.{◌≡◌, true, List, map, ℕ, zero, suc, ◌-◌, ◌^◌, ◌≤◌, ◌<◌, ℤ, take, replicate}
+use Rattle.std.specs.Prelude.{◌≡◌, true, List, map, ℕ, zero, suc, ◌-◌, ◌≤◌, ℤ, take, replicate}
 use Rattle.std.proofs.Common.{subst, arith}
 use Rattle.std.proofs.Math.ListN.{length, length-append, length-replicate, length-map}
 use Rattle.lists.specs.Basics.{All, none, also, all_map, all_append}
