@@ -95,6 +95,9 @@ pub act_long : (d : ℕ) (l : List ℕ) → limit < length l → unreadable ≡ 
 unfolding act_of
 act_long d l h = rw (lt-ltb limit (length l) h)
 
+pub long_line : (d : ℕ) (l : List ℕ) (r : ActLine) → r ≡ unreadable → limit < length l → r ≡ act_of d l
+long_line d l r e h = e ∙ act_long d l h
+
 pub act_wide : (d : ℕ) (l : List ℕ) → length l ≤ limit → max_features < d → unreadable ≡ act_of d l
 unfolding act_of
 act_wide d l h k = rw (le-ltb limit (length l) h, lt-ltb max_features d k)

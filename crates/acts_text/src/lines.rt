@@ -139,6 +139,7 @@ fn line_of(v: &[u64], d: usize) -> ActLine
 }
 
 // What a line says, where d coordinates are named.
+#[tactic(auto, using(crate::proofs::CellLaws::long_line))]
 pub fn read_act(line: &[u8], d: usize) -> ActLine
     ensures { result ≡ act_of d line.now }
 {

@@ -1,5 +1,6 @@
 use mathlib.Core.Path.{◌≡◌, refl, ap, ◌∙◌}
 use mathlib.Core.List.{◌++◌}
+use native.Mathlib.Omega.{arith}
 use Rattle.tree_core.specs.Insertion.{insert_into}
 use Rattle.index_refusals.specs.Refusals.{record_of}
 use Rattle.index_refusals.specs.OutcomeLaws.{carried_out_law, left_alone}
@@ -8,7 +9,7 @@ use Rattle.index_refusals.proofs.RuleLaws.{pair_fits, stage_rule}
 use Rattle.index_vouched.proofs.insert.Goals as goal
 
 pub record_of-x-requires : goal.record_of-x-requires
-record_of-x-requires c = let a = c.args in pair_fits a.index.now a.epoch.id a.point.now (stage_rule a.epoch ++ room_rules a.index.now a.epoch a.point.now) refl _ c.refuse_vouched-code.ensures c.if-code-eq0.true
+record_of-x-requires c = let a = c.args in pair_fits a.index.now a.epoch.id a.point.now (stage_rule a.epoch ++ room_rules a.index.now a.epoch a.point.now) refl _ c.refuse_vouched-code.ensures (omega arith)
 
 pub returns-then-code-eq0 : goal.returns-then-code-eq0
 returns-then-code-eq0 c =

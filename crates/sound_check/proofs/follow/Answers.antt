@@ -23,7 +23,7 @@ returns-then-total_records-gt-SMALL_POINTS c = c.tree_many-then-total_records-gt
 
 pub tree_few-requires : goal.tree_few-requires
 unfolding view_of
-tree_few-requires c = let s = c in let b = s.args.index.now in let M = grown_marks (view_of b) c.root_page.ensures c.reach.ensures in (s.requires.0, M, omega (arith, c.if-page_count-gt-SMALL_PAGES.false, c.page_count.ensures), omega (arith, c.if-total_records-gt-SMALL_POINTS.false, c.total_records.ensures))
+tree_few-requires c = let s = c in let b = s.args.index.now in let M = grown_marks (view_of b) c.root_page.ensures c.reach.ensures in (s.requires.0, M, omega (arith, c.if-page_count-gt-SMALL_PAGES.false, c.page_count.ensures), omega (arith, c.total_records.ensures))
 
 pub returns : goal.returns
 returns c = c.tree_few.ensures

@@ -46,7 +46,7 @@ returns c = let b = c.args.index.now in
     judge_eq c.level_at.result c.root_level.result
     (λ h. record {
       size = sym (ap (λ (n : ℕ). n * 1024) (c.place-size.ensures ∙ c.index_size.ensures)) ∙ c.if-size-index.false;
-      features = (omega (arith, c.features_of-d.ensures, c.if-d-lt1.false), omega (arith, c.features_of-d.ensures, c.if-d-gt-FEATURES.false));
+      features = (omega (arith, c.features_of-d.ensures, c.if-d-lt1.false), omega (arith, c.features_of-d.ensures));
       fresh = (omega (arith, R.ensures, F, low), omega (arith, F, N, fits));
       root = (omega (arith, R.ensures, real), omega (arith, R.ensures, F, N, low, fits));
       root_fresh = omega (arith, R.ensures, F, low);

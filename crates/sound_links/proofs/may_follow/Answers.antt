@@ -18,4 +18,4 @@ pub returns-then-n-lt-LEAST : goal.returns-then-n-lt-LEAST
 returns-then-n-lt-LEAST c = let b = c.args.index.now in let p = c.args.c in Judges.fault (λ f. omega (arith, f.fill.0, view_fill b p, c.count_at-n.ensures, c.if-n-lt-LEAST.true))
 
 pub returns : goal.returns
-returns c = let b = c.args.index.now in let p = c.args.c in let n = c.count_at-n.ensures in judge_le c.count_at-n.result _ (λ h. record { range = page_of_law b p (sym c.in_range.ensures ∙ c.if-not-in_range.false); level = omega (arith, view_level b p, c.level_at-level.ensures, c.if-above-level-ne1.false, c.if-above-level.false); fill = (omega (arith, view_fill b p, n, c.if-n-lt-LEAST.false), omega (arith, view_fill b p, n)) }) (λ h f. omega (arith, f.fill.1, view_fill b p, n))
+returns c = let b = c.args.index.now in let p = c.args.c in let n = c.count_at-n.ensures in judge_le c.count_at-n.result _ (λ h. record { range = page_of_law b p (sym c.in_range.ensures ∙ c.if-not-in_range.false); level = omega (arith, view_level b p, c.level_at-level.ensures); fill = (omega (arith, view_fill b p, n, c.if-n-lt-LEAST.false), omega (arith, view_fill b p, n)) }) (λ h f. omega (arith, f.fill.1, view_fill b p, n))

@@ -41,4 +41,4 @@ gives_ends-requires c = let s = c in let b = s.args.index.now in let p = s.args.
 
 pub returns : goal.returns
 unfolding view_of
-returns c = let s = c in let b = s.args.index.now in let p = s.args.p in let e = s.args.e in let a = s.requires.0.at in let K = s.requires.1 in let m = s.args.marks.now in let A = c.place-at.ensures in let l = c.level_at.ensures ∙ sym (view_level b p) in let h : get_or m e.child 0 ≡ level_of ((view_of b).page p) = omega (arith, ap (λ (q : ℕ). get_or m q 0) A, c.if-marks-at.false, l) in let u : e.child < (view_of b).count = omega (arith, c.if-fresh_page-c.false, c.fresh_page.ensures, K.fresh) in let nr : ¬ (e.child ≡ (view_of b).root) = λ z. c.if-c-root_page.false (z ∙ sym c.root_page.ensures) in let R = mark_reached (view_of b) K.marks p s.requires.0.place e a h in let F = reached_fill R nr in let G = K.pages in let x = G.pages e.child u R in let f = G.first e.child u R in let g = G.last e.child u R in judge_map (λ k. record { range = reached_page R; level = mark_level (view_of b) K.marks p s.requires.0.place e a h; fill = F; first = first_right b s.args.firsts.now s.args.lasts.now p s.requires.0.place e a F x f g k; last = last_right b s.args.firsts.now s.args.lasts.now p s.requires.0.place e a F x f g k; root = nr; freed = K.freed.other e.child (λ z. c.if-freed-at-eq1.false (subst (Marked s.args.freed.now) (sym A) z)); fresh = omega (arith, c.if-fresh_page-c.false, c.fresh_page.ensures) }) (ends_fault b s.args.firsts.now s.args.lasts.now p s.requires.0.place e a F x f g) c.gives_ends.ensures
+returns c = let s = c in let b = s.args.index.now in let p = s.args.p in let e = s.args.e in let a = s.requires.0.at in let K = s.requires.1 in let m = s.args.marks.now in let A = c.place-at.ensures in let l = c.level_at.ensures ∙ sym (view_level b p) in let h : get_or m e.child 0 ≡ level_of ((view_of b).page p) = omega (arith, ap (λ (q : ℕ). get_or m q 0) A, c.if-marks-at.false, l) in let u : e.child < (view_of b).count = omega (arith, c.if-fresh_page-c.false, c.fresh_page.ensures, K.fresh) in let nr : ¬ (e.child ≡ (view_of b).root) = λ z. c.if-c-root_page.false (z ∙ sym c.root_page.ensures) in let R = mark_reached (view_of b) K.marks p s.requires.0.place e a h in let F = reached_fill R nr in let G = K.pages in let x = G.pages e.child u R in let f = G.first e.child u R in let g = G.last e.child u R in judge_map (λ k. record { range = reached_page R; level = mark_level (view_of b) K.marks p s.requires.0.place e a h; fill = F; first = first_right b s.args.firsts.now s.args.lasts.now p s.requires.0.place e a F x f g k; last = last_right b s.args.firsts.now s.args.lasts.now p s.requires.0.place e a F x f g k; root = nr; freed = K.freed.other e.child (λ z. omega (arith, z, ap (λ (q : ℕ). get_or s.args.freed.now q 0) A)); fresh = omega (arith, c.if-fresh_page-c.false, c.fresh_page.ensures) }) (ends_fault b s.args.firsts.now s.args.lasts.now p s.requires.0.place e a F x f g) c.gives_ends.ensures

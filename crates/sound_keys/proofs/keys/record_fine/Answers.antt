@@ -10,4 +10,4 @@ pub returns-then-stage-gt-MAX_STAGE : goal.returns-then-stage-gt-MAX_STAGE
 returns-then-stage-gt-MAX_STAGE c = Judges.fault (λ o. omega (arith, o.1, c.if-stage-gt-MAX_STAGE.true))
 
 pub returns : goal.returns
-returns c = judge_le _ _ (λ l. (omega (arith, c.if-k-eq0.false), omega (arith, c.if-stage-gt-MAX_STAGE.false), l)) (λ l o. omega (arith, l, o.2))
+returns c = judge_le _ _ (λ l. (omega (arith, c.if-k-eq0.false), omega arith, l)) (λ l o. omega (arith, l, o.2))
