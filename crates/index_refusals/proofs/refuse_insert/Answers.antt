@@ -1,5 +1,6 @@
-use mathlib.Core.Path.{◌≡◌, refl, sym, ap, ◌∙◌}
+use mathlib.Core.Path.{◌≡◌, refl, ap, ◌∙◌}
 use mathlib.Core.Logic.{inl, inr}
+use native.Mathlib.Omega.{arith}
 use Rattle.pagestore_page.specs.declared.Record.{Record}
 use Rattle.tree_core.specs.Lookup.{find_in}
 use Rattle.index_refusals.specs.Refusals.{already_live}
@@ -30,6 +31,6 @@ refuse_room-requires c =
 pub returns : goal.returns
 returns c =
     let a = c.args in
-    let none : (find_in a.index.now a.epoch.id).id ≡ 0 = sym (ap (λ (r : Record). r.id) c.find-found.ensures) ∙ c.if-found-ne0.false in
+    let none : (find_in a.index.now a.epoch.id).id ≡ 0 = omega (arith, ap (λ (r : Record). r.id) c.find-found.ensures) in
     first_passes (epoch_rules a.index.now a.epoch a.point.now) _ c.refuse_epoch-coded.ensures refl c.if-coded-ne0.false (after_epoch a.index.now a.epoch a.point.now) _
     (inr (none, c.refuse_room.ensures))

@@ -18,7 +18,7 @@ returns-then-root_level-gt-MAX_LEVEL c =
 pub returns-then-not-suits : goal.returns-then-not-suits
 returns-then-not-suits c =
     let a = c.args in
-    let low : field_at level a.index.now ≤ 4 = omega (arith, c.if-root_level-gt-MAX_LEVEL.false, c.root_level.ensures) in
+    let low : field_at level a.index.now ≤ 4 = omega (arith, c.root_level.ensures) in
     inr (
       passes c.permitted.ensures c.if-not-permitted.false,
       inr (low, inl (refl, faults (suits_view a.index.now a.point.now _ _ c.features_of.ensures c.suits.ensures) c.if-not-suits.true)),
@@ -27,7 +27,7 @@ returns-then-not-suits c =
 pub returns : goal.returns
 returns c =
     let a = c.args in
-    let low : field_at level a.index.now ≤ 4 = omega (arith, c.if-root_level-gt-MAX_LEVEL.false, c.root_level.ensures) in
+    let low : field_at level a.index.now ≤ 4 = omega (arith, c.root_level.ensures) in
     inr (
       passes c.permitted.ensures c.if-not-permitted.false,
       inr (low, inr (passes (suits_view a.index.now a.point.now _ _ c.features_of.ensures c.suits.ensures) c.if-not-suits.false, refl)),

@@ -21,7 +21,7 @@ returns-then-too_few c =
     let a = c.args in let index = a.index.now in
     let total : c.total_records.result ≡ (view_of index).total = c.total_records.ensures ∙ total_view index in
     let wanted : c.pages_wanted.result ≡ pages_wanted index (record_of a.epoch a.point.now) = c.pages_wanted.ensures ∙ ap (pages_wanted index) c.record_of-x.ensures in
-    let few : (view_of index).total < 65535 = omega (arith, c.if-total_records-ge-MAX_POINTS.false) in
+    let few : (view_of index).total < 65535 = omega arith in
     inr (few, inl (refl, λ (l : pages_wanted index (record_of a.epoch a.point.now) ≤ length (free_at index)). omega (arith, passes c.too_few.ensures c.if-too_few.true)))
 
 pub returns : goal.returns
@@ -29,7 +29,7 @@ returns c =
     let a = c.args in let index = a.index.now in
     let total : c.total_records.result ≡ (view_of index).total = c.total_records.ensures ∙ total_view index in
     let wanted : c.pages_wanted.result ≡ pages_wanted index (record_of a.epoch a.point.now) = c.pages_wanted.ensures ∙ ap (pages_wanted index) c.record_of-x.ensures in
-    let few : (view_of index).total < 65535 = omega (arith, c.if-total_records-ge-MAX_POINTS.false) in
+    let few : (view_of index).total < 65535 = omega arith in
     let many : ¬ (length (free_at index) < c.pages_wanted.result) = faults c.too_few.ensures c.if-too_few.false in
     let room : pages_wanted index (record_of a.epoch a.point.now) ≤ length (free_at index) = omega (arith, not_below (length (free_at index)) c.pages_wanted.result many) in
     inr (few, inr (room, refl))
