@@ -1,6 +1,6 @@
 -- What each turn of a loop over coordinates adds, with the coordinates from m on still to come.
 use mathlib.Core.Path.{◌≡◌, refl, ap, ◌∙◌}
-use mathlib.Core.Bool.{Bool, true, false}
+use mathlib.Core.Bool.{false}
 use mathlib.Core.List.{List, [], ◌∷◌, ◌++◌, map}
 use mathlib.Core.Logic.{◌≢◌}
 use Prim.Native.Nat.{ℕ, zero, suc, max, ◌+◌, ◌*◌, ◌-◌, ◌/◌, ◌%◌, ◌≤◌, ◌<◌}
@@ -14,6 +14,9 @@ use lib.ListN.{length, get_or, take, drop, set, replicate, drop_of_length-le}
 use lib.Seq.{drop-cons, take-length}
 use Rattle.lists.specs.Basics.{if}
 use Rattle.lists.specs.Tests.{by_cases}
+use Rattle.lists.specs.Choices.{bool_cases}
+use Rattle.std.specs.List.{list_all}
+use Rattle.std.specs.Prelude.{◌&&◌}
 use Rattle.geometry.proofs.StoredLaws.{length_point, point_at, coord_gap}
 use Rattle.geometry.specs.Points.{is_neg, height_of, axis_at, axis_of, pyramid_of, distance}
 use Rattle.geometry.specs.Stored.{coord_of, point_of, stored, slots_of, in_range}
@@ -91,20 +94,11 @@ pub dist_end : (q p : List ℕ) (m : ℕ) → length q ≤ m → distance (drop 
 unfolding distance
 dist_end q p m l = rw (point_end q m l)
 
--- the test of range
-range_cons : (p : List ℤ) (m : ℕ) → m < length p → in_range (drop m p) ≡ if (leb (nat_abs (get_or p m (pos 0))) 1000) (in_range (drop (m + 1) p)) false
+-- the test of range, of all coordinates at once
+pub range_all : (p : List ℤ) → list_all (λ c. leb (nat_abs c) 1000) p ≡ in_range p
 unfolding in_range
-range_cons p m l = rw (add-one, drop-cons p m (pos 0) l)
-
-pub range_more : (p : List ℤ) (m : ℕ) → m < length p → leb (nat_abs (get_or p m (pos 0))) 1000 ≡ true → in_range (drop m p) ≡ in_range (drop (m + 1) p)
-range_more p m l e = range_cons p m l ∙ ap (λ (b : Bool). if b (in_range (drop (m + 1) p)) false) e
-
-pub range_out : (p : List ℤ) (m : ℕ) → m < length p → leb (nat_abs (get_or p m (pos 0))) 1000 ≡ false → in_range (drop m p) ≡ false
-range_out p m l e = range_cons p m l ∙ ap (λ (b : Bool). if b (in_range (drop (m + 1) p)) false) e
-
-pub range_end : (p : List ℤ) (m : ℕ) → length p ≤ m → in_range (drop m p) ≡ true
-unfolding in_range
-range_end p m l = rw (drop_of_length-le p {i = m} l)
+range_all [] = refl
+range_all (c ∷ cs) = bool_cases (λ b. (b && list_all (λ x. leb (nat_abs x) 1000) cs) ≡ if b (in_range cs) false) (leb (nat_abs c) 1000) (λ e. range_all cs) (λ e. refl)
 
 -- a gap of 16 bits squared
 pub square_fits : (g : ℕ) → g < 65536 → g * g < 4294967296

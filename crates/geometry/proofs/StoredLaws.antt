@@ -5,12 +5,11 @@ use mathlib.Core.List.{List, [], ◌∷◌, ◌++◌, map}
 use Prim.Native.Nat.{ℕ, zero, suc, ◌+◌, ◌-◌, ◌/◌, ◌≤◌, ◌<◌}
 use native.Mathlib.Omega.{arith}
 use native.Mathlib.Nat.{add_comm}
-use borrow.Author.Tests.{le-ltb, lt-ltb, ltb-true, ltb-false, le-leb, lt-leb, leb-true}
+use borrow.Author.Tests.{le-ltb, lt-ltb, ltb-true, ltb-false, le-leb, leb-true}
 use lib.Dec.{leb, ltb}
 use lib.IntN.{ℤ, pos, negsuc, nat_abs, ◌+ℤ◌, ◌-ℤ◌}
 use lib.ListN.{length, get_or, take, replicate, length-map}
 use lib.Seq.{take_at}
-use lib.Signed.{lt_z, le_z}
 use mir.Syntax.{w16}
 use mir.Val.{SFits, to_z, of_z}
 use mir.Facts.{to_z-of_z}
@@ -155,15 +154,6 @@ word_fits (negsuc n) h = record { sfits = omega arith }
 
 pub word_back : (c : ℤ) → nat_abs c ≤ 2000 → to_z w16 (of_z w16 c) ≡ c
 word_back c h = to_z-of_z (word_fits c h)
-
--- the two tests of range
-pub below_range : (c : ℤ) → lt_z c (negsuc 999) ≡ true → false ≡ leb (nat_abs c) 1000
-below_range (pos n) t = let z : ◌≡◌ {A = Bool} false true = t in absurd (let y : ◌≡◌ {A = ℕ} 0 1 = cc in omega arith)
-below_range (negsuc n) t = let h : 999 < n = ltb-true 999 n t in sym (lt-leb (suc n) 1000 (omega arith))
-
-pub above_range : (c : ℤ) → lt_z c (negsuc 999) ≡ false → le_z c (pos 1000) ≡ leb (nat_abs c) 1000
-above_range (pos n) t = refl
-above_range (negsuc n) t = let h : n ≤ 999 = ltb-false 999 n t in sym (le-leb (suc n) 1000 (omega arith))
 
 pub range_at : (p : List ℤ) (m : ℕ) → InRange p → nat_abs (get_or p m (pos 0)) ≤ 1000
 range_at [] m r = omega arith

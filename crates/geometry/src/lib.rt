@@ -18,21 +18,21 @@ pub const MIN_SIGNED: i16 = -MAX_SIGNED;
 pub const MAX_SIGNED: i16 = MAX_COORDINATE as i16;
 
 // A pyramid number counts regions and a height counts steps from the centre; neither stands for the other.
-#[derive(Clone, Copy)]
+#[derive(Clone, Copy, PartialEq, Eq, PartialOrd, Ord)]
 pub struct Pyramid(pub u8);
 
-#[derive(Clone, Copy)]
+#[derive(Clone, Copy, PartialEq, Eq, PartialOrd, Ord)]
 pub struct Height(pub u16);
 
 // The pair of a point (01, "Pyramid and height").
-#[derive(Clone, Copy)]
+#[derive(Clone, Copy, PartialEq, Eq, PartialOrd, Ord)]
 pub struct Pair {
     pub pyramid: Pyramid,
     pub height: Height,
 }
 
 // A key (01): compared by pyramid, then height, then identifier.
-#[derive(Clone, Copy)]
+#[derive(Clone, Copy, PartialEq, Eq, PartialOrd, Ord)]
 pub struct Key {
     pub pyramid: Pyramid,
     pub height: Height,

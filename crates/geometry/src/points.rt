@@ -12,25 +12,14 @@ use crate::{Height, MAX_COORDINATE, MAX_FEATURES, MAX_SIGNED, MIN_SIGNED, Pair, 
 fn within(c: i16) -> bool
     ensures { result ≡ leb (nat_abs c) max_coordinate }
 {
-    if c < MIN_SIGNED {
-        return false;
-    }
-    c <= MAX_SIGNED
+    (MIN_SIGNED..=MAX_SIGNED).contains(&c)
 }
 
 // Whether every coordinate of a point is in range.
 pub fn in_range(p: &[i16]) -> bool
     ensures { result ≡ in_range p.now }
 {
-    let mut m = 0;
-    while m < p.len() {
-        let c = p[m];
-        if !within(c) {
-            return false;
-        }
-        m += 1;
-    }
-    true
+    p.iter().all(|c| within(*c))
 }
 
 // A coordinate in range as it is stored.
@@ -47,11 +36,8 @@ pub fn slots_of(p: &[i16]) -> [u16; MAX_FEATURES]
     ensures { result ≡ slots_of p.now }
 {
     let mut slots = [0u16; MAX_FEATURES];
-    let mut m = 0;
-    while m < p.len() {
-        let c = p[m];
-        slots[m] = slot(c);
-        m += 1;
+    for (m, c) in p.iter().enumerate() {
+        slots[m] = slot(*c);
     }
     slots
 }
@@ -86,13 +72,7 @@ pub fn greater(a: u16, b: u16) -> u16
 pub fn magnitude(x: u16) -> u16
     ensures { (result ≡ nat_abs (coord_of x)) × (result ≤ 64535) }
 {
-    apart(x, MAX_COORDINATE)
-}
-
-fn highest(a: u32, b: u32) -> u32
-    ensures { result ≡ max a b }
-{
-    if a < b { b } else { a }
+    x.abs_diff(MAX_COORDINATE)
 }
 
 // The magnitude of coordinate m, followed by how far m is below 15: the first of the coordinates of one magnitude has the greatest number.
@@ -100,7 +80,7 @@ fn lead(x: u16, m: usize) -> u32
     requires { m < max_features }
     ensures { (result ≡ nat_abs (coord_of x) * 16 + (15 - m)) × (result < 1048576) }
 {
-    let h = magnitude(x) as u32;
+    let h = u32::from(magnitude(x));
     h * 16 + (15 - m as u32)
 }
 
@@ -110,10 +90,8 @@ fn top_lead(p: &[u16]) -> u32
     ensures { (result ≡ height_of (point_of p.now) * 16 + (15 - axis_of (point_of p.now))) × (result < 1048576) }
 {
     let mut top: u32 = 0;
-    let mut m = 0;
-    while m < p.len() {
-        top = highest(top, lead(p[m], m));
-        m += 1;
+    for (m, x) in p.iter().enumerate() {
+        top = top.max(lead(*x, m));
     }
     top
 }
@@ -157,7 +135,7 @@ pub fn wide(x: u16) -> u64
 pub fn cost(gap: u16) -> u64
     ensures { (result ≡ gap * gap) × (result < 4294967296) }
 {
-    let g = wide(gap);
+    let g = u64::from(gap);
     g * g
 }
 
@@ -165,12 +143,12 @@ pub fn cost(gap: u16) -> u64
 pub fn weigh(weight: u16, gap: u16) -> u64
     ensures { (result ≡ weight * (gap * gap)) × (result < 281474976710656) }
 {
-    wide(weight) * cost(gap)
+    u64::from(weight) * cost(gap)
 }
 
 // The gap of a stored number from low ..= high.
 pub fn gap(low: u16, high: u16, x: u16) -> u16
     ensures { result ≡ max (low - x) (x - high) }
 {
-    greater(above(low, x), above(x, high))
+    low.saturating_sub(x).max(x.saturating_sub(high))
 }

@@ -7,7 +7,6 @@ use Rattle.geometry.specs.Stored.{point_of}
 use Rattle.geometry.proofs.StoredLaws.{length_point}
 use Rattle.geometry.proofs.PairLaws.{axis_inside}
 use Rattle.geometry.proofs.LoopLaws.{top_height, top_axis, pyramid_is}
-use borrow.Author.Rules.{rules}
 use Rattle.geometry.proofs.points.pair_of.Goals.{After-top_lead-top}
 use Rattle.geometry.proofs.points.pair_of.Goals as goal
 

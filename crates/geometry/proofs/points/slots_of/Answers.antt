@@ -1,28 +1,22 @@
-use native.Mathlib.Omega.{arith}
-use Prim.Native.Nat.{◌+◌, ◌-◌, ◌≤◌}
-use borrow.Author.Rules.{rules}
-use lib.ListN.{length, take, replicate}
-use mathlib.Core.List.{◌++◌, map}
-use mathlib.Core.Path.{◌≡◌, refl, ◌∙◌}
-use mir.Facts.{to_z-of_z}
-use Rattle.geometry.specs.Stored.{stored}
-use Rattle.geometry.proofs.StoredLaws.{in_range_law, range_at}
+use Rattle.std.proofs.Common.{◌∙◌, ◌≡◌, List, ℕ, ℤ, arith, get_or, pos, true}
+use mir.Syntax.{w16}
+use mir.Val.{to_z, of_z}
+use Rattle.geometry.specs.Stored.{in_range}
+use Rattle.geometry.proofs.StoredLaws.{in_range_law, range_at, word_back}
 use Rattle.geometry.proofs.LoopLaws.{slots_more, slots_end}
 use Rattle.geometry.proofs.points.slots_of.Goals as goal
 
-pub loop-m-init : goal.loop-m-init
-loop-m-init c = (omega arith, refl)
+-- the machine's word of a coordinate in range is the coordinate
+read_back : (p : List ℤ) (m : ℕ) → in_range p ≡ true → to_z w16 (of_z w16 (get_or p m (pos 0))) ≡ get_or p m (pos 0)
+read_back p m r = let h = range_at p m (in_range_law p r) in word_back _ (omega arith)
 
 pub slot-requires : goal.slot-requires
-slot-requires c = rw (to_z-of_z (record { sfits = c.c-1.given })) (range_at c.args.p.now c.loop-m.m (in_range_law _ c.requires.1))
-
-pub bounds-slots-m : goal.bounds-slots-m
-bounds-slots-m c = omega (arith, c.requires.0)
+slot-requires c = let p = c.args.p.now in rw (read_back p c.loop-m.m c.requires.1) (range_at p c.loop-m.m (in_range_law p c.requires.1))
 
 pub loop-m-preserved : goal.loop-m-preserved
 loop-m-preserved c =
     let p = c.args.p.now in let l = c.loop-m in
-    let v = rw (to_z-of_z (record { sfits = c.c-1.given })) at c.slot.ensures in
+    let v = rw (read_back p l.m c.requires.1) at c.slot.ensures in
     (omega arith, rw l.invariant.1 (slots_more p l.m c.slot.result (omega arith) c.requires.0 v))
 
 pub returns : goal.returns
