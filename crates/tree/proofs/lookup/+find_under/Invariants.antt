@@ -1,5 +1,4 @@
-use mathlib.Core.Path.{◌≡◌}
-use Prim.Native.Nat.{◌-◌, ◌≤◌, min}
+use Rattle.std.proofs.Common.{◌≡◌, min}
 use Rattle.pagestore.specs.Store.{inner_at, entries_in}
 use Rattle.tree_core.proofs.LookupLaws.{Seeks}
 use Rattle.tree.proofs.lookup.+find_under.Given as goal
@@ -8,7 +7,4 @@ abbrev pub decreases-find_under : goal.decreases-find_under
 decreases-find_under l = l.level
 
 abbrev pub invariant-loop-i : goal.invariant-loop-i
-invariant-loop-i l = (l.n ≡ min 16 (inner_at l.index l.page).count) × (l.i ≤ l.n) × Seeks l.level l.index l.page l.id (entries_in (inner_at l.index l.page)) l.i
-
-abbrev pub decreases-loop-i : goal.decreases-loop-i
-decreases-loop-i l = l.n - l.i
+invariant-loop-i l = (l.i-end ≡ min 16 (inner_at l.index l.page).count) × Seeks l.level l.index l.page l.id (entries_in (inner_at l.index l.page)) l.i

@@ -20,8 +20,8 @@ loop-i-init t c = let S = c in let z = c.if-level-eq0.false in
     let e = count_start S.args.index.now S.args.level S.args.page (inner_at S.args.index.now S.args.page) refl c.filled_at-n.result w z in
     (omega arith, S.requires, z, w, omega arith)
 
-pub entry_at-entry-requires : goal.entry_at-entry-requires
-entry_at-entry-requires t c = let w = c.loop-i.invariant.3 in omega (arith, c.loop-i-test.true)
+pub entry_at-requires : goal.entry_at-requires
+entry_at-requires t c = let w = c.loop-i.invariant.3 in omega (arith, c.loop-i-test.true)
 
 pub overflow_sub-level : goal.overflow_sub-level
 overflow_sub-level t c = let L = c.loop-i in omega (arith, L.invariant.2)
@@ -29,14 +29,14 @@ overflow_sub-level t c = let L = c.loop-i in omega (arith, L.invariant.2)
 pub overflow_add-sum : goal.overflow_add-sum
 overflow_add-sum t c = let S = c in let L = c.loop-i in
     let b = S.args.index.now in
-    let r = c.leaf_count-sum.ensures.0 ∙ ap (λ (x : Entry). leaf_count (S.args.level - 1) b x.child) c.entry_at-entry.ensures in
+    let r = c.leaf_count-sum.ensures.0 ∙ ap (λ (x : Entry). leaf_count (S.args.level - 1) b x.child) c.entry_at.ensures in
     let e = count_next b S.args.level S.args.page (inner_at b S.args.page) refl _ L.invariant.3 (S.args.level - 1) L.i L.sum _ _ _ c.loop-i-test.true r L.invariant.4 in
     let m = laws.count_fits S.args.level S.args.index.now S.args.page L.invariant.1 in omega arith
 
 pub loop-i-preserved : goal.loop-i-preserved
 loop-i-preserved t c = let S = c in let L = c.loop-i in
     let b = S.args.index.now in
-    let r = c.leaf_count-sum.ensures.0 ∙ ap (λ (x : Entry). leaf_count (S.args.level - 1) b x.child) c.entry_at-entry.ensures in
+    let r = c.leaf_count-sum.ensures.0 ∙ ap (λ (x : Entry). leaf_count (S.args.level - 1) b x.child) c.entry_at.ensures in
     let e = count_next b S.args.level S.args.page (inner_at b S.args.page) refl _ L.invariant.3 (S.args.level - 1) L.i L.sum _ _ _ c.loop-i-test.true r L.invariant.4 in
     (omega arith, L.invariant.1, L.invariant.2, L.invariant.3, e)
 

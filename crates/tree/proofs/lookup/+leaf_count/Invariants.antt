@@ -10,6 +10,3 @@ decreases-leaf_count l = l.level
 
 abbrev pub invariant-loop-i : goal.invariant-loop-i
 invariant-loop-i l = (l.i ≤ l.n) × (l.level ≤ 4) × (l.level ≡ 0 → ⊥) × (l.n ≡ min (inner_at l.index l.page).count 16) × (l.sum + count_from (l.level - 1) l.index (entries_in (inner_at l.index l.page)) l.i ≡ leaf_count l.level l.index l.page)
-
-abbrev pub decreases-loop-i : goal.decreases-loop-i
-decreases-loop-i l = l.n - l.i
