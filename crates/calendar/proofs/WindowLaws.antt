@@ -1,16 +1,11 @@
 -- A stamp lies in a question's window just if the date of its recording day is from the first to the last, or no dates are given.
 use mathlib.Core.Path.{◌≡◌, refl, sym, ap, ◌∙◌, subst}
-use mathlib.Core.Bool.{Bool, true, false}
 use Prim.Native.Nat.{ℕ, ◌+◌, ◌-◌, ◌/◌, ◌≤◌, ◌<◌}
 use native.Mathlib.Omega.{arith}
-use lib.Dec.{ltb}
-use borrow.Author.Tests.{lt-ltb, le-ltb}
-use Rattle.lists.specs.Tests.{false_true}
 use Rattle.calendar.specs.declared.Dates.{Dates}
-use Rattle.calendar.specs.declared.Window.{Window}
 use Rattle.calendar.specs.Dates.{InCalendar, date_at}
-use Rattle.calendar.specs.Days.{noon, DayOf, InDays, days_if}
-use Rattle.calendar.specs.Counting.{number_of, day_number, window_of, in_window}
+use Rattle.calendar.specs.Days.{noon, DayOf, InDays}
+use Rattle.calendar.specs.Counting.{number_of, day_number}
 use Rattle.calendar.proofs.CountLaws.{From2000, at_exists, number_at}
 use Rattle.calendar.proofs.TestLaws.{number_in}
 use Rattle.calendar.proofs.OrderLaws.{number_upto, upto_number}
@@ -44,29 +39,3 @@ module _ (dates : Dates) (f : InCalendar dates.first) (l : InCalendar dates.last
       let a : number_of dates.first ≤ number_of w.date = number_upto dates.first w.date (f.real, f.from) at w.after in
       let b : number_of w.date ≤ number_of dates.last = number_upto w.date dates.last at (l.real, l.from) w.before in
       (omega (arith, number_in dates.first f, w.day.begins), omega (arith, number_in dates.last l, w.day.ends))
-
--- ---- AS THE CODE MAKES IT
-
-pub window_none : (t : Bool) (dates : Dates) → t ≡ false → record { bounded = false; from = 0; until = 0 } ≡ window_of (days_if t dates)
-window_none false dates e = refl
-window_none true dates e = false_true (sym e)
-
-pub window_some : (t : Bool) (dates : Dates) → t ≡ true → (from until : ℕ) → from ≡ noon (day_number dates.first) → until ≡ noon (day_number dates.last + 1)
-    → record { bounded = true; from = from; until = until } ≡ window_of (days_if t dates)
-window_some true dates e from until f u = λ i. record { bounded = true; from = f i; until = u i }
-window_some false dates e from until f u = false_true e
-
--- and as it tests a stamp
-module _ (w : Window) (s : ℕ) where
-  pub window_open : w.bounded ≡ false → true ≡ in_window w s
-  unfolding in_window
-  window_open e = rw e
-
-  module _ (b : w.bounded ≡ true) where
-    pub window_early : s < w.from → false ≡ in_window w s
-    unfolding in_window
-    window_early h = rw (b, lt-ltb s w.from h)
-
-    pub window_late : w.from ≤ s → ltb s w.until ≡ in_window w s
-    unfolding in_window
-    window_late h = rw (b, le-ltb s w.from h)

@@ -1,5 +1,5 @@
 -- The calendar as executable functions, which the code computes; proofs/Promises.antt shows that they agree with Dates and Days.
-use Rattle.std.specs.Prelude.{Bool, true, false, ℕ, zero, suc, ◌+◌, ◌-◌, ltb}
+use Rattle.std.specs.Prelude.{Option, None, Some, Bool, true, false, ℕ, zero, suc, ◌+◌, ◌-◌, ltb}
 use Rattle.lists.specs.Basics.{if}
 use Rattle.calendar.specs.declared.Date.{Date}
 use Rattle.calendar.specs.declared.Window.{Window}
@@ -49,11 +49,12 @@ day_number d = if (in_calendar d) (number_of d) 0
 
 -- ---- THE WINDOW OF A QUESTION
 
--- the stamps of the days asked for: without dates all of them, else those from the first day's noon up to, not including, the noon after the last
-abbrev pub window_of : Days → Window
-window_of undated = record { bounded = false; from = 0; until = 0 }
-window_of (dated dates) = record { bounded = true; from = noon (day_number dates.first); until = noon (day_number dates.last + 1) }
+-- the stamps of the days asked for: without dates no window, else from the first day's noon up to, not including, the noon after the last
+abbrev pub window_of : Days → Option Window
+window_of undated = None
+window_of (dated dates) = Some (record { from = noon (day_number dates.first); until = noon (day_number dates.last + 1) })
 
--- whether a stamp lies in a window; of the window of days in the calendar that is `Passes` (`window_days`)
-unfoldable pub in_window : Window → ℕ → Bool
-in_window w stamp = if w.bounded (if (ltb stamp w.from) false (ltb stamp w.until)) true
+-- whether a stamp lies in a window, as every one does where there is none; of the window of days in the calendar that is `Passes` (`window_days`)
+unfoldable pub in_window : Option Window → ℕ → Bool
+in_window None stamp = true
+in_window (Some w) stamp = if (ltb stamp w.from) false (ltb stamp w.until)

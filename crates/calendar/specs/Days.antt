@@ -1,5 +1,5 @@
 -- Recording days (02, Q-4): from noon up to, not including, the next noon, with the date on which they began; and those that a question asks for.
-use Rattle.std.specs.Prelude.{◌≡◌, Bool, true, false, ℕ, ◌+◌, ◌*◌, ◌≤◌, ◌<◌}
+use Rattle.std.specs.Prelude.{Option, None, Some, ◌≡◌, Bool, true, false, ℕ, ◌+◌, ◌*◌, ◌≤◌, ◌<◌}
 use Rattle.calendar.specs.declared.Date.{Date}
 use Rattle.calendar.specs.declared.Dates.{Dates}
 use Rattle.calendar.specs.Dates.{InCalendar, Before, UpTo, date_at}
@@ -32,6 +32,7 @@ pub record InDays (dates : Dates) (stamp : ℕ) : Type 0 where
 -- ---- THOSE OF A QUESTION
 
 -- the recording days that a question asks for, if it names any
+-- Kept: a type of its own, since the theorems on questions (`window_days`, `days_reach`, `question_answers`) are stated over it
 pub data Days : Type 0 where
   undated : Days
   dated : Dates → Days
@@ -40,6 +41,11 @@ pub data Days : Type 0 where
 abbrev pub days_if : Bool → Dates → Days
 days_if false dates = undated
 days_if true dates = dated dates
+
+-- or an option
+abbrev pub days_of : Option Dates → Days
+days_of None = undated
+days_of (Some dates) = dated dates
 
 -- the stamp passes: without dates every one does
 abbrev pub Passes : Days → ℕ → Type 0

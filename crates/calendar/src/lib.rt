@@ -3,12 +3,12 @@
 
 ghost use Rattle.std.specs.Prelude.{◌≡◌, true, false, ◌+◌, ◌<◌, ◌≤◌};
 ghost use Rattle.calendar.specs.Dates.{leap as leapYear, month_days};
-ghost use Rattle.calendar.specs.Days.{noon, days_if};
+ghost use Rattle.calendar.specs.Days.{noon, days_of};
 ghost use Rattle.calendar.specs.Counting.{in_calendar, before, days_of_years, days_of_months, last_number, day_number, window_of, in_window};
 
-// A date as a caller gives it; it need not exist.
+// A date as a caller gives it; it need not exist. The order is that of the calendar.
 #[repr(C)]
-#[derive(Clone, Copy)]
+#[derive(Clone, Copy, PartialEq, Eq, PartialOrd, Ord)]
 pub struct Date {
     pub year: u16,
     pub month: u8,
@@ -23,10 +23,9 @@ pub struct Dates {
     pub last: Date,
 }
 
-// The stamps that a question lets pass: all of them, or, bounded, those from one up to, not including, another.
+// The stamps from one up to, not including, another.
 #[derive(Clone, Copy)]
 pub struct Window {
-    pub bounded: bool,
     pub from: u32,
     pub until: u32,
 }
@@ -46,80 +45,45 @@ const NOON: u32 = 43200;
 
 const DAY: u32 = 86400;
 
+#[tactic(auto, unfolding(crate::specs::Dates::leap))]
 fn leap(year: u16) -> bool
     ensures { result ≡ leapYear year }
 {
-    if year % 400 == 0 {
-        return true;
-    }
-    if year % 100 == 0 {
-        return false;
-    }
-    year % 4 == 0
+    year % 400 == 0 || (year % 100 != 0 && year % 4 == 0)
 }
 
+#[tactic(auto, using(crate::proofs::CodeLaws::february, crate::proofs::CodeLaws::month_of_30, crate::proofs::CodeLaws::month_of_31, crate::proofs::CodeLaws::no_month),)]
 fn month_days(long: bool, month: u8) -> u8
     ensures { result ≡ month_days long month }
 {
-    if DECEMBER < month {
-        return 0;
+    match month {
+        1 | 3 | 5 | 7 | 8 | 10 | 12 => 31,
+        4 | 6 | 9 | 11 => 30,
+        2 => if long { 29 } else { 28 },
+        _ => 0,
     }
-    let at = month as usize;
-    if long {
-        let lengths: [u8; 13] = [0, 31, 29, 31, 30, 31, 30, 31, 31, 30, 31, 30, 31];
-        return lengths[at];
-    }
-    let lengths: [u8; 13] = [0, 31, 28, 31, 30, 31, 30, 31, 31, 30, 31, 30, 31];
-    lengths[at]
 }
 
 // The date exists and lies in 2000 to 2099.
+#[tactic(auto, unfolding(crate::specs::Counting::in_calendar))]
 pub fn in_calendar(date: Date) -> bool
     ensures { result ≡ in_calendar date }
 {
-    if date.year < FIRST_YEAR {
-        return false;
-    }
-    if LAST_YEAR < date.year {
-        return false;
-    }
-    if date.month < 1 {
-        return false;
-    }
-    if DECEMBER < date.month {
-        return false;
-    }
-    if date.day < 1 {
-        return false;
-    }
-    let long = leap(date.year);
-    let days = month_days(long, date.month);
-    if days < date.day {
-        return false;
-    }
-    true
+    (FIRST_YEAR..=LAST_YEAR).contains(&date.year)
+        && (1..=DECEMBER).contains(&date.month)
+        && (1..=month_days(leap(date.year), date.month)).contains(&date.day)
 }
 
 // One date comes before another; neither need exist.
+#[tactic(auto, unfolding(crate::specs::Counting::before))]
 pub fn comes_before(a: Date, b: Date) -> bool
     ensures { result ≡ before a b }
 {
-    if a.year < b.year {
-        return true;
-    }
-    if b.year < a.year {
-        return false;
-    }
-    if a.month < b.month {
-        return true;
-    }
-    if b.month < a.month {
-        return false;
-    }
-    a.day < b.day
+    a < b
 }
 
 // The days of the first `years` years, of which every fourth is a leap year, the first one too.
+#[tactic(auto, using(crate::proofs::CodeLaws::years_counted))]
 fn days_of_years(years: u32) -> u32
     requires { years < 100 }
     ensures value { result ≡ days_of_years years }
@@ -129,24 +93,20 @@ fn days_of_years(years: u32) -> u32
 }
 
 // The days of the months before `month`.
+#[tactic(auto, using(crate::proofs::CodeLaws::months_long, crate::proofs::CodeLaws::months_short, crate::proofs::CodeLaws::months_early, crate::proofs::CodeLaws::months_most),)]
 fn days_of_months(long: bool, month: u8) -> u32
     requires { month ≤ 12 }
     ensures value { result ≡ days_of_months long month }
     ensures upper_bound { result ≤ 335 }
 {
-    let at = month as usize;
     let earlier: [u32; 13] = [0, 0, 31, 59, 90, 120, 151, 181, 212, 243, 273, 304, 334];
-    let days = earlier[at];
-    if month < 3 {
-        return days;
-    }
-    if long {
-        return days + 1;
-    }
-    days
+    let days = earlier[usize::from(month)];
+    if long && month > 2 { days + 1 } else { days }
 }
 
 // The number of a date, counted from 1 January 2000; 0 for one that is not in the calendar.
+// Kept: a number and no Option, since the clause `value` of day_number gives every date one.
+#[tactic(auto, using(crate::proofs::CodeLaws::number_none, crate::proofs::CodeLaws::number_some))]
 pub fn day_number(date: Date) -> u32
     ensures value { result ≡ day_number date }
     ensures upper_bound { result ≤ last_number }
@@ -154,10 +114,9 @@ pub fn day_number(date: Date) -> u32
     if !in_calendar(date) {
         return 0;
     }
-    let years = days_of_years(date.year as u32 - COUNTED_FROM);
-    let long = leap(date.year);
-    let months = days_of_months(long, date.month);
-    years + months + (date.day as u32 - 1)
+    let years = days_of_years(u32::from(date.year) - COUNTED_FROM);
+    let months = days_of_months(leap(date.year), date.month);
+    years + months + (u32::from(date.day) - 1)
 }
 
 // Noon of the day with a number, in seconds since 1 January 2000 00:00.
@@ -168,36 +127,24 @@ fn noon_of(number: u32) -> u32
     NOON + DAY * number
 }
 
-// The window of the recording days from a first to a last date, or of all stamps where none are given. A date that is not in the calendar counts as the
-// first one that is: callers refuse it before.
-pub fn window_of(dated: bool, dates: Dates) -> Window
-    ensures { result ≡ window_of (days_if dated dates) }
+// The window of the recording days from a first to a last date, or none, which lets every stamp pass, where no dates are given. A date that is not in
+// the calendar counts as the first one that is: callers refuse it before.
+pub fn window_of(dates: Option<Dates>) -> Option<Window>
+    ensures { result ≡ window_of (days_of dates) }
 {
-    if !dated {
-        return Window {
-            bounded: false,
-            from: 0,
-            until: 0,
-        };
-    }
+    let dates = dates?;
     let from = noon_of(day_number(dates.first));
     let until = noon_of(day_number(dates.last) + 1);
-    Window {
-        bounded: true,
-        from: from,
-        until: until,
-    }
+    Some(Window { from, until })
 }
 
-// Whether a stamp lies in a window.
-pub fn in_window(window: Window, stamp: u32) -> bool
+// Whether a stamp lies in a window; without one every stamp does.
+#[tactic(auto, unfolding(crate::specs::Counting::in_window))]
+pub fn in_window(window: Option<Window>, stamp: u32) -> bool
     ensures { result ≡ in_window window stamp }
 {
-    if !window.bounded {
-        return true;
+    match window {
+        None => true,
+        Some(window) => window.from <= stamp && stamp < window.until,
     }
-    if stamp < window.from {
-        return false;
-    }
-    stamp < window.until
 }
