@@ -1,20 +1,23 @@
 -- check_sound: what the check's answer says of an index of a permitted length.
-use Rattle.std.specs.Prelude.{◌≡◌, refl, List, ℕ, length}
-use Rattle.std.proofs.Common.{arith}
+use Rattle.std.specs.Prelude.{◌≡◌, refl, List, ℕ, length, Result, Ok, Err}
+use Rattle.std.proofs.lemmas.Result.{MatchResult-at_err}
 use Rattle.pagestore.specs.Store.{view_of}
 use Rattle.tree_model.specs.Sound.{Permitted, SoundIndex}
+use Rattle.sound_faults.specs.declared.Fault.{Fault}
 use Rattle.sound_faults.specs.Faults.{FailsAt}
 use Rattle.sound_faults.proofs.Decided.{sound_none}
 use Rattle.sound_check.specs.Outcome.{Verdict}
-use Rattle.sound_check.specs.declared.Checked.{Checked}
 
--- code 0 for a sound index and for no other; with any other code the page is one at which soundness fails
-pub record CheckSound (b : List ℕ) (r : Checked) : Type 0 where
-  pub zero_sound : r.code ≡ 0 → SoundIndex b
-  pub sound_zero : SoundIndex b → r ≡ record { code = 0; page = 0 }
-  pub two_fails : ¬ (r.code ≡ 0) → (r.code ≡ 2) × FailsAt (view_of b) r.page
+-- Ok for a sound index and for no other; with any fault the page is one at which soundness fails
+pub record CheckSound (b : List ℕ) (r : Result (Unit {0}) Fault) : Type 0 where
+  pub ok_sound : r ≡ Ok tt → SoundIndex b
+  pub sound_ok : SoundIndex b → r ≡ Ok tt
+  pub err_fails : (f : Fault) → r ≡ Err f → FailsAt (view_of b) f.page
 
-pub check_sound : (b : List ℕ) (r : Checked) → Permitted (length b) → Verdict b r → CheckSound b r
-check_sound b r lent (Verdict.sound s) = record { zero_sound = λ e. s lent; sound_zero = λ h. refl; two_fails = λ n. absurd (n refl) }
-check_sound b r lent (Verdict.fails {p = p} f) =
-    record { zero_sound = λ e. absurd (omega arith); sound_zero = λ h. absurd (sound_none b h p f); two_fails = λ n. (refl, f) }
+pub check_sound : (b : List ℕ) (r : Result (Unit {0}) Fault) → Permitted (length b) → Verdict b r → CheckSound b r
+check_sound b (Ok u) lent s = record { ok_sound = λ e. s lent; sound_ok = λ h. refl; err_fails = λ f e. absurd (cc) }
+check_sound b (Err f) lent q = record {
+  ok_sound = λ e. absurd (cc);
+  sound_ok = λ h. absurd (sound_none b h f.page q);
+  err_fails = λ g e. MatchResult-at_err (λ _. Permitted (length b) → SoundIndex b) (λ x. FailsAt (view_of b) x.page) g e q;
+}

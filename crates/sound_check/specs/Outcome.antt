@@ -1,20 +1,13 @@
 -- What the check answers.
-use Rattle.std.specs.Prelude.{◌≡◌, List, ℕ, ◌≤◌, length}
+use Rattle.std.specs.Prelude.{◌≡◌, List, ℕ, ◌≤◌, length, Result, MatchResult}
 use Rattle.pagestore.specs.Store.{View, view_of}
 use Rattle.tree_model.specs.Sound.{Permitted, SoundIndex, max_points}
 use Rattle.tree_model.specs.Trees.{live}
+use Rattle.sound_faults.specs.declared.Fault.{Fault}
 use Rattle.sound_faults.specs.Faults.{IsPage, RootFill, Reached, FailsAt}
 use Rattle.sound_faults.specs.Linked.{HeaderFine, Linked, PageFine, InState}
 use Rattle.sound_links.specs.Marks.{Marked, Clear, MarksAre, FreedOk}
 use Rattle.sound_visit.specs.Collect.{Gathered}
-use Rattle.sound_check.specs.declared.Checked.{Checked}
-
--- an index that is small has at most this many pages and points
-abbrev pub few_pages : ℕ
-few_pages = 1024
-
-abbrev pub few_points : ℕ
-few_points = 4096
 
 -- the header, the freed pages and the root have no fault
 pub record Start (v : View) (f : List ℕ) : Type 0 where
@@ -22,6 +15,10 @@ pub record Start (v : View) (f : List ℕ) : Type 0 where
   pub freed : FreedOk v f
   pub root_freed : ¬ Marked f v.root
   pub root_fill : RootFill (v.page v.root)
+
+-- the header, the freed pages and the root judged; the marked pages are the followed ones
+abbrev pub GroundJudged : View → List ℕ → List ℕ → Result (Unit {0}) Fault → Type 0
+GroundJudged v m f r = MatchResult r (λ _. Start v f × MarksAre v m) (λ e. FailsAt v e.page)
 
 -- nothing has a fault but, it may be, identifiers; the marked pages are the followed ones
 pub record Counted (v : View) (m : List ℕ) : Type 0 where
@@ -50,7 +47,6 @@ pub record Whole (v : View) (m f : List ℕ) (n : ℕ) (i h : List ℕ) : Type 0
   pub ids : v.total ≤ max_points → v.total ≤ length i
   pub holders : length h ≡ length i
 
--- check-sound: 0 and 0 for a sound index (of a permitted length), else 2 and a page at which soundness fails
-pub data Verdict (b : List ℕ) : Checked → Type 0 where
-  sound : (Permitted (length b) → SoundIndex b) → Verdict b (record { code = 0; page = 0 })
-  fails : {p : ℕ} → FailsAt (view_of b) p → Verdict b (record { code = 2; page = p })
+-- check-sound: Ok for a sound index (of a permitted length), else a page at which soundness fails
+abbrev pub Verdict : List ℕ → Result (Unit {0}) Fault → Type 0
+Verdict b r = MatchResult r (λ _. Permitted (length b) → SoundIndex b) (λ e. FailsAt (view_of b) e.page)

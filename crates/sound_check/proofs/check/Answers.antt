@@ -1,13 +1,12 @@
 use Rattle.pagestore.specs.Store.{view_of}
-use native.Mathlib.Omega.{arith}
+use Rattle.pagestore.specs.Store.RangeLaws.{pages_few}
+use Rattle.std.proofs.Common.{arith}
 use Rattle.sound_check.proofs.check.Goals as goal
 
-pub check_few-requires : goal.check_few-requires
+pub check_with-requires : goal.check_with-requires
 unfolding view_of
-check_few-requires c = omega (arith, c.page_count.ensures, c.if-page_count-le-SMALL_PAGES.true)
+check_with-requires c = record { fits = (omega arith, omega arith); pages = omega arith; points = λ _. omega arith }
 
-pub returns-then-page_count-le-SMALL_PAGES : goal.returns-then-page_count-le-SMALL_PAGES
-returns-then-page_count-le-SMALL_PAGES c = c.check_few.ensures
-
-pub returns : goal.returns
-returns c = c.check_many.ensures
+pub check_with-requires-else-page_count-le-SMALL_PAGES : goal.check_with-requires-else-page_count-le-SMALL_PAGES
+unfolding view_of
+check_with-requires-else-page_count-le-SMALL_PAGES c = record { fits = (omega arith, omega arith); pages = pages_few c.args.index.now; points = λ l. l }
