@@ -278,9 +278,6 @@ row_again x f i s =
     let e : 4294967295 - (high_of x % 268435456 * 16 + low_of x / 268435456 / 4294967296) ≡ x.stamp = rw (w, upper, v) (omega arith) in
     λ j. record { distance = d j; id = (ap (λ (y : ℕ). y % 4294967296) upper ∙ n) j; stamp = e j; position = b j }
 
-pub row_words : (x : Row) (high low : ℕ) → high ≡ high_of x → row_of (high_of x) low ≡ x → row_of high low ≡ x
-row_words x high low h e = ap (λ (w : ℕ). row_of w low) h ∙ e
-
 -- ---- the stop test
 
 distance_at : (i n : ℕ) (hs ls : List ℕ) → i < n → i < length hs → i < length ls → get_or (map distance (rows_in hs ls n)) i 0 ≡ distance_in (get_or hs i 0)

@@ -1,4 +1,5 @@
 // The candidates of a question: the best rows so far, in row order, held in two lent arrays.
+// Kept: two arrays side by side, with their number beside: so `offer`, `behind` and `search::search` take them from their callers.
 #![tactic(auto)]
 
 ghost use Rattle.std.specs.Prelude.{◌≡◌, ◌+◌, ◌≤◌, length};
@@ -30,28 +31,32 @@ const IDS: u64 = 4294967296;
 
 const POSITIONS: u64 = 268435456;
 
+// The two words of a row; the order of such words is that of rows.
+#[derive(Clone, Copy, PartialEq, Eq, PartialOrd, Ord)]
+struct Words {
+    high: u64,
+    low: u64,
+}
+
 // How far from the latest stamp a stamp is: the later, the lower.
 fn age(stamp: u32) -> u64
     ensures { result ≡ age_of stamp }
 {
-    (LATEST - stamp) as u64
+    u64::from(LATEST - stamp)
 }
 
-// The upper word of a row.
-fn high_of(row: Row) -> u64
-    requires { FitsWords row }
-    ensures { result ≡ high_of row }
-{
-    row.distance * POSITIONS + age(row.stamp) / AGES
-}
-
-// The lower word of a row.
-fn low_of(row: Row) -> u64
-    requires { FitsWords row }
-    ensures { (result ≡ low_of row) × (row_of (high_of row) result ≡ row) }
-{
-    let tie = age(row.stamp) % AGES * IDS + row.id as u64;
-    tie * POSITIONS + row.position
+impl Words {
+    fn of(row: Row) -> Words
+        requires { FitsWords row }
+        ensures words { (result.high ≡ high_of row) × (result.low ≡ low_of row) }
+        ensures again { row_of result.high result.low ≡ row }
+    {
+        let tie = age(row.stamp) % AGES * IDS + u64::from(row.id);
+        Words {
+            high: row.distance * POSITIONS + age(row.stamp) / AGES,
+            low: tie * POSITIONS + row.position,
+        }
+    }
 }
 
 // The distance of the row of an upper word.
@@ -62,6 +67,7 @@ pub fn distance_in(high: u64) -> u64
 }
 
 // The row of two words.
+// Kept: a function of two numbers and no `From<Words>`, since callers read the words from the two arrays lent to `offer`.
 pub fn row_of(high: u64, low: u64) -> Row
     ensures { result ≡ row_of high low }
 {
@@ -71,50 +77,39 @@ pub fn row_of(high: u64, low: u64) -> Row
     let stamp = LATEST - age as u32;
     Row {
         distance: high / POSITIONS,
-        id: id,
-        stamp: stamp,
+        id,
+        stamp,
         position: low % POSITIONS,
     }
 }
 
-// Whether the row of (h, l) is before that of (high, low).
-fn precedes(h: u64, l: u64, high: u64, low: u64) -> bool
-    ensures { result ≡ row_order (row_of h l) (row_of high low) }
-{
-    if h < high {
-        return true;
-    }
-    if high < h {
-        return false;
-    }
-    l < low
-}
-
-// Whether there is a row before index i that is not before the row of (high, low).
-fn gives_way(highs: &[u64], lows: &[u64], i: usize, high: u64, low: u64) -> bool
+// Whether there is a row before index i that is not before the row of these words.
+fn gives_way(highs: &[u64], lows: &[u64], i: usize, words: Words) -> bool
     requires { (i ≤ length highs.now) × (i ≤ length lows.now) }
-    ensures { GivesWay highs.now lows.now i (row_of high low) result }
+    ensures { GivesWay highs.now lows.now i (row_of words.high words.low) result }
 {
-    if i == 0 {
-        return false;
-    }
-    !precedes(highs[i - 1], lows[i - 1], high, low)
+    i > 0
+        && Words {
+            high: highs[i - 1],
+            low: lows[i - 1],
+        } >= words
 }
 
-// Puts the row of (high, low) in among the n rows, from the last on; those behind it move up by one.
-fn slide(highs: &mut [u64], lows: &mut [u64], n: usize, high: u64, low: u64)
+// Puts the row of these words in among the n rows, from the last on; those behind it move up by one.
+// Kept: a `while`, which stops where a row stays and hands its place to the two lines behind it.
+fn slide(highs: &mut [u64], lows: &mut [u64], n: usize, words: Words)
     requires { Held highs.old lows.old n (n + 1) }
-    ensures { Offered highs.old lows.old n (n + 1) (row_of high low) (n + 1)
+    ensures { Offered highs.old lows.old n (n + 1) (row_of words.high words.low) (n + 1)
         highs.new lows.new }
 {
     let mut i = n;
-    while gives_way(highs, lows, i, high, low) {
+    while gives_way(highs, lows, i, words) {
         highs[i] = highs[i - 1];
         lows[i] = lows[i - 1];
         i -= 1;
     }
-    highs[i] = high;
-    lows[i] = low;
+    highs[i] = words.high;
+    lows[i] = words.low;
 }
 
 // Whether there are k rows, the k-th of them nearer than a distance: a row that far is behind all of them. So is every row of a
@@ -123,13 +118,7 @@ pub fn behind(highs: &[u64], n: usize, k: usize, distance: u64) -> bool
     requires { k ≤ length highs.now }
     ensures { result ≡ behind_all highs.now n k distance }
 {
-    if n < k {
-        return false;
-    }
-    if k == 0 {
-        return false;
-    }
-    distance_in(highs[k - 1]) < distance
+    k <= n && k > 0 && distance_in(highs[k - 1]) < distance
 }
 
 // Offers a row to the n rows: it is put in in row order, and the first k are kept. Returns the number of rows then.
@@ -137,15 +126,14 @@ pub fn offer(highs: &mut [u64], lows: &mut [u64], n: usize, k: usize, row: Row) 
     requires { FitsWords row × Held highs.old lows.old n k }
     ensures { Offered highs.old lows.old n k row result highs.new lows.new }
 {
-    let high = high_of(row);
-    let low = low_of(row);
+    let words = Words::of(row);
     if n < k {
-        slide(highs, lows, n, high, low);
+        slide(highs, lows, n, words);
         return n + 1;
     }
-    if !gives_way(highs, lows, n, high, low) {
+    if !gives_way(highs, lows, n, words) {
         return n;
     }
-    slide(highs, lows, n - 1, high, low);
+    slide(highs, lows, n - 1, words);
     n
 }

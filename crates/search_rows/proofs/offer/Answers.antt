@@ -1,5 +1,5 @@
 use Rattle.search_rows.specs.Rows.{row_of}
-use Rattle.search_rows.proofs.HeldLaws.{held_part, row_words, offered_in, offered_out, offered_over, offered_same}
+use Rattle.search_rows.proofs.HeldLaws.{held_part, offered_in, offered_out, offered_over, offered_same}
 use Prim.Native.Nat.{◌-◌}
 use native.Mathlib.Omega.{arith}
 use Rattle.search_rows.proofs.offer.Goals as goal
@@ -9,9 +9,9 @@ returns-then-n-k c =
     let S = c in
     let a = S.args in
     let W = c in
-    let hs = a.highs.now in let ls = a.lows.now in let x = row_of W.high_of-high.result W.low_of-low.result in
+    let hs = a.highs.now in let ls = a.lows.now in let x = row_of W.of-words.result.high W.of-words.result.low in
     let o = c.slide in
-    offered_same hs ls a.n a.k x a.row _ _ _ (row_words a.row _ _ W.high_of-high.ensures W.low_of-low.ensures.1)
+    offered_same hs ls a.n a.k x a.row _ _ _ W.of-words.ensures.again
     (offered_in hs ls a.n a.k x _ _ S.requires.1 c.if-n-k.true o.auto.highs o.auto.lows o.ensures)
 
 pub returns-then-not-gives_way : goal.returns-then-not-gives_way
@@ -19,13 +19,10 @@ returns-then-not-gives_way c =
     let S = c in
     let a = S.args in
     let W = c in
-    let hs = a.highs.now in let ls = a.lows.now in let x = row_of W.high_of-high.result W.low_of-low.result in
+    let hs = a.highs.now in let ls = a.lows.now in let x = row_of W.of-words.result.high W.of-words.result.low in
     let g = c.gives_way in
-    offered_same hs ls a.n a.k x a.row _ _ _ (row_words a.row _ _ W.high_of-high.ensures W.low_of-low.ensures.1)
+    offered_same hs ls a.n a.k x a.row _ _ _ W.of-words.ensures.again
     (offered_out hs ls a.n a.k x S.requires.1 c.if-n-k.false (g.ensures.stays c.if-not-gives_way.true))
-
-pub overflow_sub-n : goal.overflow_sub-n
-overflow_sub-n c = let g = (c.gives_way.ensures.gives c.if-not-gives_way.false).0 in omega arith
 
 pub slide-requires-2 : goal.slide-requires-2
 slide-requires-2 c =
@@ -41,9 +38,9 @@ returns c =
     let S = c in
     let a = S.args in
     let W = c in
-    let hs = a.highs.now in let ls = a.lows.now in let x = row_of W.high_of-high.result W.low_of-low.result in
+    let hs = a.highs.now in let ls = a.lows.now in let x = row_of W.of-words.result.high W.of-words.result.low in
     let g = c.gives_way.ensures.gives c.if-not-gives_way.false in
     let z = g.0 in
     let o = c.slide-2.ensures in
-    offered_same hs ls a.n a.k x a.row _ _ _ (row_words a.row _ _ W.high_of-high.ensures W.low_of-low.ensures.1)
+    offered_same hs ls a.n a.k x a.row _ _ _ W.of-words.ensures.again
     (offered_over hs ls (a.n - 1) a.n a.k x _ _ S.requires.1 c.if-n-k.false (omega arith) g.1 o)

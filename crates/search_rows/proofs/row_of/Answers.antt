@@ -1,4 +1,3 @@
-use mathlib.Core.Path.{refl}
 use native.Mathlib.Omega.{arith}
 use Rattle.search_rows.proofs.HeldLaws.{age_fits}
 use borrow.Author.Rules.{rules}
@@ -12,6 +11,3 @@ overflow_cast-stamp c = let a = c.args in let f = age_fits a.high a.low (search 
 
 pub overflow_sub-stamp : goal.overflow_sub-stamp
 overflow_sub-stamp c = let a = c.args in let f = age_fits a.high a.low (search rules) in omega arith
-
-pub returns : goal.returns
-returns c = refl
