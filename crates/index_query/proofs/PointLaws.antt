@@ -1,9 +1,9 @@
 -- Laws of a point as it is stored, of its weights, and of the query for both.
-use Rattle.std.specs.Prelude.{◌≡◌, refl, Bool, true, false, List, ◌∷◌, map, ℕ, zero, suc, ◌+◌, ◌≤◌, ℤ, length, take, replicate}
-use Rattle.std.proofs.Common.{sym, ap, ap₂, ◌∙◌, subst, arith}
+use Rattle.std.specs.Prelude.{◌≡◌, refl, List, map, ℕ, zero, suc, ◌+◌, ◌≤◌, ℤ, length, take, replicate, Option, None, Some, unwrap_or}
+use Rattle.std.proofs.Common.{sym, ap, ◌∙◌, subst, arith, Bor}
+use Rattle.std.specs.Option.{option_copied}
 use Rattle.std.proofs.lemmas.List.{length-map, length-replicate}
-use Rattle.lists.specs.Basics.{All, none, also, if}
-use Rattle.lists.specs.Tests.{false_true}
+use Rattle.lists.specs.Basics.{All, none, also}
 use Rattle.calendar.specs.declared.Window.{Window}
 use Rattle.calendar.specs.Days.{days_if}
 use Rattle.calendar.specs.Counting.{window_of}
@@ -16,14 +16,9 @@ use Rattle.geometry.proofs.WeightLaws.{ones_plain}
 use Rattle.geometry_slices.proofs.QuestionLaws.{stored_weighted}
 use Rattle.search_model.proofs.AskedLaws.{seekable_point}
 use Rattle.index_query.specs.declared.Criteria.{Criteria}
-use Rattle.index_query.specs.Asking.{weights_if, question_of, features_by, AsMany, Light, Searchable, QueryFor}
+use Rattle.index_query.specs.Asking.{Weights, unweighed, weighed, weights_of, weights_if, laid_weights, question_of, features_by, AsMany, Light, Searchable, QueryFor}
 
 -- ---- THE WEIGHTS LAID OUT: THOSE CARRIED, OR ONES
-
-pub first_ones : (n m x : ℕ) → n ≤ m → x ≡ 1 → take n (replicate m x) ≡ replicate n 1
-first_ones zero m x h e = refl
-first_ones (suc n) zero x h e = absurd (omega arith)
-first_ones (suc n) (suc m) x h e = ap₂ (λ (y : ℕ) (xs : List ℕ). y ∷ xs) e (first_ones n m x (omega arith) e)
 
 pub laid_as : {q vs ws r : List ℕ} → LaidOut q q vs r → vs ≡ ws → LaidOut q q ws r
 laid_as {q} {vs} {ws} {r} h e = subst (λ (xs : List ℕ). LaidOut q q xs r) e h
@@ -32,22 +27,22 @@ pub ones_light : (n : ℕ) → All (λ x. x ≤ max_weight) (replicate n 1)
 ones_light zero = none
 ones_light (suc n) = also {x = 1} (omega arith) (ones_light n)
 
-module _ (ws : List ℕ) where
-  laid_features : (t : Bool) (p : List ℤ) → weighted (if t ws (replicate (length p) 1)) p ≡ features_by (weights_if t ws) p
-  laid_features true p = refl
-  laid_features false p = ones_plain p
+-- those carried, or else the ones given
+pub laid_or : (carried : Option (Bor (List ℕ))) (ones : Bor (List ℕ)) (n : ℕ) → ones.now ≡ replicate n 1 → (unwrap_or carried ones).now ≡ laid_weights n (weights_of (option_copied carried))
+laid_or None ones n e = e
+laid_or (Some ws) ones n e = refl
 
-  laid_length : (t : Bool) (n : ℕ) → AsMany n (weights_if t ws) → length (if t ws (replicate n 1)) ≡ n
-  laid_length true n e = e
-  laid_length false n e = length-replicate n 1
+pub laid_features : (ws : Weights) (p : List ℤ) → weighted (laid_weights (length p) ws) p ≡ features_by ws p
+laid_features unweighed p = ones_plain p
+laid_features (weighed ws) p = refl
 
-  laid_light : (t : Bool) (n : ℕ) → Light (weights_if t ws) → All (λ x. x ≤ max_weight) (if t ws (replicate n 1))
-  laid_light true n l = l
-  laid_light false n l = ones_light n
+pub laid_length : (ws : Weights) (n : ℕ) → AsMany n ws → length (laid_weights n ws) ≡ n
+laid_length unweighed n e = length-replicate n 1
+laid_length (weighed ws) n e = e
 
-  pub own_weights : (t : Bool) (n : ℕ) → AsMany n (weights_if t ws) → t ≡ true → length ws ≡ n
-  own_weights true n a e = a
-  own_weights false n a e = false_true e
+laid_light : (ws : Weights) (n : ℕ) → Light ws → All (λ x. x ≤ max_weight) (laid_weights n ws)
+laid_light unweighed n l = ones_light n
+laid_light (weighed ws) n l = l
 
 -- ---- THE QUERY
 
@@ -62,21 +57,24 @@ module _ (p : List ℤ) (ws : List ℕ) (what : Criteria) (slots features : List
   own_length : length (take n slots) ≡ n
   own_length = ap length own ∙ length-map p stored
 
-  abbrev laid : List ℕ
-  laid = if what.weighted ws (replicate n 1)
+  abbrev carried : Weights
+  carried = weights_if what.weighted ws
 
-  pub query_for : (set : ℕ) → set ≡ what.stages → (window : Window) → window ≡ window_of (days_if what.dated what.dates) → LaidOut (take n slots) (take n slots) (if what.weighted ws (replicate (length (take n slots)) 1)) features → QueryFor (question_of p ws what) (record { features = features; d = n; k = what.k; choice = record { stages = set; window = window } })
+  abbrev laid : List ℕ
+  laid = laid_weights n carried
+
+  pub query_for : (set : ℕ) → set ≡ what.stages → (window : Window) → window ≡ window_of (days_if what.dated what.dates) → LaidOut (take n slots) (take n slots) (laid_weights (length (take n slots)) carried) features → QueryFor (question_of p ws what) (record { features = features; d = n; k = what.k; choice = record { stages = set; window = window } })
   query_for set e window f h =
       let asked = take (48 + n) features in
       let cut : take (48 + length (take n slots)) features ≡ asked = ap (λ (m : ℕ). take (48 + m) features) own_length in
       let same : asked_of asked ≡ weighted laid p =
-      ap asked_of (sym cut) ∙ h.same ∙ ap (λ (m : ℕ). features_of (take n slots) (take n slots) (if what.weighted ws (replicate m 1))) own_length
+      ap asked_of (sym cut) ∙ h.same ∙ ap (λ (m : ℕ). features_of (take n slots) (take n slots) (laid_weights m carried)) own_length
       ∙ stored_weighted (take n slots) laid ∙ ap (λ (s : List ℕ). weighted laid (point_of s)) own
       ∙ ap (weighted laid) (point_back p can.ranges) in
       record {
         slots = h.places;
         few = can.most;
-        seekable = seekable_point asked laid p (subst Packed cut h.packed) same (laid_length ws what.weighted n can.weights)
-            (laid_light ws what.weighted n can.light) (in_range_law p can.ranges) can.features;
-        is = λ i. record { features = (same ∙ laid_features ws what.weighted p) i; k = what.k; choice = record { stages = e i; window = f i } };
+        seekable = seekable_point asked laid p (subst Packed cut h.packed) same (laid_length carried n can.weights)
+            (laid_light carried n can.light) (in_range_law p can.ranges) can.features;
+        is = λ i. record { features = (same ∙ laid_features carried p) i; k = what.k; choice = record { stages = e i; window = f i } };
       }

@@ -1,8 +1,9 @@
 -- What a caller asks, and what is asked of the search for it.
-use Rattle.std.specs.Prelude.{◌≡◌, Bool, true, false, List, ℕ, ◌+◌, ◌≤◌, ℤ, length, take}
+use Rattle.std.specs.Prelude.{◌≡◌, Bool, true, false, List, ℕ, ◌+◌, ◌≤◌, ℤ, length, take, replicate, Option, None, Some}
 use Rattle.lists.specs.Basics.{All}
 use Rattle.calendar.specs.declared.Date.{Date}
-use Rattle.calendar.specs.Days.{Days, undated, days_if}
+use Rattle.calendar.specs.declared.Dates.{Dates}
+use Rattle.calendar.specs.Days.{Days, undated, dated, days_if}
 use Rattle.calendar.specs.Counting.{window_of}
 use Rattle.geometry.specs.Points.{distance}
 use Rattle.geometry.specs.Features.{Feature, plain, weighted, weighted_distance}
@@ -25,6 +26,11 @@ pub data Weights : Type 0 where
   unweighed : Weights
   weighed : List ℕ → Weights
 
+-- as many as code is given them, if it is
+abbrev pub weights_of : Option (List ℕ) → Weights
+weights_of None = unweighed
+weights_of (Some ws) = weighed ws
+
 -- whether they are carried is a flag
 abbrev pub weights_if : Bool → List ℕ → Weights
 weights_if false ws = unweighed
@@ -41,6 +47,11 @@ pub record Question : Type 0 where
 -- without weights and without dates
 abbrev pub nearest_of : List ℤ → ℕ → ℕ → Question
 nearest_of p k stages = record { point = p; weights = unweighed; k = k; stages = stages; days = undated }
+
+-- the recording days as code is given them, if any are named
+abbrev pub days_of : Option Dates → Days
+days_of None = undated
+days_of (Some dates) = dated dates
 
 -- as code is given it: the point and the weights in slices, and the rest
 abbrev pub question_of : List ℤ → List ℕ → Criteria → Question
@@ -61,6 +72,11 @@ choice_of w = record { stages = w.stages; window = window_of w.days }
 abbrev pub features_by : Weights → List ℤ → List Feature
 features_by unweighed p = plain p
 features_by (weighed ws) p = weighted ws p
+
+-- the weights laid out for n features: those carried, or ones
+abbrev pub laid_weights : ℕ → Weights → List ℕ
+laid_weights n unweighed = replicate n 1
+laid_weights n (weighed ws) = ws
 
 -- what is asked of the search
 abbrev pub sought : Question → Asked
