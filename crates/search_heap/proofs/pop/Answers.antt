@@ -3,15 +3,6 @@ use native.Mathlib.Omega.{arith}
 use Rattle.search_heap.proofs.pop.Goals as goal
 
 -- `pop` takes the top and lets the last of the first n sink from there.
-pub bounds-a-0 : goal.bounds-a-0
-bounds-a-0 c = let q = c.requires.1.fits in omega arith
-
-pub offset_bounds-a-m : goal.offset_bounds-a-m
-offset_bounds-a-m c = let q = c.requires.1.fits in omega arith
-
-pub bounds-a-m : goal.bounds-a-m
-bounds-a-m c = let q = c.requires.1.fits in omega arith
-
 pub sink-requires : goal.sink-requires
 sink-requires c = pop_start _ c.args.n _ c.if-m-gt0.true (omega arith) c.requires.1
 

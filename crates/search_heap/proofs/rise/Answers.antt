@@ -11,59 +11,17 @@ loop-h-init c =
     let st = c in
     (refl, fits_of st.args.a.now st.args.n st.args.x _ st.requires.fits, st.requires, refl, refl)
 
-pub offset_bounds-a-h : goal.offset_bounds-a-h
-offset_bounds-a-h c = let q = c.loop-h.invariant.2.place in omega arith
-
-pub bounds-a-h : goal.bounds-a-h
-bounds-a-h c = let q = c.loop-h.invariant.2.place in omega arith
-
-pub shape_of-a-then-h-eq0 : goal.shape_of-a-then-h-eq0
-shape_of-a-then-h-eq0 c = simp length-set c.loop-h.invariant.0
-
 pub returns-then-h-eq0 : goal.returns-then-h-eq0
 returns-then-h-eq0 c =
     let l = c.loop-h in
     let i = l.invariant in
     settled _ l.h _ l.a _ _ i.2.place (risen _ l.h _ l.a i.2 (λ z. absurd (omega arith))) i.3 i.4
 
-pub overflow_sub-p : goal.overflow_sub-p
-overflow_sub-p c = omega arith
-
-pub offset_bounds-a-p : goal.offset_bounds-a-p
-offset_bounds-a-p c = let q = c.loop-h.invariant.2.place in omega arith
-
-pub bounds-a-p : goal.bounds-a-p
-bounds-a-p c = let q = c.loop-h.invariant.2.place in omega arith
-
-pub offset_bounds-a-h-then-a-p : goal.offset_bounds-a-h-then-a-p
-offset_bounds-a-h-then-a-p c = let q = c.loop-h.invariant.2.place in omega arith
-
-pub bounds-a-h-then-a-p : goal.bounds-a-h-then-a-p
-bounds-a-h-then-a-p c = let q = c.loop-h.invariant.2.place in omega arith
-
-pub shape_of-a-then-a-p : goal.shape_of-a-then-a-p
-shape_of-a-then-a-p c = simp length-set c.loop-h.invariant.0
-
 pub returns-then-a-p : goal.returns-then-a-p
 returns-then-a-p c =
     let l = c.loop-h in
     let i = l.invariant in
     settled _ l.h _ l.a _ _ i.2.place (risen _ l.h _ l.a i.2 (λ _. c.if-a-p.true)) i.3 i.4
-
-pub offset_bounds-a-p-in-loop-h : goal.offset_bounds-a-p-in-loop-h
-offset_bounds-a-p-in-loop-h c = let q = c.loop-h.invariant.2.place in omega arith
-
-pub bounds-a-p-in-loop-h : goal.bounds-a-p-in-loop-h
-bounds-a-p-in-loop-h c = let q = c.loop-h.invariant.2.place in omega arith
-
-pub offset_bounds-a-h-in-loop-h : goal.offset_bounds-a-h-in-loop-h
-offset_bounds-a-h-in-loop-h c = let q = c.loop-h.invariant.2.place in omega arith
-
-pub bounds-a-h-in-loop-h : goal.bounds-a-h-in-loop-h
-bounds-a-h-in-loop-h c = let q = c.loop-h.invariant.2.place in omega arith
-
-pub loop-h-smaller : goal.loop-h-smaller
-loop-h-smaller c = omega arith
 
 pub loop-h-preserved : goal.loop-h-preserved
 loop-h-preserved c =
