@@ -1,20 +1,13 @@
 -- What is asked: a set of stages by its marks, the full set, a question for a point suits an index of as many features, and its tables can be made.
-use mathlib.Core.Path.{◌≡◌, refl, sym, ap, ◌∙◌}
-use mathlib.Core.Bool.{Bool, true, false, ◌&&◌}
-use mathlib.Core.List.{List, [], ◌∷◌, map}
-use Prim.Native.Nat.{ℕ, zero, suc, ◌+◌, ◌*◌, ◌/◌, ◌%◌, ◌^◌, ◌≤◌, ◌<◌}
-use native.Mathlib.Omega.{arith}
-use lib.Dec.{eqb}
-use lib.IntN.{ℤ}
-use lib.ListN.{length, drop, replicate, length-take, length-replicate, get_or-replicate}
-use lib.Seq.{get_or-take, get_or-drop, ext_get_or}
-use borrow.Author.Tests.{eqb-true, eqb-false}
+use Rattle.std.proofs.Common.{◌≡◌, refl, sym, ap, ◌∙◌, Bool, true, false, List, [], ◌∷◌, map, ℕ, zero, suc, ◌+◌, ◌*◌, ◌/◌, ◌%◌, ◌^◌, ◌≤◌, ◌<◌, arith, eqb, ℤ, length, drop, replicate, length-take, get_or-take, get_or-drop, ext_get_or, eqb-true}
+use lib.ListN.{length-replicate, get_or-replicate}
+use borrow.Author.Tests.{eqb-false}
 use Rattle.lists.specs.Basics.{All, none, also, all_map, indicator}
 use Rattle.lists.specs.Tests.{by_cases}
 use Rattle.lists.specs.Choices.{indicator_le}
 use Rattle.lists.specs.Sorting.{filter}
 use Rattle.lists.specs.SortingLaws.{filter_all}
-use Rattle.calendar.proofs.WindowLaws.{window_open}
+use Rattle.calendar.specs.Counting.{in_window}
 use Rattle.geometry.specs.Points.{InRange}
 use Rattle.geometry.specs.Features.{Feature, weighted}
 use Rattle.geometry.specs.Numbers.{max_weight}
@@ -83,10 +76,10 @@ full_marks s h =
 
 -- so on a sound index each record is a candidate of a question for the full set without dates
 full_candidate : (q : Asked) → LeavesOutNone q.choice → (r : Record) → r.stage ≤ max_stage → candidate q r ≡ true
-unfolding candidate
+unfolding candidate in_window
 full_candidate q e r h =
     let staged : in_stages q.choice.stages r.stage ≡ true = rw e.0 (full_marks r.stage h) in
-    λ i. staged i && sym (window_open q.choice.window r.stamp e.1) i
+    rw (staged, e.1)
 
 pub candidates_full : (q : Asked) → LeavesOutNone q.choice → (d : ℕ) (rs : List Record) → All (RecordOk d) rs → filter (candidate q) rs ≡ rs
 candidates_full q e d rs a = filter_all (candidate q) rs (all_map (λ r (h : RecordOk d r). full_candidate q e r h.stage) a)

@@ -1,12 +1,7 @@
 -- The search from the root gives what the visit of all leaves by (bound, position) gives.
-use mathlib.Core.Path.{◌≡◌, refl, sym, ap, ◌∙◌}
-use mathlib.Core.Bool.{false}
-use mathlib.Core.List.{List, [], ◌∷◌, map}
-use Prim.Native.Nat.{ℕ, zero, suc, ◌+◌, ◌*◌, ◌≤◌, ◌<◌}
-use native.Mathlib.Omega.{arith}
-use native.Mathlib.Nat.{le_refl}
-use lib.ListN.{length, length-append, length-map}
-use borrow.Author.Tests.{lt-ltb, le-ltb, lt-leb}
+use Rattle.std.proofs.Common.{◌≡◌, refl, sym, ap, ◌∙◌, false, List, [], ◌∷◌, map, ℕ, zero, suc, ◌+◌, ◌*◌, ◌≤◌, ◌<◌, arith, le_refl, length, length-append, lt-ltb, le-ltb}
+use lib.ListN.{length-map}
+use borrow.Author.Tests.{lt-leb}
 use Rattle.lists.specs.Basics.{All, none, also, concat_map}
 use Rattle.lists.specs.Tests.{three, false_true}
 use Rattle.lists.specs.Sorting.{Order, sort, insert_by}

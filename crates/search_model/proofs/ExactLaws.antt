@@ -1,12 +1,7 @@
 -- What is promised of the search on a sound index, in the words of demands 2 and 3: its rows, the leaves read and their count.
-use mathlib.Core.Path.{◌≡◌, refl, sym, ap, ◌∙◌}
-use mathlib.Core.Bool.{Bool, true, false}
-use mathlib.Core.List.{List, [], ◌∷◌, map}
-use Prim.Native.Nat.{ℕ, zero, suc, ◌≤◌, ◌<◌}
-use native.Mathlib.Omega.{arith}
-use lib.ListN.{length, length-map, take}
-use lib.Dec.{ltb, eqb}
-use borrow.Author.Tests.{eqb-true, eqb-false, eq-eqb, ltb-true, ltb-false, lt-ltb, ne_eqb}
+use Rattle.std.proofs.Common.{◌≡◌, refl, sym, ap, ◌∙◌, Bool, true, false, List, [], ◌∷◌, map, ℕ, zero, suc, ◌≤◌, ◌<◌, arith, length, take, ltb, eqb, eqb-true, eq-eqb, ltb-true, ltb-false, lt-ltb, ne_eqb}
+use lib.ListN.{length-map}
+use borrow.Author.Tests.{eqb-false}
 use Rattle.lists.specs.Basics.{All, none, also, concat_map}
 use Rattle.lists.specs.Tests.{by_cases}
 use Rattle.lists.specs.Sorting.{filter, count, sort}

@@ -1,11 +1,5 @@
 -- The examples of 01 marked P that speak of leaves hold, and Q-9's: by the promises, they compute.
-use mathlib.Core.Path.{◌≡◌, refl, sym, ap, ◌∙◌}
-use mathlib.Core.Bool.{◌&&◌}
-use mathlib.Core.List.{List, [], ◌∷◌, map}
-use Prim.Native.Nat.{ℕ, ◌≤◌}
-use lib.Dec.{lit≤, ltb}
-use lib.IntN.{pos}
-use lib.ListN.{length}
+use Rattle.std.proofs.Common.{◌≡◌, refl, sym, ap, ◌∙◌, ◌&&◌, List, [], ◌∷◌, map, ℕ, ◌≤◌, lit≤, ltb, pos, length}
 use Rattle.lists.specs.Basics.{All, none, also, range_from}
 use Rattle.lists.specs.Sorting.{filter, count, insert_by, sort}
 use Rattle.lists.specs.Orders.{lex}

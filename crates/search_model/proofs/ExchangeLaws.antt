@@ -1,12 +1,6 @@
 -- Records of leaves left unread may be exchanged: neither rows nor count change (demand 3).
-use mathlib.Core.Path.{◌≡◌, refl, sym, ap, ap₂, subst, ◌∙◌}
-use mathlib.Core.Bool.{Bool, true, false}
-use mathlib.Core.List.{List, [], ◌∷◌, ◌++◌, map}
-use Prim.Native.Nat.{ℕ, zero, suc, ◌+◌, ◌≤◌}
-use native.Mathlib.Omega.{arith}
-use lib.ListN.{length, get_or, length-map}
-use lib.Dec.{ltb}
-use borrow.Author.Tests.{ltb-false}
+use Rattle.std.proofs.Common.{◌≡◌, refl, sym, ap, ap₂, subst, ◌∙◌, Bool, true, false, List, [], ◌∷◌, ◌++◌, map, ℕ, zero, suc, ◌+◌, ◌≤◌, arith, length, get_or, ltb, ltb-false}
+use lib.ListN.{length-map}
 use Rattle.lists.specs.Basics.{if, All, none, also, concat_map, range_from}
 use Rattle.lists.specs.Tests.{by_cases, false_true}
 use Rattle.lists.specs.Ascending.{head_or, last_or, last_map}

@@ -1,13 +1,5 @@
 -- The leaves that the search can come to, where the inner pages hold a tree. Nothing is assumed of what its leaf pages hold.
-use mathlib.Core.Path.{◌≡◌, refl, sym, ap, ap₂, ◌∙◌}
-use mathlib.Core.Bool.{true, false}
-use mathlib.Core.List.{List, [], ◌∷◌, ◌++◌, map}
-use Prim.Native.Nat.{ℕ, zero, suc, min, ◌+◌, ◌≤◌, ◌<◌}
-use native.Mathlib.Omega.{arith}
-use native.Mathlib.Nat.{le_refl, le_trans}
-use lib.Dec.{eqb}
-use borrow.Author.Tests.{ne_eqb}
-use lib.ListN.{length, length-append}
+use Rattle.std.proofs.Common.{◌≡◌, refl, sym, ap, ap₂, ◌∙◌, true, false, List, [], ◌∷◌, ◌++◌, map, ℕ, zero, suc, min, ◌+◌, ◌≤◌, ◌<◌, arith, le_refl, le_trans, eqb, ne_eqb, length, length-append}
 use Rattle.lists.specs.Basics.{All, none, also, all_map, all_left, all_right, concat_map}
 use Rattle.lists.specs.Sorting.{sum}
 use Rattle.lists.specs.ConcatMapLaws.{all_concat_map, map_append, all_both, concat_map_some}

@@ -1,10 +1,5 @@
 -- The full set without dates returns what 01 does (02), with Q-9's tie rule: on a sound index each live record is then a candidate.
-use mathlib.Core.Path.{◌≡◌, refl, ap, ap₂, ◌∙◌}
-use mathlib.Core.Bool.{Bool, ◌&&◌}
-use mathlib.Core.List.{List, [], ◌∷◌, ◌++◌, map}
-use Prim.Native.Nat.{ℕ, suc, ◌≤◌}
-use lib.Dec.{ltb}
-use lib.ListN.{length}
+use Rattle.std.proofs.Common.{◌≡◌, refl, ap, ap₂, ◌∙◌, Bool, ◌&&◌, List, [], ◌∷◌, ◌++◌, map, ℕ, suc, ◌≤◌, ltb, length}
 use Rattle.lists.specs.Basics.{All, none, also}
 use Rattle.lists.specs.Sorting.{count}
 use Rattle.search_theory.specs.Nearest.{Ranking, nearest, in_set}

@@ -1,11 +1,7 @@
 -- Where all stamps are equal, rows and count are those of 01's tie rule (02, Q-9: "01's examples are as before when all stamps are 0"); whatever
 -- they are, the rows' distances and the count.
-use mathlib.Core.Path.{◌≡◌, sym, ap, ◌∙◌}
-use mathlib.Core.Bool.{Bool, true, ◌&&◌, ◌||◌}
-use mathlib.Core.List.{List, [], ◌∷◌, map}
-use Prim.Native.Nat.{ℕ, suc, ◌-◌, ◌≤◌}
-use lib.Dec.{ltb, leb}
-use lib.ListN.{length, get_or, length-map}
+use Rattle.std.proofs.Common.{◌≡◌, sym, ap, ◌∙◌, Bool, true, ◌&&◌, ◌||◌, List, [], ◌∷◌, map, ℕ, suc, ◌-◌, ◌≤◌, ltb, leb, length, get_or}
+use lib.ListN.{length-map}
 use Rattle.lists.specs.Basics.{All, none, all_append, all_left, all_right, concat_map}
 use Rattle.lists.specs.Sorting.{count, filter}
 use Rattle.lists.specs.SortingLaws.{filter_append, all_filter}

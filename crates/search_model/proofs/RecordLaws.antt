@@ -1,12 +1,5 @@
 -- Records in key order: their pairs are real and in the order of their keys, so that spans of parts have no smaller bounds.
-use mathlib.Core.Path.{◌≡◌, refl, sym, ◌∙◌}
-use mathlib.Core.Logic.{inl, inr}
-use mathlib.Core.List.{List, [], ◌∷◌, map}
-use Prim.Native.Nat.{ℕ, ◌≤◌, ◌<◌}
-use native.Mathlib.Omega.{arith}
-use native.Mathlib.Nat.{le_refl, le_trans}
-use lib.ListN.{length, take}
-use lib.Seq.{length-take-le}
+use Rattle.std.proofs.Common.{◌≡◌, refl, sym, ◌∙◌, inl, inr, List, [], ◌∷◌, map, ℕ, ◌≤◌, ◌<◌, arith, le_refl, le_trans, length, take, length-take-le}
 use Rattle.lists.specs.Basics.{All, none, also, all_head, all_map}
 use Rattle.lists.specs.Tests.{three}
 use Rattle.lists.specs.Parts.{head_of, last_of}

@@ -1,10 +1,6 @@
 -- The room for the frontier.
-use mathlib.Core.Path.{◌≡◌, subst}
-use mathlib.Core.List.{List}
-use Prim.Native.Nat.{ℕ, ◌*◌, ◌≤◌, ◌<◌}
-use native.Mathlib.Omega.{arith}
-use lib.Dec.{leb}
-use borrow.Author.Tests.{le-leb, lt-leb, leb-true, leb-false}
+use Rattle.std.proofs.Common.{◌≡◌, subst, List, ℕ, ◌*◌, ◌≤◌, ◌<◌, arith, leb, le-leb, leb-true, leb-false}
+use borrow.Author.Tests.{lt-leb}
 use Rattle.lists.specs.Tests.{by_cases}
 use Rattle.pagestore.specs.Store.{total, field_at}
 use Rattle.search_model.specs.Visit.{few_records, some_records, many_records, small_room, middle_room, large_room, full_room, room_for, room}

@@ -1,15 +1,7 @@
 -- Demand 3's set in the letter's own words: on every sound index `to_read`, which goes by bounds, picks the leaves that are `Called`,
 -- which goes by points.
-use mathlib.Core.Path.{◌≡◌, refl, sym, ap, ◌∙◌}
-use mathlib.Core.Bool.{true}
-use mathlib.Core.Logic.{◌⊎◌, inl, inr}
-use mathlib.Core.List.{List, [], ◌∷◌, map}
-use Prim.Native.Nat.{ℕ, suc, ◌≤◌, ◌<◌}
-use native.Mathlib.Omega.{arith}
-use native.Mathlib.Nat.{le_trans, le_of_eq}
-use lib.ListN.{length, length-append, length-map, length-take}
-use lib.Dec.{ltb, leb}
-use borrow.Author.Tests.{ltb-true, ltb-false, lt-ltb, leb-true, le-leb}
+use Rattle.std.proofs.Common.{◌≡◌, refl, sym, ap, ◌∙◌, true, ◌⊎◌, inl, inr, List, [], ◌∷◌, map, ℕ, suc, ◌≤◌, ◌<◌, arith, le_trans, le_of_eq, length, length-append, length-take, ltb, leb, ltb-true, ltb-false, lt-ltb, leb-true, le-leb}
+use lib.ListN.{length-map}
 use Rattle.lists.specs.Basics.{All, all_map, concat_map}
 use Rattle.lists.specs.Tests.{false_true, by_cases}
 use Rattle.lists.specs.Sorting.{filter, sort}

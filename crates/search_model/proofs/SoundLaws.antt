@@ -1,14 +1,7 @@
 -- What the search uses of a sound index: its inner pages hold its tree, records are in order and in range, and 4 levels, room for one
 -- branch for 8 records each, and twice as many steps as pages are enough.
-use mathlib.Core.Path.{◌≡◌, refl, sym, ap, ap₂, ◌∙◌}
-use mathlib.Core.Bool.{true}
-use mathlib.Core.List.{List, [], ◌∷◌, ◌++◌, map, append-nil}
-use Prim.Native.Nat.{ℕ, zero, suc, ◌*◌, ◌^◌, ◌≤◌, ◌<◌}
-use native.Mathlib.Omega.{arith}
-use native.Mathlib.Nat.{le_refl, le_trans, mul-le-mul, suc-mul, pow-le-pow_right, pow-succ'}
-use lib.ListN.{length, length-append}
-use lib.Dec.{ltb}
-use borrow.Author.Tests.{ltb-true, ltb-false}
+use Rattle.std.proofs.Common.{◌≡◌, refl, sym, ap, ap₂, ◌∙◌, true, List, [], ◌∷◌, ◌++◌, map, append-nil, ℕ, zero, suc, ◌*◌, ◌^◌, ◌≤◌, ◌<◌, arith, le_refl, le_trans, mul-le-mul, suc-mul, length, length-append, ltb, ltb-true, ltb-false}
+use native.Mathlib.Nat.{pow-le-pow_right, pow-succ'}
 use Rattle.lists.specs.Basics.{indicator, All, none, also, all_head, all_tail, all_map, concat_map, concat_map_append}
 use Rattle.lists.specs.ConcatMapLaws.{all_concat_map, all_both, all_every}
 use Rattle.lists.specs.Counts.{mult, mult_append, all_of_mult, pigeons}

@@ -1,12 +1,5 @@
 -- Whatever bytes the pages of the leaves left unread hold, the search gives the rows and the count of the sound index (demand 3).
-use mathlib.Core.Path.{◌≡◌, refl, sym, ap, ◌∙◌}
-use mathlib.Core.Bool.{Bool, true, not}
-use mathlib.Core.List.{List, [], ◌∷◌, map}
-use Prim.Native.Nat.{ℕ, zero, suc, ◌+◌, ◌*◌, ◌≤◌, ◌<◌, ◌/◌}
-use native.Mathlib.Omega.{arith}
-use lib.ListN.{length}
-use lib.Dec.{ltb}
-use borrow.Author.Tests.{ltb-true, ltb-false, lt-ltb}
+use Rattle.std.proofs.Common.{◌≡◌, refl, sym, ap, ◌∙◌, Bool, true, not, List, [], ◌∷◌, map, ℕ, zero, suc, ◌+◌, ◌*◌, ◌≤◌, ◌<◌, ◌/◌, arith, length, ltb, ltb-true, ltb-false, lt-ltb}
 use Rattle.lists.specs.Basics.{All, none, also, all_map, concat_map}
 use Rattle.lists.specs.Tests.{false_true, by_cases}
 use Rattle.lists.specs.Sorting.{filter}

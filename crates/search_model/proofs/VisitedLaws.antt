@@ -1,13 +1,6 @@
 -- The visit of an index with the header and the inner pages of a sound one is that of its leaves by (bound, position), and no row of a
 -- leaf is nearer than its bound.
-use mathlib.Core.Path.{◌≡◌, refl, sym, ap, ap₂, ◌∙◌}
-use mathlib.Core.Bool.{false}
-use mathlib.Core.List.{List, [], ◌∷◌, ◌++◌}
-use Prim.Native.Nat.{ℕ, suc, ◌*◌, ◌≤◌, ◌<◌}
-use native.Mathlib.Omega.{arith}
-use lib.ListN.{length}
-use lib.Dec.{ltb, eqb}
-use borrow.Author.Tests.{ltb-true, ltb-false, le-ltb, ne_eqb}
+use Rattle.std.proofs.Common.{◌≡◌, refl, sym, ap, ap₂, ◌∙◌, false, List, [], ◌∷◌, ◌++◌, ℕ, suc, ◌*◌, ◌≤◌, ◌<◌, arith, length, ltb, eqb, ltb-true, ltb-false, le-ltb, ne_eqb}
 use Rattle.lists.specs.Basics.{All, none, also, all_map, concat_map}
 use Rattle.lists.specs.Tests.{by_cases}
 use Rattle.lists.specs.Sorting.{filter}

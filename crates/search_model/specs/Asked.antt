@@ -1,6 +1,6 @@
 -- What is asked, as one value, and what it means: how far a record is, whether it is looked for at all, and the bound of a span; the
 -- order of rows is `row_order`, of the crate search_rows. Every statement about a question goes over this value.
-use Rattle.std.specs.Prelude.{◌≡◌, Bool, false, ◌&&◌, List, ℕ, ◌+◌, ◌*◌, ◌/◌, ◌%◌, ◌^◌, ◌≤◌, eqb, length, take, ℤ}
+use Rattle.std.specs.Prelude.{◌≡◌, Bool, ◌&&◌, None, List, ℕ, ◌+◌, ◌*◌, ◌/◌, ◌%◌, ◌^◌, ◌≤◌, eqb, length, take, ℤ}
 use Rattle.lists.specs.Basics.{All, indicator}
 use Rattle.calendar.specs.Days.{undated}
 use Rattle.calendar.specs.Counting.{window_of, in_window}
@@ -48,7 +48,7 @@ candidate q r = in_stages q.choice.stages r.stage && in_window q.choice.window r
 
 -- a choice that leaves out no record of a sound index: the full set, and no dates
 abbrev pub LeavesOutNone : Choice → Type 0
-LeavesOutNone c = (c.stages ≡ full_set) × (c.window.bounded ≡ false)
+LeavesOutNone c = (c.stages ≡ full_set) × (c.window ≡ None)
 
 abbrev pub every_record : Choice
 every_record = record { stages = full_set; window = window_of undated }

@@ -28,9 +28,9 @@ pub const FULL_ROOM: usize = 8192;
 // The set of all six stages.
 pub const ALL_STAGES: u8 = 63;
 
-// Which records are looked for: those whose stage is in the set, bit s for stage s, and whose stamp lies in the window.
+// Which records are looked for: those whose stage is in the set, bit s for stage s, and whose stamp lies in the window, if there is one.
 #[derive(Clone, Copy)]
 pub struct Choice {
     pub stages: u8,
-    pub window: Window,
+    pub window: Option<Window>,
 }
