@@ -1,10 +1,10 @@
 -- What the functions of this crate return and leave, step by step. Assumes nothing.
-use mathlib.Core.Path.{◌≡◌, refl, sym, ap, ◌∙◌}
-use mathlib.Core.Bool.{Bool, true, false}
-use mathlib.Core.List.{List, [], ◌∷◌, ◌++◌}
-use Prim.Native.Nat.{ℕ, ◌+◌, ◌-◌, ◌*◌, ◌%◌, ◌≤◌, ◌<◌}
+use mathlib.Core.Path.{◌≡◌, sym, ap, ◌∙◌}
+use mathlib.Core.Bool.{true, false}
+use mathlib.Core.List.{List, [], ◌++◌}
+use Prim.Native.Nat.{ℕ, ◌+◌, ◌-◌, ◌*◌, ◌≤◌}
 use native.Mathlib.Omega.{arith}
-use lib.ListN.{length, get_or, take, drop, replicate, length-take, get_or-eq_default}
+use lib.ListN.{length, get_or, take, drop, replicate, length-take, length-drop}
 use lib.Seq.{take_all}
 use borrow.Rule.Slice.PartMut.{put_mid, post_of, Post-is}
 use Rattle.lists.specs.Basics.{tabulate}
@@ -12,16 +12,12 @@ use Rattle.lists.specs.Tabulated.{tabulate_take}
 use Rattle.pagestore_page.specs.declared.Leaf.{Leaf}
 use Rattle.pagestore_page.specs.declared.Entry.{Entry}
 use Rattle.pagestore_page.specs.declared.Inner.{Inner}
-use Rattle.pagestore_bytes.specs.Bytes.{byte_at, le_at, le_bytes, put}
 use Rattle.pagestore_page.specs.Layout.{leaf_of, no_entry, records_in}
 use Rattle.pagestore.specs.Store.{pages_in, in_range, stretch, set_stretch, set_leaf, set_field, size, features, root, fresh, clear_header, set_fields, new_index}
-use Rattle.pagestore.specs.Store.StretchLaws.{stretch_in, stretch_short, stretch_whole, set_in, set_out, clear_long}
+use Rattle.pagestore.specs.Store.RangeLaws.{range_whole}
+use Rattle.pagestore.specs.Store.StretchLaws.{stretch_in, set_in, set_out, clear_long}
 
 -- ---- what the readers return
-
--- past its end a page reads as 0
-pub byte_past : (s t : List ℕ) (i : ℕ) → s ≡ t → length s ≤ i → 0 ≡ byte_at t i
-byte_past s t i e h = rw (sym e, get_or-eq_default s 0 {n = i} h) refl
 
 -- an inner page of which each part was read by itself
 pub inner_whole : (x : Inner) (v n : ℕ) (es : List Entry) → length x.entries ≡ 16 → v ≡ x.level → n ≡ x.count → es ≡ tabulate 16 (λ k. get_or x.entries k no_entry)
@@ -32,20 +28,12 @@ inner_whole x v n es l p q e =
 
 -- ---- a page's own stretch of the index
 
--- a test that held, or failed, of a page number
-pub held : (t u v : Bool) → t ≡ u → t ≡ v → u ≡ v
-held t u v e f = sym e ∙ f
-
 -- the part that is handed over
 pub part_is : (b : List ℕ) (p : ℕ) → in_range b p ≡ true → take (p * 1024 + 1024 - p * 1024) (drop (p * 1024) b) ≡ stretch b p
 part_is b p h = let k : p * 1024 + 1024 - p * 1024 ≡ 1024 = omega arith in rw k (sym (stretch_in b p h))
 
--- what is handed over is a whole page, or nothing
-pub whole_page : (b : List ℕ) (p : ℕ) (s : List ℕ) → s ≡ stretch b p → 1024 ≤ length s → length s ≡ 1024
-whole_page b p s e h = ap length e ∙ stretch_whole b p (rw (sym e) h)
-
-pub no_page : (b : List ℕ) (p : ℕ) (s : List ℕ) → s ≡ stretch b p → length s < 1024 → stretch b p ≡ []
-no_page b p s e h = stretch_short b p (rw (sym e) h)
+pub part_whole : (b : List ℕ) (p : ℕ) → in_range b p ≡ true → length (take (p * 1024 + 1024 - p * 1024) (drop (p * 1024) b)) ≡ 1024
+part_whole b p h = let g : p * 1024 + 1024 ≤ length b = range_whole b p h in simp (length-take, length-drop) (omega arith)
 
 -- and the index when the part is back
 pub part_set : (b : List ℕ) (p : ℕ) (xs ys : List ℕ) → in_range b p ≡ true → ys ≡ xs → put_mid (p * 1024) (p * 1024 + 1024 - p * 1024) b ys ≡ set_stretch b p xs
@@ -53,16 +41,6 @@ part_set b p xs ys h e = rw (e, Post-is (p * 1024) (p * 1024 + 1024) b (omega ar
 
 pub part_none : (b : List ℕ) (p : ℕ) (xs : List ℕ) → in_range b p ≡ false → b ≡ set_stretch b p xs
 part_none b p xs h = sym (set_out b p xs h)
-
--- ---- a number of one byte
-
-pub le_one : (s : List ℕ) (at : ℕ) → le_at 1 s at ≡ byte_at s at
-unfolding le_at
-le_one s at = omega arith
-
-pub put_one : (s : List ℕ) (at v : ℕ) → v < 256 → put s at (le_bytes 1 v) ≡ put s at (v ∷ [])
-unfolding le_bytes
-put_one s at v h = let e : v % 256 ≡ v = omega arith in rw e
 
 -- ---- a new index
 

@@ -11,15 +11,13 @@ fn freed_count(index: &[u8]) -> u32
 {
     let pages = page_count(index);
     let mut page = freed_head(index);
-    let mut n: u32 = 0;
-    while n < pages {
+    for n in 0..pages {
         if !in_range(index, page) {
             return n;
         }
         page = link_at(index, page);
-        n += 1;
     }
-    n
+    pages
 }
 
 // The pages never used.
@@ -28,9 +26,10 @@ pub fn fresh_count(index: &[u8]) -> u32
 {
     let fresh = fresh_page(index);
     if in_range(index, fresh) {
-        return page_count(index) - fresh;
+        page_count(index) - fresh
+    } else {
+        0
     }
-    0
 }
 
 // The pages that can be taken.

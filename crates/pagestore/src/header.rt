@@ -2,7 +2,7 @@
 ghost use Rattle.std.specs.Prelude.{◌≡◌, ◌+◌, ◌≤◌};
 ghost use Rattle.pagestore.specs.Store.{number_at, set_number, field_at, set_field, size, features, root, level, total, freed, fresh};
 
-use pagestore_bytes::{get_u8, get_u32, put_u8, put_u32};
+use pagestore_bytes::Number;
 use pagestore_page::PAGE_SIZE;
 
 // Where the fields stand. The length of the index in pages:
@@ -20,43 +20,24 @@ const FREED: usize = 20;
 // the lowest page never used:
 const FRESH: usize = 24;
 
-fn get_byte(index: &[u8], at: usize) -> u8
-    requires { at + 4 ≤ 1024 }
-    ensures { result ≡ number_at 1 at index.now }
+// The number at an offset of the header.
+fn number_at<T: Number>(index: &[u8], at: usize) -> T
+    requires { at + T.width ≤ 1024 }
+    ensures { T.value result ≡ number_at T.width at index.now }
 {
     if PAGE_SIZE <= index.len() {
-        get_u8(index, at)
+        T::read(index, at)
     } else {
-        0
+        T::zero()
     }
 }
 
-fn get_word(index: &[u8], at: usize) -> u32
-    requires { at + 4 ≤ 1024 }
-    ensures { result ≡ number_at 4 at index.now }
+fn set_number<T: Number>(index: &mut [u8], at: usize, v: T)
+    requires { at + T.width ≤ 1024 }
+    ensures { index.new ≡ set_number T.width at index.old (T.value v) }
 {
     if PAGE_SIZE <= index.len() {
-        get_u32(index, at)
-    } else {
-        0
-    }
-}
-
-fn set_byte(index: &mut [u8], at: usize, v: u8)
-    requires { at + 4 ≤ 1024 }
-    ensures { index.new ≡ set_number 1 at index.old v }
-{
-    if PAGE_SIZE <= index.len() {
-        put_u8(index, at, v);
-    }
-}
-
-fn set_word(index: &mut [u8], at: usize, v: u32)
-    requires { at + 4 ≤ 1024 }
-    ensures { index.new ≡ set_number 4 at index.old v }
-{
-    if PAGE_SIZE <= index.len() {
-        put_u32(index, at, v);
+        v.write(index, at);
     }
 }
 
@@ -64,87 +45,87 @@ fn set_word(index: &mut [u8], at: usize, v: u32)
 pub fn index_size(index: &[u8]) -> u32
     ensures { result ≡ field_at size index.now }
 {
-    get_word(index, SIZE)
+    number_at(index, SIZE)
 }
 
 pub fn set_index_size(index: &mut [u8], v: u32)
     ensures { index.new ≡ set_field size index.old v }
 {
-    set_word(index, SIZE, v);
+    set_number(index, SIZE, v);
 }
 
 // The number of features, d.
 pub fn features_of(index: &[u8]) -> u8
     ensures { result ≡ field_at features index.now }
 {
-    get_byte(index, FEATURES)
+    number_at(index, FEATURES)
 }
 
 pub fn set_features(index: &mut [u8], v: u8)
     ensures { index.new ≡ set_field features index.old v }
 {
-    set_byte(index, FEATURES, v);
+    set_number(index, FEATURES, v);
 }
 
 pub fn root_page(index: &[u8]) -> u32
     ensures { result ≡ field_at root index.now }
 {
-    get_word(index, ROOT)
+    number_at(index, ROOT)
 }
 
 pub fn set_root_page(index: &mut [u8], v: u32)
     ensures { index.new ≡ set_field root index.old v }
 {
-    set_word(index, ROOT, v);
+    set_number(index, ROOT, v);
 }
 
 pub fn root_level(index: &[u8]) -> u8
     ensures { result ≡ field_at level index.now }
 {
-    get_byte(index, LEVEL)
+    number_at(index, LEVEL)
 }
 
 pub fn set_root_level(index: &mut [u8], v: u8)
     ensures { index.new ≡ set_field level index.old v }
 {
-    set_byte(index, LEVEL, v);
+    set_number(index, LEVEL, v);
 }
 
 // The number of records in all leaves.
 pub fn total_records(index: &[u8]) -> u32
     ensures { result ≡ field_at total index.now }
 {
-    get_word(index, TOTAL)
+    number_at(index, TOTAL)
 }
 
 pub fn set_total_records(index: &mut [u8], v: u32)
     ensures { index.new ≡ set_field total index.old v }
 {
-    set_word(index, TOTAL, v);
+    set_number(index, TOTAL, v);
 }
 
 // The page freed last, or 0.
 pub fn freed_head(index: &[u8]) -> u32
     ensures { result ≡ field_at freed index.now }
 {
-    get_word(index, FREED)
+    number_at(index, FREED)
 }
 
 pub fn set_freed_head(index: &mut [u8], v: u32)
     ensures { index.new ≡ set_field freed index.old v }
 {
-    set_word(index, FREED, v);
+    set_number(index, FREED, v);
 }
 
 // The lowest page never used.
 pub fn fresh_page(index: &[u8]) -> u32
     ensures { result ≡ field_at fresh index.now }
 {
-    get_word(index, FRESH)
+    number_at(index, FRESH)
 }
 
 pub fn set_fresh_page(index: &mut [u8], v: u32)
     ensures { index.new ≡ set_field fresh index.old v }
 {
-    set_word(index, FRESH, v);
+    set_number(index, FRESH, v);
 }

@@ -1,10 +1,10 @@
 // Pages read by page number.
-ghost use Rattle.std.specs.Prelude.{◌≡◌, ◌<◌, get_or};
+ghost use Rattle.std.specs.Prelude.{◌≡◌, ℕ, List, [], ◌<◌, length, get_or, MatchOption};
+ghost use Rattle.std.specs.Fn.{FnOnceReturnsAtMut};
 ghost use Rattle.pagestore_bytes.specs.Bytes.{byte_at};
 ghost use Rattle.pagestore_page.specs.Layout.{no_record, no_entry};
-ghost use Rattle.pagestore.specs.Store.{pages_in, in_range, stretch, leaf_at, inner_at, level_at, count_at, link_at};
+ghost use Rattle.pagestore.specs.Store.{pages_in, in_range, stretch, set_stretch, leaf_at, inner_at, level_at, count_at, link_at};
 
-use pagestore_bytes::get_u8;
 use pagestore_page::{
     Entry, Inner, Leaf, MAX_ITEMS, MAX_PAGES, PAGE_SIZE, Record, empty_leaf, no_entry, no_record,
     read_entry, read_ident, read_leaf, read_link, read_record,
@@ -14,43 +14,55 @@ use pagestore_page::{
 pub fn page_count(index: &[u8]) -> u32
     ensures { result ≡ pages_in index.now }
 {
-    let n = index.len() / PAGE_SIZE;
-    if n < MAX_PAGES as usize {
-        n as u32
-    } else {
-        MAX_PAGES
-    }
+    (index.len() / PAGE_SIZE).min(MAX_PAGES as usize) as u32
 }
 
 // Is this a page of the index other than the header?
 pub fn in_range(index: &[u8], page: u32) -> bool
     ensures { result ≡ in_range index.now page }
 {
-    let n = page_count(index);
-    0 < page && page < n
+    (1..page_count(index)).contains(&page)
 }
 
-// The bytes of a page, its own stretch of the index; none out of range.
-pub fn stretch(index: &[u8], page: u32) -> &[u8]
-    ensures { result.now ≡ stretch index.now page }
+// The bytes of a page, its own stretch of the index, if it is one.
+fn page_bytes(index: &[u8], page: u32) -> Option<&[u8]>
+    ensures { MatchOption result (stretch index.now page ≡ []) (λ s. (s.now ≡ stretch index.now page) × (length s.now ≡ 1024)) }
 {
     if in_range(index, page) {
         let at = page as usize * PAGE_SIZE;
-        let end = at + PAGE_SIZE;
-        return &index[at..end];
+        Some(&index[at..at + PAGE_SIZE])
+    } else {
+        None
     }
-    &index[0..0]
+}
+
+// Has a page's own stretch of the index written; out of range it does nothing.
+pub fn write_page<F: FnOnce(&mut [u8])>(index: &mut [u8], page: u32, write: F)
+    requires { (x : _) → length x.now ≡ 1024 → F.pre write x }
+    ensures { (xs : List ℕ) → ((s t : List ℕ) → length s ≡ 1024 → FnOnceReturnsAtMut F.FnOnce write s tt t → t ≡ xs) → index.new ≡ set_stretch index.old page xs }
+{
+    if in_range(index, page) {
+        let at = page as usize * PAGE_SIZE;
+        write(&mut index[at..at + PAGE_SIZE]);
+    }
+}
+
+// The bytes of a page; none out of range.
+pub fn stretch(index: &[u8], page: u32) -> &[u8]
+    ensures { result.now ≡ stretch index.now page }
+{
+    page_bytes(index, page).unwrap_or(&index[0..0])
 }
 
 // A byte of a page; 0 out of range.
 fn byte_of(index: &[u8], page: u32, i: usize) -> u8
+    requires { i < 1024 }
     ensures { result ≡ byte_at (stretch index.now page) i }
 {
-    let bytes = stretch(index, page);
-    if i < bytes.len() {
-        return get_u8(bytes, i);
+    match page_bytes(index, page) {
+        Some(bytes) => bytes[i],
+        None => 0,
     }
-    0
 }
 
 // The level byte of a page; 0 out of range.
@@ -71,40 +83,34 @@ pub fn count_at(index: &[u8], page: u32) -> u8
 pub fn link_at(index: &[u8], page: u32) -> u32
     ensures { result ≡ link_at index.now page }
 {
-    let bytes = stretch(index, page);
-    if bytes.len() < PAGE_SIZE {
-        return 0;
+    match page_bytes(index, page) {
+        Some(bytes) => read_link(bytes),
+        None => 0,
     }
-    read_link(bytes)
 }
 
 // The leaf at a page; out of range an empty one.
 pub fn leaf_at(index: &[u8], page: u32) -> Leaf
     ensures { result ≡ leaf_at index.now page }
 {
-    let bytes = stretch(index, page);
-    if bytes.len() < PAGE_SIZE {
-        return empty_leaf();
+    match page_bytes(index, page) {
+        Some(bytes) => read_leaf(bytes),
+        None => empty_leaf(),
     }
-    read_leaf(bytes)
 }
 
 // The inner page at a page number; out of range an empty one.
 pub fn inner_at(index: &[u8], page: u32) -> Inner
     ensures { result ≡ inner_at index.now page }
 {
-    let level = level_at(index, page);
-    let count = count_at(index, page) as usize;
     let mut entries = [no_entry(); MAX_ITEMS];
-    let mut i = 0;
-    while i < MAX_ITEMS {
+    for i in 0..MAX_ITEMS {
         entries[i] = entry_at(index, page, i);
-        i += 1;
     }
     Inner {
-        level: level,
-        count: count,
-        entries: entries,
+        level: level_at(index, page),
+        count: count_at(index, page) as usize,
+        entries,
     }
 }
 
@@ -113,11 +119,10 @@ pub fn record_at(index: &[u8], page: u32, i: usize) -> Record
     requires { i < 16 }
     ensures { result ≡ get_or (leaf_at index.now page).records i no_record }
 {
-    let bytes = stretch(index, page);
-    if bytes.len() < PAGE_SIZE {
-        return no_record();
+    match page_bytes(index, page) {
+        Some(bytes) => read_record(bytes, i),
+        None => no_record(),
     }
-    read_record(bytes, i)
 }
 
 // The identifier of that record; out of range 0.
@@ -125,11 +130,10 @@ pub fn ident_at(index: &[u8], page: u32, i: usize) -> u32
     requires { i < 16 }
     ensures { result ≡ (get_or (leaf_at index.now page).records i no_record).id }
 {
-    let bytes = stretch(index, page);
-    if bytes.len() < PAGE_SIZE {
-        return 0;
+    match page_bytes(index, page) {
+        Some(bytes) => read_ident(bytes, i),
+        None => 0,
     }
-    read_ident(bytes, i)
 }
 
 // One entry of the inner page at a page number; out of range an empty one.
@@ -137,9 +141,8 @@ pub fn entry_at(index: &[u8], page: u32, i: usize) -> Entry
     requires { i < 16 }
     ensures { result ≡ get_or (inner_at index.now page).entries i no_entry }
 {
-    let bytes = stretch(index, page);
-    if bytes.len() < PAGE_SIZE {
-        return no_entry();
+    match page_bytes(index, page) {
+        Some(bytes) => read_entry(bytes, i),
+        None => no_entry(),
     }
-    read_entry(bytes, i)
 }

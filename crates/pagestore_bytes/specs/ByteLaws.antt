@@ -1,5 +1,5 @@
 -- Laws of numbers in bytes, over the width, and of bytes stored in a list. Assumes nothing.
-use Rattle.std.specs.Prelude.{◌≡◌, refl, ◌≢◌, List, [], ◌∷◌, ◌++◌, ℕ, zero, suc, ◌+◌, ◌-◌, ◌*◌, ◌/◌, ◌%◌, ◌^◌, ◌≤◌, ◌<◌, length, get_or, set, take, drop, replicate}
+use Rattle.std.specs.Prelude.{◌≡◌, refl, ◌≢◌, List, [], ◌∷◌, ◌++◌, ℕ, zero, suc, ◌+◌, ◌*◌, ◌/◌, ◌%◌, ◌^◌, ◌≤◌, ◌<◌, length, get_or, set, take, drop, replicate}
 use Rattle.std.proofs.Common.{sym, ap, ◌∙◌, append_assoc, append-nil, add-one, pow-suc, arith, drop_of_length-le, get_or-set_other, drop-set-lt, get_or-drop, drop_at, drop-drop, take_at, length-take-le}
 use Rattle.std.proofs.lemmas.List.Edits.{sets, sets-eq}
 use Rattle.std.proofs.Math.Seq.{length-sets}
@@ -52,6 +52,11 @@ byte_at_law v s at t h e =
     let z : at + 0 ≡ at = omega arith in
     let g : get_or s at 0 ≡ v = ap (λ (i : ℕ). get_or s i 0) (sym z) ∙ sym (get_or-drop at s 0 0) ∙ rw e in
     rw g (omega arith)
+
+-- a number of one byte
+pub le_one : (s : List ℕ) (at : ℕ) → le_at 1 s at ≡ byte_at s at
+unfolding le_at
+le_one s at = omega arith
 
 -- what follows n bytes
 pub next_at : (s : List ℕ) (at : ℕ) (xs t : List ℕ) (n : ℕ) → length xs ≡ n → drop at s ≡ xs ++ t → drop (at + n) s ≡ t

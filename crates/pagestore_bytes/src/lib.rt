@@ -1,85 +1,93 @@
 // Numbers in bytes, little-endian.
 #![tactic(auto)]
 
-ghost use Rattle.std.specs.Prelude.{◌≡◌, [], ◌∷◌, ◌+◌, ◌<◌, ◌≤◌, length, replicate};
-ghost use Rattle.pagestore_bytes.specs.Bytes.{byte_at, le_at, le_bytes, put};
+ghost use Rattle.std.specs.Prelude.{◌≡◌, ℕ, ◌+◌, ◌≤◌, length, replicate};
+ghost use Rattle.pagestore_bytes.specs.Bytes.{le_at, le_bytes, put};
 
-fn wide(x: u8) -> u32
-    ensures { (result ≡ x) × (result < 256) }
-{
-    x as u32
+// A number that is stored in bytes.
+pub trait Number: Copy {
+    // How many bytes it takes, and which number it is.
+    ghost width: { ℕ };
+
+    ghost value: { Self → ℕ };
+
+    fn zero() -> Self
+        ensures { value result ≡ 0 };
+
+    // The number whose bytes begin at an index.
+    fn read(s: &[u8], at: usize) -> Self
+        requires { at + width ≤ length s.now }
+        ensures { value result ≡ le_at width s.now at };
+
+    // Stores its bytes from an index on.
+    fn write(self, s: &mut [u8], at: usize)
+        requires { at + width ≤ length s.old }
+        ensures { s.new ≡ put s.old at (le_bytes width (value self)) };
 }
 
-pub fn get_u8(s: &[u8], at: usize) -> u8
-    requires { at < length s.now }
-    ensures { result ≡ byte_at s.now at }
-{
-    s[at]
+impl Number for u8 {
+    ghost width = { 1 };
+
+    ghost value = { λ x. x };
+
+    fn zero() -> u8 {
+        0
+    }
+
+    #[tactic(auto, unfolding(crate::specs::Bytes::le_at))]
+    fn read(s: &[u8], at: usize) -> u8 {
+        s[at]
+    }
+
+    #[tactic(auto, unfolding(crate::specs::Bytes::put, crate::specs::Bytes::le_bytes))]
+    fn write(self, s: &mut [u8], at: usize) {
+        s[at] = self;
+    }
 }
 
-pub fn get_u16(s: &[u8], at: usize) -> u16
-    requires { at + 2 ≤ length s.now }
-    ensures { result ≡ le_at 2 s.now at }
-{
-    let a = wide(get_u8(s, at));
-    let b = wide(get_u8(s, at + 1));
-    (a + 256 * b) as u16
+impl Number for u16 {
+    ghost width = { 2 };
+
+    ghost value = { λ x. x };
+
+    fn zero() -> u16 {
+        0
+    }
+
+    #[tactic(auto, unfolding(crate::specs::Bytes::le_at))]
+    fn read(s: &[u8], at: usize) -> u16 {
+        u16::from_le_bytes([s[at], s[at + 1]])
+    }
+
+    #[tactic(auto, unfolding(crate::specs::Bytes::put, crate::specs::Bytes::le_bytes))]
+    fn write(self, s: &mut [u8], at: usize) {
+        s[at..at + 2].copy_from_slice(&self.to_le_bytes());
+    }
 }
 
-pub fn get_u32(s: &[u8], at: usize) -> u32
-    requires { at + 4 ≤ length s.now }
-    ensures { result ≡ le_at 4 s.now at }
-{
-    let a = wide(get_u8(s, at));
-    let i = at + 1;
-    let b = wide(get_u8(s, i));
-    let j = i + 1;
-    let c = wide(get_u8(s, j));
-    let k = j + 1;
-    let d = wide(get_u8(s, k));
-    a + 256 * (b + 256 * (c + 256 * d))
-}
+impl Number for u32 {
+    ghost width = { 4 };
 
-pub fn put_u8(s: &mut [u8], at: usize, v: u8)
-    requires { at < length s.old }
-    ensures { s.new ≡ put s.old at (v ∷ []) }
-{
-    s[at] = v;
-}
+    ghost value = { λ x. x };
 
-pub fn put_u16(s: &mut [u8], at: usize, v: u16)
-    requires { at + 2 ≤ length s.old }
-    ensures { s.new ≡ put s.old at (le_bytes 2 v) }
-{
-    s[at] = (v % 256) as u8;
-    let w = v / 256;
-    let i = at + 1;
-    s[i] = (w % 256) as u8;
-}
+    fn zero() -> u32 {
+        0
+    }
 
-pub fn put_u32(s: &mut [u8], at: usize, v: u32)
-    requires { at + 4 ≤ length s.old }
-    ensures { s.new ≡ put s.old at (le_bytes 4 v) }
-{
-    s[at] = (v % 256) as u8;
-    let i = at + 1;
-    let w = v / 256;
-    s[i] = (w % 256) as u8;
-    let j = i + 1;
-    let x = w / 256;
-    s[j] = (x % 256) as u8;
-    let k = j + 1;
-    let y = x / 256;
-    s[k] = (y % 256) as u8;
+    #[tactic(auto, unfolding(crate::specs::Bytes::le_at))]
+    fn read(s: &[u8], at: usize) -> u32 {
+        u32::from_le_bytes([s[at], s[at + 1], s[at + 2], s[at + 3]])
+    }
+
+    #[tactic(auto, unfolding(crate::specs::Bytes::put, crate::specs::Bytes::le_bytes))]
+    fn write(self, s: &mut [u8], at: usize) {
+        s[at..at + 4].copy_from_slice(&self.to_le_bytes());
+    }
 }
 
 // Every byte becomes 0.
 pub fn clear(s: &mut [u8])
     ensures { s.new ≡ replicate (length s.old) 0 }
 {
-    let mut i = 0;
-    while i < s.len() {
-        s[i] = 0;
-        i += 1;
-    }
+    s.fill(0);
 }

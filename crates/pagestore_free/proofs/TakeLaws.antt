@@ -1,8 +1,5 @@
 -- A page taken, and a page freed, step by step. Assumes nothing.
-use mathlib.Core.Path.{◌≡◌, ap, ◌∙◌}
-use mathlib.Core.Bool.{true, false}
-use mathlib.Core.List.{List}
-use Prim.Native.Nat.{ℕ, ◌+◌}
+use Rattle.std.proofs.Common.{◌≡◌, ap, ◌∙◌, true, false, List, ℕ, ◌+◌}
 use Rattle.pagestore.specs.Store.{in_range, link_at, set_link, field_at, set_field, freed, fresh, page_taken, take_page, free_page}
 
 module _ (b : List ℕ) where

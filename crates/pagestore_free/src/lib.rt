@@ -9,6 +9,7 @@ use pagestore::{
 };
 
 // Takes a page: the one freed last, else the lowest never used; 0 if there is none.
+// Kept: 0, and no Option. `page_taken` is a number, and a caller writes at the page whatever it is: `take_page(index).unwrap_or(0)` each time.
 pub fn take_page(index: &mut [u8]) -> u32
     ensures { (result ≡ page_taken index.old) × (index.new ≡ take_page index.old) }
 {

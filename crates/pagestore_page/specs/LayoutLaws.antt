@@ -9,7 +9,7 @@ use Rattle.geometry.specs.declared.Key.{Key}
 use Rattle.pagestore_page.specs.declared.Record.{Record}
 use Rattle.pagestore_page.specs.declared.Entry.{Entry}
 use Rattle.pagestore_bytes.specs.Bytes.{byte_at, le_at, le_bytes, put}
-use Rattle.pagestore_bytes.specs.ByteLaws.{le_fits, length_le, le_at_law, byte_at_law, next_at, length_put, put_other, le_put, le_other}
+use Rattle.pagestore_bytes.specs.ByteLaws.{le_one, le_fits, length_le, le_at_law, byte_at_law, next_at, length_put, put_other, le_put, le_other}
 use Rattle.pagestore_page.specs.Layout.{no_record, no_entry, key_at, key_bytes, entry_at, entry_bytes, stages_from, columns, coord_room, coord_at, ident_at, stage_at, stamp_at, record_at, leaf_of, put_coords, put_label, put_record, put_records, blank_leaf, inner_of, link_of, leaf_bytes, entries_bytes, inner_bytes, freed_bytes}
 use Rattle.pagestore_page.specs.Fits.{RecordFits, KeyFits, EntryFits}
 
@@ -118,10 +118,6 @@ coord_back (suc n) s i m cs e g h k =
     (eq-or-lt_of_le (le_of_suc-le-suc k))
 
 -- a byte by itself
-byte_le : (s : List ℕ) (at : ℕ) → byte_at s at ≡ le_at 1 s at
-unfolding le_at
-byte_le s at = omega arith
-
 byte_put : (v : ℕ) (l : List ℕ) (at : ℕ) → v < 256 → at + 1 ≤ length l → le_at 1 (put l at (v ∷ [])) at ≡ v
 unfolding le_bytes
 byte_put v l at h g =
@@ -165,7 +161,7 @@ record_back s i r e h v =
     let f : length t ≡ 1024 = length_label s i r ∙ e in
     let b = label_back s i r e h v in
     let n : le_at 4 u (ident_at i) ≡ r.id = coords_other 16 t i r.coords 4 (ident_at i) (λ k a b c. omega arith) ∙ b.0 in
-    let g : byte_at u (stage_at i) ≡ r.stage = byte_le u (stage_at i) ∙ coords_other 16 t i r.coords 1 (stage_at i) (λ k a b c. omega arith) ∙ b.1 in
+    let g : byte_at u (stage_at i) ≡ r.stage = sym (le_one u (stage_at i)) ∙ coords_other 16 t i r.coords 1 (stage_at i) (λ k a b c. omega arith) ∙ b.1 in
     let m : le_at 4 u (stamp_at i) ≡ r.stamp = coords_other 16 t i r.coords 4 (stamp_at i) (λ k a b c. omega arith) ∙ b.2 in
     let one : (m : ℕ) → m < 16 → le_at 2 u (coord_at m i) % coord_room ≡ get_or r.coords m 0 =
     λ m k. let c : get_or r.coords m 0 < 2 ^ 11 = all_at v.coords m 0 (rw v.slots k) in omega (arith, coord_back 16 t i m r.coords f h (omega arith) k) in
@@ -183,8 +179,8 @@ record_other s i r j h l =
     coords_other 16 t i r.coords 4 (ident_at j) (λ k a b c. omega arith)
     ∙ label_other s i r 4 (ident_at j) (λ a b. omega arith) (λ a b. omega arith) (λ a b. omega arith) in
     let g : byte_at u (stage_at j) ≡ byte_at s (stage_at j) =
-    byte_le u (stage_at j) ∙ coords_other 16 t i r.coords 1 (stage_at j) (λ k a b c. omega arith)
-    ∙ label_other s i r 1 (stage_at j) (λ a b. omega arith) (λ a b. omega arith) (λ a b. omega arith) ∙ sym (byte_le s (stage_at j)) in
+    sym (le_one u (stage_at j)) ∙ coords_other 16 t i r.coords 1 (stage_at j) (λ k a b c. omega arith)
+    ∙ label_other s i r 1 (stage_at j) (λ a b. omega arith) (λ a b. omega arith) (λ a b. omega arith) ∙ le_one s (stage_at j) in
     let q : le_at 4 u (stamp_at j) ≡ le_at 4 s (stamp_at j) =
     coords_other 16 t i r.coords 4 (stamp_at j) (λ k a b c. omega arith)
     ∙ label_other s i r 4 (stamp_at j) (λ a b. omega arith) (λ a b. omega arith) (λ a b. omega arith) in

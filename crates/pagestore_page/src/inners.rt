@@ -42,10 +42,8 @@ pub fn write_inner(page: &mut [u8], inner: Inner)
 {
     let n = filled(inner.count);
     put_head(page, inner.level, n);
-    let mut i = 0;
-    while i < n {
+    for i in 0..n {
         put_entry(page, ENTRIES + ENTRY * i, inner.entries[i]);
-        i += 1;
     }
     let at = ENTRIES + ENTRY * n;
     clear(&mut page[at..]);

@@ -5,16 +5,16 @@ ghost use Rattle.pagestore_page.specs.Layout.{key_at, key_bytes, entry_at, entry
 
 use crate::{Entry, MAX_ITEMS};
 use geometry::{Height, Key, Pyramid};
-use pagestore_bytes::{get_u8, get_u16, get_u32, put_u8, put_u16, put_u32};
+use pagestore_bytes::Number;
 
 pub fn get_key(s: &[u8], at: usize) -> Key
     requires { at + 8 ≤ length s.now }
     ensures { result ≡ key_at s.now at }
 {
     Key {
-        pyramid: Pyramid(get_u8(s, at + 6)),
-        height: Height(get_u16(s, at + 4)),
-        id: get_u32(s, at),
+        pyramid: Pyramid(s[at + 6]),
+        height: Height(u16::read(s, at + 4)),
+        id: u32::read(s, at),
     }
 }
 
@@ -22,23 +22,20 @@ pub fn put_key(s: &mut [u8], at: usize, k: Key)
     requires { at + 8 ≤ length s.old }
     ensures { s.new ≡ put s.old at (key_bytes k) }
 {
-    put_u32(s, at, k.id);
-    put_u16(s, at + 4, k.height.0);
-    put_u8(s, at + 6, k.pyramid.0);
-    put_u8(s, at + 7, 0);
+    k.id.write(s, at);
+    k.height.0.write(s, at + 4);
+    s[at + 6] = k.pyramid.0;
+    s[at + 7] = 0;
 }
 
 pub fn get_entry(s: &[u8], at: usize) -> Entry
     requires { at + 20 ≤ length s.now }
     ensures { result ≡ entry_at s.now at }
 {
-    let child = get_u32(s, at);
-    let first = get_key(s, at + 4);
-    let last = get_key(s, at + 12);
     Entry {
-        child: child,
-        first: first,
-        last: last,
+        child: u32::read(s, at),
+        first: get_key(s, at + 4),
+        last: get_key(s, at + 12),
     }
 }
 
@@ -46,7 +43,7 @@ pub fn put_entry(s: &mut [u8], at: usize, e: Entry)
     requires { at + 20 ≤ length s.old }
     ensures { s.new ≡ put s.old at (entry_bytes e) }
 {
-    put_u32(s, at, e.child);
+    e.child.write(s, at);
     put_key(s, at + 4, e.first);
     put_key(s, at + 12, e.last);
 }
@@ -55,14 +52,15 @@ pub fn put_entry(s: &mut [u8], at: usize, e: Entry)
 pub fn filled(count: usize) -> usize
     ensures { result ≡ min 16 count }
 {
-    if count < MAX_ITEMS { count } else { MAX_ITEMS }
+    count.min(MAX_ITEMS)
 }
 
 pub fn put_head(page: &mut [u8], level: u8, count: usize)
     requires { (4 ≤ length page.old) × (count ≤ 16) }
     ensures { page.new ≡ put page.old 0 (level ∷ count ∷ 0 ∷ 0 ∷ []) }
 {
-    put_u8(page, 0, level);
-    put_u8(page, 1, count as u8);
-    put_u16(page, 2, 0);
+    page[0] = level;
+    page[1] = count as u8;
+    page[2] = 0;
+    page[3] = 0;
 }

@@ -6,7 +6,7 @@ ghost use Rattle.pagestore_page.specs.Layout.{coord_room, coord_at, record_at, l
 use crate::items::{filled, put_head};
 use crate::{Leaf, MAX_ITEMS, Record};
 use geometry::MAX_FEATURES;
-use pagestore_bytes::{clear, get_u8, get_u16, get_u32, put_u8, put_u16, put_u32};
+use pagestore_bytes::{Number, clear};
 
 // Where the stages begin, a byte each.
 const STAGES: usize = 16;
@@ -35,10 +35,9 @@ pub fn no_record() -> Record
 pub fn empty_leaf() -> Leaf
     ensures { result ≡ leaf_of [] }
 {
-    let records = [no_record(); MAX_ITEMS];
     Leaf {
         count: 0,
-        records: records,
+        records: [no_record(); MAX_ITEMS],
     }
 }
 
@@ -47,7 +46,7 @@ pub fn read_count(page: &[u8]) -> usize
     requires { length page.now ≡ 1024 }
     ensures { result ≡ (leaf_of page.now).count }
 {
-    get_u8(page, 1) as usize
+    page[1] as usize
 }
 
 // The two bytes of a coordinate, apart from the mask: so compiled they are one load, and a loop over records has lanes.
@@ -55,7 +54,7 @@ fn coord_bytes(page: &[u8], m: usize, i: usize) -> u16
     requires { (length page.now ≡ 1024) × (m < 16) × (i < 16) }
     ensures { result ≡ le_at 2 page.now (coord_at m i) }
 {
-    get_u16(page, COLUMNS + WIDTH * m + 2 * i)
+    u16::read(page, COLUMNS + WIDTH * m + 2 * i)
 }
 
 // One coordinate of a record, as stored.
@@ -71,7 +70,7 @@ pub fn read_ident(page: &[u8], i: usize) -> u32
     requires { (length page.now ≡ 1024) × (i < 16) }
     ensures { result ≡ (get_or (leaf_of page.now).records i no_record).id }
 {
-    get_u32(page, IDENTS + 4 * i)
+    u32::read(page, IDENTS + 4 * i)
 }
 
 // The stage of a record, as stored.
@@ -79,7 +78,7 @@ pub fn read_stage(page: &[u8], i: usize) -> u8
     requires { (length page.now ≡ 1024) × (i < 16) }
     ensures { result ≡ (get_or (leaf_of page.now).records i no_record).stage }
 {
-    get_u8(page, STAGES + i)
+    u8::read(page, STAGES + i)
 }
 
 // The stamp of a record.
@@ -87,7 +86,7 @@ pub fn read_stamp(page: &[u8], i: usize) -> u32
     requires { (length page.now ≡ 1024) × (i < 16) }
     ensures { result ≡ (get_or (leaf_of page.now).records i no_record).stamp }
 {
-    get_u32(page, STAMPS + 4 * i)
+    u32::read(page, STAMPS + 4 * i)
 }
 
 // How many slots of a leaf are looked at together for so many records: as many as fill whole lanes, so that a loop over them has no rest.
@@ -107,20 +106,15 @@ pub fn read_record(page: &[u8], i: usize) -> Record
     requires { (length page.now ≡ 1024) × (i < 16) }
     ensures { result ≡ get_or (leaf_of page.now).records i no_record }
 {
-    let id = read_ident(page, i);
-    let stage = read_stage(page, i);
-    let stamp = read_stamp(page, i);
     let mut coords = [0u16; MAX_FEATURES];
-    let mut m = 0;
-    while m < MAX_FEATURES {
+    for m in 0..MAX_FEATURES {
         coords[m] = read_coord(page, m, i);
-        m += 1;
     }
     Record {
-        id: id,
-        stage: stage,
-        stamp: stamp,
-        coords: coords,
+        id: read_ident(page, i),
+        stage: read_stage(page, i),
+        stamp: read_stamp(page, i),
+        coords,
     }
 }
 
@@ -129,16 +123,13 @@ pub fn read_leaf(page: &[u8]) -> Leaf
     requires { length page.now ≡ 1024 }
     ensures { result ≡ leaf_of page.now }
 {
-    let count = read_count(page);
     let mut records = [no_record(); MAX_ITEMS];
-    let mut i = 0;
-    while i < MAX_ITEMS {
+    for i in 0..MAX_ITEMS {
         records[i] = read_record(page, i);
-        i += 1;
     }
     Leaf {
-        count: count,
-        records: records,
+        count: read_count(page),
+        records,
     }
 }
 
@@ -146,10 +137,8 @@ fn put_coords(page: &mut [u8], i: usize, coords: [u16; MAX_FEATURES])
     requires { (length page.old ≡ 1024) × (i < 16) }
     ensures { page.new ≡ put_coords 16 page.old i coords }
 {
-    let mut m = 0;
-    while m < MAX_FEATURES {
-        put_u16(page, COLUMNS + WIDTH * m + 2 * i, coords[m] % ROOM);
-        m += 1;
+    for (m, coord) in coords.iter().enumerate() {
+        (*coord % ROOM).write(page, COLUMNS + WIDTH * m + 2 * i);
     }
 }
 
@@ -158,9 +147,9 @@ fn put_label(page: &mut [u8], i: usize, r: Record)
     requires { (length page.old ≡ 1024) × (i < 16) }
     ensures { page.new ≡ put_label page.old i r }
 {
-    put_u32(page, IDENTS + 4 * i, r.id);
-    put_u8(page, STAGES + i, r.stage);
-    put_u32(page, STAMPS + 4 * i, r.stamp);
+    r.id.write(page, IDENTS + 4 * i);
+    page[STAGES + i] = r.stage;
+    r.stamp.write(page, STAMPS + 4 * i);
 }
 
 fn put_record(page: &mut [u8], i: usize, r: Record)
@@ -168,8 +157,7 @@ fn put_record(page: &mut [u8], i: usize, r: Record)
     ensures { page.new ≡ put_record page.old i r }
 {
     put_label(page, i, r);
-    let coords = r.coords;
-    put_coords(page, i, coords);
+    put_coords(page, i, r.coords);
 }
 
 // Writes a leaf into its page's own stretch, all 1,024 bytes.
@@ -180,9 +168,7 @@ pub fn write_leaf(page: &mut [u8], leaf: Leaf)
     let n = filled(leaf.count);
     clear(page);
     put_head(page, 0, n);
-    let mut i = 0;
-    while i < n {
+    for i in 0..n {
         put_record(page, i, leaf.records[i]);
-        i += 1;
     }
 }

@@ -2,7 +2,7 @@
 ghost use Rattle.std.specs.Prelude.{◌≡◌, length};
 ghost use Rattle.pagestore_page.specs.Layout.{link_of, freed_bytes};
 
-use pagestore_bytes::{clear, get_u32, put_u32};
+use pagestore_bytes::{Number, clear};
 
 // Where the link stands.
 const LINK: usize = 4;
@@ -11,14 +11,14 @@ pub fn read_link(page: &[u8]) -> u32
     requires { length page.now ≡ 1024 }
     ensures { result ≡ link_of page.now }
 {
-    get_u32(page, LINK)
+    u32::read(page, LINK)
 }
 
 pub fn write_freed(page: &mut [u8], next: u32)
     requires { length page.old ≡ 1024 }
     ensures { page.new ≡ freed_bytes next }
 {
-    put_u32(page, 0, 0);
-    put_u32(page, LINK, next);
+    0u32.write(page, 0);
+    next.write(page, LINK);
     clear(&mut page[8..]);
 }

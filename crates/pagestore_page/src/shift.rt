@@ -11,12 +11,8 @@ pub fn insert_record(leaf: Leaf, at: usize, r: Record) -> Leaf
 {
     let n = leaf.count;
     let mut rs = leaf.records;
-    let mut i = n;
-    while at < i {
-        let j = i - 1;
-        let x = rs[j];
-        rs[i] = x;
-        i = j;
+    for i in (at..n).rev() {
+        rs[i + 1] = rs[i];
     }
     rs[at] = r;
     Leaf {

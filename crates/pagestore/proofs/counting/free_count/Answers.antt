@@ -1,4 +1,4 @@
-use native.Mathlib.Omega.{arith}
+use Rattle.std.proofs.Common.{arith}
 use Rattle.pagestore.specs.Store.CountLaws.{free_both, freed_most, fresh_most}
 use Rattle.pagestore.proofs.counting.free_count.Goals as goal
 

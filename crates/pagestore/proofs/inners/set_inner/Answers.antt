@@ -1,18 +1,6 @@
-use mathlib.Core.Path.{sym, ◌∙◌}
-use native.Mathlib.Omega.{arith}
+use Rattle.std.proofs.Common.{sym, ◌∙◌, rules}
 use Rattle.pagestore.specs.Store.StretchLaws.{set_inner_opens}
-use Rattle.pagestore.specs.Store.RangeLaws.{range_whole}
-use Rattle.pagestore.proofs.CodeLaws.{held, part_set, part_none}
 use Rattle.pagestore.proofs.inners.set_inner.Goals as goal
 
-pub slice_bounds-write_inner-end : goal.slice_bounds-write_inner-end
-slice_bounds-write_inner-end c = omega (arith, range_whole _ _ (held _ _ _ c.in_range.ensures c.if-in_range.true))
-
-pub returns-then-in_range : goal.returns-then-in_range
-returns-then-in_range c =
-    part_set _ c.args.page _ _
-    (held _ _ _ c.in_range.ensures c.if-in_range.true)
-    c.write_inner.ensures ∙ sym (set_inner_opens _ _ _ _)
-
-pub returns-else-in_range : goal.returns-else-in_range
-returns-else-in_range c = part_none _ _ _ (held _ _ _ c.in_range.ensures c.if-in_range.false) ∙ sym (set_inner_opens _ _ _ _)
+pub returns : goal.returns
+returns c = c.write_page.ensures _ (λ s t h w. search rules) ∙ sym (set_inner_opens _ _ _ _)

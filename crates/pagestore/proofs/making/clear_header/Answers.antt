@@ -1,4 +1,4 @@
-use mathlib.Core.Path.{sym}
+use Rattle.std.proofs.Common.{sym}
 use Rattle.pagestore.specs.Store.StretchLaws.{clear_short}
 use Rattle.pagestore.proofs.CodeLaws.{clear_step}
 use Rattle.pagestore.proofs.making.clear_header.Goals as goal

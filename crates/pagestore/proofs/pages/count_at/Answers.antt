@@ -1,4 +1,4 @@
-use mathlib.Core.Path.{sym, ◌∙◌}
+use Rattle.std.proofs.Common.{sym, ◌∙◌}
 use Rattle.pagestore.specs.Store.StretchLaws.{count_opens}
 use Rattle.pagestore.proofs.pages.count_at.Goals as goal
 

@@ -1,6 +1,6 @@
-use mathlib.Core.Path.{refl}
-use Rattle.pagestore_page.specs.Layout.{entry_at, key_at}
+use Rattle.std.proofs.Common.{refl}
 use Rattle.pagestore_bytes.specs.Bytes.{le_at}
+use Rattle.pagestore_page.specs.Layout.{entry_at, key_at}
 use Rattle.pagestore_page.proofs.inners.no_entry.Goals as goal
 
 pub returns : goal.returns

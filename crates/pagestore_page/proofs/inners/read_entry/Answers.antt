@@ -1,6 +1,5 @@
-use mathlib.Core.Path.{◌∙◌}
+use Rattle.std.proofs.Common.{◌∙◌, rules}
 use Rattle.pagestore_page.proofs.ReadLaws.{entry_read}
-use borrow.Author.Rules.{rules}
 use Rattle.pagestore_page.proofs.inners.read_entry.Goals as goal
 
 pub returns : goal.returns

@@ -1,5 +1,5 @@
+use Rattle.std.proofs.Common.{rules}
 use Rattle.pagestore_page.proofs.ReadLaws.{entry_is}
-use borrow.Author.Rules.{rules}
 use Rattle.pagestore_page.proofs.items.get_entry.Goals as goal
 
 pub returns : goal.returns

@@ -1,7 +1,7 @@
-use Rattle.pagestore_page.proofs.WriteLaws.{head_put}
+use Rattle.std.proofs.Common.{refl}
+use Rattle.pagestore_bytes.specs.Bytes.{put}
 use Rattle.pagestore_page.proofs.items.put_head.Goals as goal
 
 pub returns : goal.returns
-returns c =
-    head_put _ _ _ _ _ _ c.put_u8.ensures
-    c.put_u8-2.ensures c.put_u16.ensures
+unfolding put
+returns c = refl

@@ -3,4 +3,4 @@ use Rattle.pagestore_page.proofs.links.read_link.Goals as goal
 
 pub returns : goal.returns
 unfolding link_of
-returns c = c.get_u32.ensures
+returns c = c.read.ensures

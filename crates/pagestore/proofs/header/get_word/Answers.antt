@@ -1,9 +1,0 @@
-use mathlib.Core.Path.{sym, ◌∙◌}
-use Rattle.pagestore.specs.Store.StretchLaws.{number_long, number_short}
-use Rattle.pagestore.proofs.header.get_word.Goals as goal
-
-pub returns-then-index-ge-PAGE_SIZE : goal.returns-then-index-ge-PAGE_SIZE
-returns-then-index-ge-PAGE_SIZE c = c.get_u32.ensures ∙ sym (number_long 4 _ _ c.if-index-ge-PAGE_SIZE.true)
-
-pub returns-else-index-ge-PAGE_SIZE : goal.returns-else-index-ge-PAGE_SIZE
-returns-else-index-ge-PAGE_SIZE c = sym (number_short 4 _ _ c.if-index-ge-PAGE_SIZE.false)
