@@ -1,15 +1,15 @@
 -- The tables of a question by place: its features, the rows of its axes, and its slices as sums over them.
 use mathlib.Core.Path.{◌≡◌, refl, sym, ap, ap₂, ◌∙◌}
 use mathlib.Core.Bool.{Bool, true, false}
-use mathlib.Core.List.{List}
+use mathlib.Core.List.{List, ◌++◌}
 use mathlib.Core.Logic.{◌≢◌}
 use Prim.Native.Nat.{ℕ, suc, ◌+◌, ◌*◌, ◌-◌, ◌≤◌, ◌<◌}
 use native.Mathlib.Omega.{arith}
 use native.Mathlib.Decide.{ℕ_discrete, dec_lt}
-use borrow.Author.Tests.{eq-eqb, ne_eqb, lt-ltb, le-ltb, le-leb, lt-leb, leb-true, ltb-true, ltb-false}
+use borrow.Author.Tests.{eq-eqb, leb-true, ltb-true, ltb-false}
 use lib.Dec.{leb, ltb, eqb}
-use lib.ListN.{length, get_or, drop, set, length-set, get_or-eq_default}
-use lib.Seq.{get_or-take, get_or-drop, get_or-set_same, get_or-set_other}
+use lib.ListN.{length, get_or, drop, replicate, set, length-set, length-take, length-drop, length-append, get_or-append, get_or-eq_default}
+use lib.Seq.{get_or-append_right, get_or-take, get_or-drop, get_or-set_same, get_or-set_other}
 use Rattle.lists.specs.Basics.{if, indicator}
 use Rattle.geometry.proofs.GapLaws.{reach_stored}
 use Rattle.geometry_slices.proofs.QuestionLaws.{feature_at_law, reach_at_place}
@@ -19,13 +19,14 @@ use Rattle.geometry.specs.Features.{Feature, gap_to, cost_of}
 use Rattle.geometry.specs.Slices.{on_axis, reach_of, axis_no, sign_no, slice_at}
 use Rattle.geometry.specs.Stored.{coord_of}
 use Rattle.geometry_slices.specs.Questions.{reach_at, size_of, part_from, asked_of, Packed, sum_to, row_at, row_from, width_of, row_cost, Filled, Rows}
-use Rattle.geometry_slices.specs.Tables.{row_in, Counted}
+use Rattle.lists.specs.Lengths.{zero_at}
+use Rattle.geometry_slices.specs.Tables.{row_in, Counted, Reached}
 
 -- coordinate m of a question
 abbrev pub feature_in : List ℕ → ℕ → Feature
 feature_in a m = record { low = coord_of (get_or a m 0); high = coord_of (get_or a (16 + m) 0); weight = get_or a (32 + m) 0 }
 
-part_at : (s : ℕ) (a : List ℕ) (m : ℕ) → m < size_of a → get_or (part_from s a) m 0 ≡ get_or a (s + m) 0
+pub part_at : (s : ℕ) (a : List ℕ) (m : ℕ) → m < size_of a → get_or (part_from s a) m 0 ≡ get_or a (s + m) 0
 part_at s a m l = get_or-take (size_of a) (drop s a) m 0 l ∙ get_or-drop s a m 0
 
 pub axis_in : (d i : ℕ) → i < d + d → axis_no d i < d
@@ -156,28 +157,6 @@ filled_more g at n xs ys v f l e =
 pub filled_on : (g : ℕ → ℕ → ℕ) (n : ℕ) (xs ys : List ℕ) (v : ℕ) → Filled g 0 n xs ys → n < length ys → v ≡ g n (get_or ys n 0) → Filled g 0 (n + 1) xs (set ys n v)
 filled_on g n xs ys v f l e = let z : 0 + n ≡ n = omega arith in rw z at (filled_more g 0 n xs ys v f (omega arith) (rw z e))
 
--- the tests of the code
-pub width_0 : (d : ℕ) → d ≤ 1 → 0 ≡ width_of d
-width_0 d l = rw (le-leb d 1 l)
-
-pub width_4 : (d : ℕ) → 1 < d → d ≤ 4 → 4 ≡ width_of d
-width_4 d l k = rw (lt-leb d 1 l, le-leb d 4 k)
-
-pub width_8 : (d : ℕ) → 1 < d → 4 < d → d ≤ 8 → 8 ≡ width_of d
-width_8 d l k t = rw (lt-leb d 1 l, lt-leb d 4 k, le-leb d 8 t)
-
-pub width_16 : (d : ℕ) → 1 < d → 4 < d → 8 < d → 16 ≡ width_of d
-width_16 d l k t = rw (lt-leb d 1 l, lt-leb d 4 k, lt-leb d 8 t)
-
-pub row_same : (r m j : ℕ) → m ≡ j → 0 ≡ if (eqb m j) 0 (r - indicator (ltb j m))
-row_same r m j e = rw (eq-eqb m j e)
-
-pub row_after : (r m j : ℕ) → m ≢ j → j < m → r - 1 ≡ if (eqb m j) 0 (r - indicator (ltb j m))
-row_after r m j n l = rw (ne_eqb m j n, lt-ltb j m l)
-
-pub row_before : (r m j : ℕ) → m ≢ j → m ≤ j → r ≡ if (eqb m j) 0 (r - indicator (ltb j m))
-row_before r m j n l = rw (ne_eqb m j n, le-ltb j m l) (omega arith)
-
 -- one place of a row
 pub row_place : (reach places : List ℕ) (j m v : ℕ) → Counted places → m < 16 → v ≡ if (eqb (get_or places m 0) j) 0 (get_or reach m 0 - indicator (ltb j (get_or places m 0)))
     → (y : ℕ) → v ≡ row_in reach j (row_from j + m) y
@@ -186,10 +165,18 @@ row_place reach places j m v c l e y =
     rw z (rw (c.each m l) at e)
 
 -- the reaches copied, and 0 past them
-pub reaches_end : (a r : List ℕ) (m : ℕ) → m ≡ size_of a → ((k : ℕ) → k < m → get_or r k 0 ≡ get_or a (48 + k) 0) → ((k : ℕ) → m ≤ k → get_or r k 0 ≡ 0) → (k : ℕ) → k < 16
-    → get_or r k 0 ≡ get_or a (48 + k) 0
-reaches_end a r m e f z k l = by (dec_lt k m)
+pub reaches_copied : (a r : List ℕ) → size_of a ≤ 16 → r ≡ part_from 48 a → Reached a (r ++ drop (size_of a) (replicate 16 0))
+reaches_copied a r few e = record { long = whole; each = λ k l. by k l (dec_lt k (size_of a)) }
   where
-    by : Dec (k < m) → get_or r k 0 ≡ get_or a (48 + k) 0
-    by (yes t) = f k t
-    by (no t) = z k (omega arith) ∙ sym (get_or-eq_default a 0 {n = 48 + k} (omega arith))
+    lent : length r ≡ size_of a
+    lent = ap length e ∙ length-take (size_of a) (drop 48 a) ∙ omega (arith, length-drop 48 a)
+
+    whole : length (r ++ drop (size_of a) (replicate 16 0)) ≡ 16
+    whole = omega (arith, lent, length-append r (drop (size_of a) (replicate {A = ℕ} 16 0)), length-drop (size_of a) (replicate {A = ℕ} 16 0))
+
+    by : (k : ℕ) → k < 16 → Dec (k < size_of a) → get_or (r ++ drop (size_of a) (replicate 16 0)) k 0 ≡ get_or a (48 + k) 0
+    by k l (yes t) = get_or-append r (drop (size_of a) (replicate 16 0)) 0 k (omega (arith, lent)) ∙ (ap (λ (xs : List ℕ). get_or xs k 0) e ∙ part_at 48 a k t)
+    by k l (no t) =
+        get_or-append_right r (drop (size_of a) (replicate 16 0)) k 0 (omega (arith, lent))
+        ∙ (get_or-drop (size_of a) (replicate 16 0) (k - length r) 0 ∙ zero_at 16 (size_of a + (k - length r)))
+        ∙ sym (get_or-eq_default a 0 {n = 48 + k} (omega arith))

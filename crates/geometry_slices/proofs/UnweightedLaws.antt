@@ -1,29 +1,49 @@
 -- A question without weights, coordinate by coordinate.
-use mathlib.Core.Path.{◌≡◌, ◌∙◌}
+use mathlib.Core.Path.{◌≡◌, refl, sym, ap₂, subst, ◌∙◌}
 use mathlib.Core.Bool.{Bool, true, false}
 use mathlib.Core.List.{List}
 use Prim.Native.Nat.{ℕ, ◌+◌, ◌*◌, ◌-◌, ◌≤◌, ◌<◌}
 use native.Mathlib.Omega.{arith}
 use native.Mathlib.Nat.{mul-le-mul}
-use native.Mathlib.Decide.{ℕ_discrete, dec_lt}
+use native.Mathlib.Decide.{dec_lt}
 use lib.Dec.{ltb, eqb}
-use lib.ListN.{length, get_or}
+use lib.ListN.{length, get_or, drop, length-take, length-drop}
 use Rattle.lists.specs.Basics.{if, indicator}
+use Rattle.lists.specs.Tests.{false_true}
+use Rattle.std.specs.List.{zip, AllWithin, HoldsAt}
+use Rattle.std.specs.Bool.{MatchBool}
+use Rattle.std.proofs.lemmas.Slice.Zip.{length-zip, get_or-zip}
 use Rattle.geometry_slices.proofs.PackedLaws.{asked_few}
 use Rattle.geometry_slices.proofs.RowLaws.{sum_ext}
-use Rattle.geometry_slices.proofs.TableLaws.{row_past, width_le}
-use Rattle.geometry_slices.specs.Questions.{size_of, weights_from, reaches_from, small_reach, NoWeight, UnweightedTo, Unweighted, sum_to}
+use Rattle.geometry_slices.proofs.TableLaws.{part_at, row_past, width_le}
+use Rattle.geometry_slices.specs.Questions.{size_of, weights_from, reaches_from, small_reach, NoWeight, Unweighted, Packed, part_from, sum_to}
 use Rattle.geometry_slices.specs.Questions.{row_at, row_from, width_of, row_cost, row_square, Rows}
 use Rattle.geometry_slices.specs.Tables.{Squares}
 
--- one coordinate more
-pub unweighted_more : (a : List ℕ) (n : ℕ) → UnweightedTo a n → NoWeight (get_or a (weights_from + n) 0) (get_or a (reaches_from + n) 0)
-    → UnweightedTo a (n + 1)
-unweighted_more a n f e m l = by (ℕ_discrete m n)
-  where
-    by : Dec (m ≡ n) → NoWeight (get_or a (weights_from + m) 0) (get_or a (reaches_from + m) 0)
-    by (yes o) = rw o e
-    by (no o) = f m (omega arith)
+-- a coordinate's weight and reach, side by side
+module _ (a : List ℕ) (p : Packed a) where
+  abbrev pairs : List (ℕ × ℕ)
+  pairs = zip (part_from weights_from a) (part_from reaches_from a)
+
+  long : (s : ℕ) → s ≤ reaches_from → length (part_from s a) ≡ size_of a
+  long s l = length-take (size_of a) (drop s a) ∙ omega (arith, length-drop s a)
+
+  many : length (zip (part_from weights_from a) (part_from reaches_from a)) ≡ size_of a
+  many = omega (arith, length-zip (part_from weights_from a) (part_from reaches_from a), long weights_from (omega arith), long reaches_from (omega arith))
+
+  pair_at : (m : ℕ) → m < size_of a → get_or (zip (part_from weights_from a) (part_from reaches_from a)) m (0, 0) ≡ (get_or a (weights_from + m) 0, get_or a (reaches_from + m) 0)
+  pair_at m l =
+      get_or-zip (part_from weights_from a) (part_from reaches_from a) m (0, 0) (omega (arith, long weights_from (omega arith))) (omega (arith, long reaches_from (omega arith)))
+      ∙ ap₂ (λ (x y : ℕ). (x, y)) (part_at weights_from a m l) (part_at reaches_from a m l)
+
+  -- no weight stands in all of them just where the question has none
+  pub unweighted_all : (r : Bool)
+      → MatchBool r (AllWithin (λ (x : ℕ × ℕ). NoWeight x.0 x.1) pairs 0 (length pairs)) ((k : ℕ) × (k < length pairs) × HoldsAt (λ (x : ℕ × ℕ). ¬ NoWeight x.0 x.1) pairs k)
+      → (r ≡ true → Unweighted a) × (Unweighted a → r ≡ true)
+  unweighted_all true f = (λ e m l. subst (λ (x : ℕ × ℕ). NoWeight x.0 x.1) (pair_at m l) (f m (0, 0) (omega arith) (omega (arith, many))), λ u. refl)
+  unweighted_all false (k, l, f) =
+      let l' : k < size_of a = omega (arith, many) in
+      (λ (e : false ≡ true). false_true e, λ u. absurd (f (0, 0) (subst (λ (x : ℕ × ℕ). NoWeight x.0 x.1) (sym (pair_at k l')) (u k l'))))
 
 -- a number below 2,048 squared
 pub square_small : (x : ℕ) → x < small_reach → x * x ≤ 4194304

@@ -20,13 +20,11 @@ pub fn ask(low: &[u16], high: &[u16], weight: &[u16]) -> [u16; ASKED_PLACES]
     ensures { LaidOut low.now high.now weight.now result }
 {
     let mut asked = [0u16; ASKED_PLACES];
-    let mut m = 0;
-    while m < low.len() {
+    for m in 0..low.len() {
         asked[m] = low[m];
         asked[HIGHS_FROM + m] = high[m];
         asked[WEIGHTS_FROM + m] = weight[m];
         asked[REACHES_FROM + m] = reach_at(low[m], high[m]);
-        m += 1;
     }
     asked
 }
@@ -35,11 +33,7 @@ pub fn ask(low: &[u16], high: &[u16], weight: &[u16]) -> [u16; ASKED_PLACES]
 fn no_weight(weight: u16, reach: u16) -> bool
     ensures { (result ≡ true → NoWeight weight reach) × (NoWeight weight reach → result ≡ true) }
 {
-    if weight == 1 {
-        reach < SMALL_REACH
-    } else {
-        false
-    }
+    weight == 1 && reach < SMALL_REACH
 }
 
 // Whether a question has none.
@@ -48,12 +42,10 @@ pub fn is_unweighted(asked: &[u16]) -> bool
     ensures { (result ≡ true → Unweighted asked.now) × (Unweighted asked.now → result ≡ true) }
 {
     let d = asked.len() - REACHES_FROM;
-    let mut m = 0;
-    while m < d {
-        if !no_weight(asked[WEIGHTS_FROM + m], asked[REACHES_FROM + m]) {
-            return false;
-        }
-        m += 1;
-    }
-    true
+    let weights = &asked[WEIGHTS_FROM..WEIGHTS_FROM + d];
+    let reaches = &asked[REACHES_FROM..];
+    weights
+        .iter()
+        .zip(reaches.iter())
+        .all(|(weight, reach)| no_weight(*weight, *reach))
 }

@@ -9,20 +9,19 @@ ghost use Rattle.geometry_slices.specs.Questions.{reaches_from, size_of, asked_o
 ghost use Rattle.geometry_slices.specs.Tables.{Squares};
 
 use crate::{HIGHS_FROM, REACHES_FROM, ROWS_FROM, SMALL_REACH, UNWEIGHTED_AT, WEIGHTS_FROM};
-use geometry::points::{above, gap, weigh};
+use geometry::points::{gap, weigh};
 use geometry::{MAX_COORDINATE, MAX_FEATURES};
 
 // How many places of a row are summed: not a constant, so that the sum runs in lanes; none where there is no other coordinate.
 pub fn width(d: usize) -> usize
     ensures { result ≡ width_of d }
 {
-    if d <= 1 {
-        return 0;
+    match d {
+        0..=1 => 0,
+        2..=4 => 4,
+        5..=8 => 8,
+        _ => MAX_FEATURES,
     }
-    if d <= 4 {
-        return 4;
-    }
-    if d <= 8 { 8 } else { MAX_FEATURES }
 }
 
 // What n places of a row at a place of near cost at height h.
@@ -31,10 +30,8 @@ fn row_sum(asked: &[u16], near: &[u16], at: usize, n: usize, h: u16) -> u64
     ensures { (result ≡ sum_to n (row_cost asked.now near.now at h)) × (result ≤ 281474976710656 * n) }
 {
     let mut sum: u64 = 0;
-    let mut m = 0;
-    while m < n {
-        sum += weigh(asked[WEIGHTS_FROM + m], above(near[at + m], h));
-        m += 1;
+    for m in 0..n {
+        sum += weigh(asked[WEIGHTS_FROM + m], near[at + m].saturating_sub(h));
     }
     sum
 }
@@ -44,7 +41,7 @@ fn square(x: u16) -> u32
     requires { x < small_reach }
     ensures { (result ≡ x * x) × (result ≤ 4194304) }
 {
-    let g = (x % SMALL_REACH) as u32;
+    let g = u32::from(x % SMALL_REACH);
     g * g
 }
 
@@ -54,10 +51,8 @@ fn row_squares(near: &[u16], at: usize, n: usize, h: u16) -> u32
     ensures { (result ≡ sum_to n (row_square near.now at h)) × (result ≤ 4194304 * n) }
 {
     let mut sum: u32 = 0;
-    let mut m = 0;
-    while m < n {
-        sum += square(above(near[at + m], h));
-        m += 1;
+    for m in 0..n {
+        sum += square(near[at + m].saturating_sub(h));
     }
     sum
 }
@@ -71,9 +66,10 @@ fn row_cost(asked: &[u16], near: &[u16], j: usize, h: u16) -> u64
     let at = ROWS_FROM + MAX_FEATURES * j;
     let n = width(asked.len() - REACHES_FROM);
     if near[UNWEIGHTED_AT] == 1 {
-        return row_squares(near, at, n, h) as u64;
+        u64::from(row_squares(near, at, n, h))
+    } else {
+        row_sum(asked, near, at, n, h)
     }
-    row_sum(asked, near, at, n, h)
 }
 
 // The gap of height h on an axis, on the side below 0 or not, from a stored range.
@@ -81,14 +77,16 @@ fn axis_gap(low: u16, high: u16, below: bool, h: u16) -> u16
     requires { h ≤ max_coordinate }
     ensures { result ≡ gap_of (coord_of low) (coord_of high) (on_axis below h) }
 {
-    if below {
-        gap(low, high, MAX_COORDINATE - h)
+    let x = if below {
+        MAX_COORDINATE - h
     } else {
-        gap(low, high, MAX_COORDINATE + h)
-    }
+        MAX_COORDINATE + h
+    };
+    gap(low, high, x)
 }
 
 // The axis of pyramid i of d coordinates.
+#[tactic(auto, unfolding(geometry::specs::Slices::axis_no))]
 fn axis_no(d: usize, i: usize) -> usize
     requires { i < d + d }
     ensures { (result ≡ axis_no d i) × (result < d) }

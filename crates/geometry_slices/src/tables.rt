@@ -9,7 +9,6 @@ use crate::asked::is_unweighted;
 use crate::slices::{lowest, slice_in, width};
 use crate::{REACHES_FROM, ROWS_FROM, UNWEIGHTED_AT};
 use geometry::MAX_FEATURES;
-use geometry::points::{above, greater};
 
 // So many coordinates are quickly summed with their weights.
 const FEW_FEATURES: usize = 4;
@@ -19,9 +18,10 @@ fn row_at(reach: u16, m: u16, j: u16) -> u16
     ensures { result ≡ if (eqb m j) 0 (reach - indicator (ltb j m)) }
 {
     if m == j {
-        return 0;
+        0
+    } else {
+        reach.saturating_sub(u16::from(j < m))
     }
-    if j < m { above(reach, 1) } else { reach }
 }
 
 // The number of each place of a row.
@@ -29,10 +29,8 @@ fn places() -> [u16; MAX_FEATURES]
     ensures { Counted result }
 {
     let mut places = [0u16; MAX_FEATURES];
-    let mut m = 0;
-    while m < MAX_FEATURES {
+    for m in 0..MAX_FEATURES {
         places[m] = m as u16;
-        m += 1;
     }
     places
 }
@@ -44,11 +42,7 @@ fn reaches(asked: &[u16]) -> [u16; MAX_FEATURES]
 {
     let d = asked.len() - REACHES_FROM;
     let mut reach = [0u16; MAX_FEATURES];
-    let mut m = 0;
-    while m < d {
-        reach[m] = asked[REACHES_FROM + m];
-        m += 1;
-    }
+    reach[..d].copy_from_slice(&asked[REACHES_FROM..]);
     reach
 }
 
@@ -59,10 +53,8 @@ fn fill_row(reach: &[u16], places: &[u16], j: usize, n: usize, near: &mut [u16])
 {
     let at = ROWS_FROM + MAX_FEATURES * j;
     let axis = j as u16;
-    let mut m = 0;
-    while m < n {
+    for m in 0..n {
         near[at + m] = row_at(reach[m], places[m], axis);
-        m += 1;
     }
 }
 
@@ -71,10 +63,8 @@ fn each_row(reach: &[u16], places: &[u16], d: usize, n: usize, near: &mut [u16])
     requires { RowRoom reach.now places.now n near.old × (d ≤ max_features) }
     ensures { Rowed reach.now d n near.old near.new }
 {
-    let mut j = 0;
-    while j < d {
+    for j in 0..d {
         fill_row(reach, places, j, n, near);
-        j += 1;
     }
 }
 
@@ -83,10 +73,7 @@ fn flag(asked: &[u16]) -> u16
     requires { Packed asked.now }
     ensures { result ≡ 1 → Unweighted asked.now }
 {
-    if asked.len() - REACHES_FROM <= FEW_FEATURES {
-        return 0;
-    }
-    if is_unweighted(asked) { 1 } else { 0 }
+    u16::from(asked.len() - REACHES_FROM > FEW_FEATURES && is_unweighted(asked))
 }
 
 // The rows of a question, and its flag.
@@ -108,10 +95,7 @@ pub fn fill_whole(asked: &[u16], near: &[u16], whole: &mut [u64])
     ensures { Wholes asked.now whole.new × (length whole.new ≡ whole_places) }
 {
     let d = asked.len() - REACHES_FROM;
-    let n = d + d;
-    let mut i = 0;
-    while i < n {
-        whole[i] = slice_in(asked, near, i, greater(lowest(d, i), near[i]));
-        i += 1;
+    for i in 0..2 * d {
+        whole[i] = slice_in(asked, near, i, lowest(d, i).max(near[i]));
     }
 }

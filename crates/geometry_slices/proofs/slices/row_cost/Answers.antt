@@ -2,16 +2,8 @@ use native.Mathlib.Omega.{arith}
 use mathlib.Core.Path.{ap, ◌∙◌}
 use Prim.Native.Nat.{ℕ}
 use Rattle.geometry_slices.specs.Questions.{sum_to, row_from, row_cost}
-use Rattle.geometry_slices.proofs.PackedLaws.{asked_few}
 use Rattle.geometry_slices.proofs.UnweightedLaws.{row_room, squares, unweighted_sum}
 use Rattle.geometry_slices.proofs.slices.row_cost.Goals as goal
-
--- `slices::row_cost` meets its contract: of an unweighted question the weights are 1, so the squares alone are summed.
-pub overflow_mul-at : goal.overflow_mul-at
-overflow_mul-at c = omega (arith, c.requires.1, asked_few c.args.asked.now c.requires.0.packed)
-
-pub overflow_add-at : goal.overflow_add-at
-overflow_add-at c = omega (arith, c.requires.1, asked_few c.args.asked.now c.requires.0.packed)
 
 pub row_squares-requires : goal.row_squares-requires
 row_squares-requires c =
@@ -26,19 +18,4 @@ returns-then-near-eq1 c =
     let e = c.width-n.ensures in
     let w = (row_room a.asked.now a.near.now a.j _ p.0 p.1 e).0 in
     let t = unweighted_sum a.asked.now a.near.now a.j p.0 (p.0.unweighted c.if-near-eq1.true) p.1 a.h _ e in
-    (s.0 ∙ (t ∙ ap (λ (n : ℕ). sum_to n (row_cost a.asked.now a.near.now (row_from a.j) a.h)) e), omega (arith, w, s.1))
-
-pub row_sum-requires : goal.row_sum-requires
-row_sum-requires c =
-    let a = c.args in let p = c.requires in
-    let w = row_room a.asked.now a.near.now a.j _ p.0 p.1 c.width-n.ensures in
-    (omega (arith, p.0.packed.whole), w.0, w.1)
-
-pub returns : goal.returns
-returns c =
-    let a = c.args in
-    let p = c.requires in
-    let s = c.row_sum.ensures in
-    let e = c.width-n.ensures in
-    let w = (row_room a.asked.now a.near.now a.j _ p.0 p.1 e).0 in
-    (s.0 ∙ ap (λ (n : ℕ). sum_to n (row_cost a.asked.now a.near.now (row_from a.j) a.h)) e, omega (arith, w, s.1))
+    (c.from.ensures ∙ s.0 ∙ t ∙ ap (λ (n : ℕ). sum_to n (row_cost a.asked.now a.near.now (row_from a.j) a.h)) e, omega (arith, w, s.1))

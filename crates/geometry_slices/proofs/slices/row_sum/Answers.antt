@@ -1,22 +1,13 @@
-use native.Mathlib.Omega.{arith}
-use mathlib.Core.Path.{◌≡◌, ap, ◌∙◌}
-use Prim.Native.Nat.{ℕ, ◌+◌, ◌*◌}
-use lib.ListN.{get_or}
-use Rattle.geometry_slices.specs.Questions.{sum_to, row_cost}
+use Rattle.std.proofs.Common.{ℕ, ◌+◌, ◌*◌, ap, get_or, ◌∙◌, arith}
+use Rattle.geometry_slices.specs.Questions.{row_cost}
 use Rattle.geometry_slices.proofs.RowLaws.{sum_none, sum_more}
 use Rattle.geometry_slices.proofs.slices.row_sum.Goals as goal
 
 pub loop-m-init : goal.loop-m-init
-loop-m-init c =
-    let a = c.args in (omega arith, omega arith, omega (arith, sum_none (row_cost a.asked.now a.near.now a.at a.h)))
+loop-m-init c = let a = c.args in (omega arith, omega (arith, sum_none (row_cost a.asked.now a.near.now a.at a.h)))
 
 pub loop-m-preserved : goal.loop-m-preserved
 loop-m-preserved c =
     let a = c.args in let l = c.loop-m in
-    let e = c.weigh-sum.ensures.0 ∙ ap (λ (g : ℕ). get_or a.asked.now (32 + l.m) 0 * (g * g)) c.above.ensures in
-    (omega arith, omega (arith, c.weigh-sum.ensures), omega (arith, e, l.invariant, sum_more l.m (row_cost a.asked.now a.near.now a.at a.h)))
-
-pub returns : goal.returns
-returns c =
-    let a = c.args in let l = c.loop-m in let e : l.m ≡ a.n = omega arith in
-    (l.invariant.2 ∙ ap (λ (k : ℕ). sum_to k (row_cost a.asked.now a.near.now a.at a.h)) e, omega arith)
+    let e = c.weigh-sum.ensures.0 ∙ ap (λ (g : ℕ). get_or a.asked.now (32 + l.m) 0 * (g * g)) c.saturating_sub.ensures in
+    (omega (arith, c.weigh-sum.ensures), omega (arith, e, l.invariant, sum_more l.m (row_cost a.asked.now a.near.now a.at a.h)))

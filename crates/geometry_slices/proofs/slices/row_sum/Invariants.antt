@@ -1,11 +1,7 @@
-use mathlib.Core.Path.{◌≡◌}
-use Prim.Native.Nat.{◌-◌, ◌*◌, ◌≤◌}
+use Rattle.std.proofs.Common.{◌≡◌, ◌*◌, ◌≤◌}
 use Rattle.geometry_slices.specs.Questions.{sum_to, row_cost}
 use Rattle.geometry_slices.proofs.slices.row_sum.Given as goal
 
--- `slices::row_sum` meets its contract: the sum so far is that of the places below m.
+-- the sum so far is that of the places below m
 abbrev pub invariant-loop-m : goal.invariant-loop-m
-invariant-loop-m l = (l.m ≤ l.n) × (l.sum ≤ 281474976710656 * l.m) × (l.sum ≡ sum_to l.m (row_cost l.asked l.near l.at l.h))
-
-abbrev pub decreases-loop-m : goal.decreases-loop-m
-decreases-loop-m l = l.n - l.m
+invariant-loop-m l = (l.sum ≤ 281474976710656 * l.m) × (l.sum ≡ sum_to l.m (row_cost l.asked l.near l.at l.h))

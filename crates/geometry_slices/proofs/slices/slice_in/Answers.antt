@@ -1,14 +1,7 @@
-use native.Mathlib.Omega.{arith}
 use mathlib.Core.Path.{refl, ap, ◌∙◌}
 use Prim.Native.Nat.{ℕ, ◌+◌}
 use Rattle.geometry_slices.proofs.WholeLaws.{slice_of}
 use Rattle.geometry_slices.proofs.slices.slice_in.Goals as goal
-
-pub row_cost-requires : goal.row_cost-requires
-row_cost-requires c = (c.requires.0, c.axis_no-j.ensures.1)
-
-pub overflow_add-result : goal.overflow_add-result
-overflow_add-result c = omega (arith, c.row_cost.ensures.1, c.weigh-on.ensures.1)
 
 pub returns : goal.returns
 returns c =
