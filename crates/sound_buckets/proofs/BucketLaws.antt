@@ -1,13 +1,5 @@
 -- Laws of buckets: an identifier compared with those of its bucket, a turn of a walk, and what all walks say.
-use Prim.Native.Nat.{ℕ, zero, suc, ◌+◌, ◌≤◌, ◌<◌}
-use mathlib.Core.Path.{◌≡◌, refl, sym, ap, ◌∙◌}
-use mathlib.Core.Logic.{◌≢◌, ◌⊎◌, inl, inr, ⊎_elim}
-use mathlib.Core.List.{List}
-use native.Mathlib.Omega.{arith}
-use lib.ListN.{length, get_or, set}
-use lib.Seq.{get_or-set_same, get_or-set_other}
-use lib.Dec.{leb}
-use borrow.Author.Tests.{leb-true, leb-false}
+use Rattle.std.proofs.Common.{ℕ, zero, suc, ◌+◌, ◌≤◌, ◌<◌, ◌≡◌, refl, sym, ap, ◌∙◌, ◌≢◌, ◌⊎◌, inl, inr, ⊎_elim, List, arith, length, get_or, set, get_or-set_same, get_or-set_other, leb, leb-true, leb-false}
 use Rattle.lists.specs.Tests.{decide, by_cases}
 use Rattle.sound_chains.specs.Repeats.{lowest_repeat, Under}
 use Rattle.sound_chains.specs.Chains.{bucket_of, latest, met_of, Heads, Chained, Blank}
@@ -90,9 +82,6 @@ probing_more n ids next m x o w c p d =
 
 pub probed_found : (ids : List ℕ) (m x o : ℕ) → get_or ids o 0 ≡ x → Probed ids m x (suc o)
 probed_found ids m x o e = record { found = λ k d h. let q : o ≡ k = omega arith in rw q at e; none = λ z. absurd (omega arith) }
-
-pub probed_past : (ids : List ℕ) (m x : ℕ) → Probed ids m x (m + 1)
-probed_past ids m x = record { found = λ k d h. absurd (omega arith); none = λ z. absurd (omega arith) }
 
 pub probed_none : (ids : List ℕ) (m x j : ℕ) → j ≡ 0 → Probing ids m x j → Probed ids m x 0
 probed_none ids m x j z p = record { found = λ k d h. absurd (omega arith); none = λ _ k h. p.passed k (omega arith) h }

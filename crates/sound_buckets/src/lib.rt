@@ -3,30 +3,23 @@
 // table says where the high 18 bits of each identifier were met last: two of a bucket with the same high bits are the same.
 #![tactic(auto)]
 
-ghost use Rattle.std.specs.Prelude.{true, ◌≡◌, ◌+◌, ◌≤◌, ◌<◌, ◌/◌, length, get_or};
+ghost use Rattle.std.specs.Prelude.{◌≡◌, ◌+◌, ◌≤◌, ◌<◌, ◌/◌, IfSome, length, get_or};
 ghost use Rattle.sound_chains.specs.Repeats.{lowest_repeat};
 ghost use Rattle.sound_chains.specs.Chains.{buckets, max_idents, bucket_of, latest, Heads, Chained, Room, Blank};
 ghost use Rattle.sound_buckets.specs.Buckets.{slots, slot_of, Stage, Probed};
 
-use sound_chains::{BUCKETS, HEADS, chain, met, narrow, wide};
+use sound_chains::{BUCKETS, HEADS, chain, met};
 
 // The most identifiers, and those that are few.
 pub const MAX_IDENTS: usize = 65535;
 
 pub const FEW_IDENTS: usize = 16384;
 
-// What may differ from an identifier in its chain before the search for it gives up, but one.
-const PASSES: usize = 8;
+// So many that differ from an identifier come first in its chain before the search for it gives up.
+const PASSES: usize = 9;
 
 // The places of the last-seen table, one for each of the high bits.
 const SLOTS: usize = 262144;
-
-// What comparing within the buckets found: the lowest page, if settled.
-#[derive(Clone, Copy)]
-pub struct Attempt {
-    pub settled: bool,
-    pub page: u16,
-}
 
 fn slot(x: u32) -> usize
     ensures { (result ≡ slot_of x) × (result < slots) }
@@ -34,53 +27,40 @@ fn slot(x: u32) -> usize
     (x / BUCKETS) as usize
 }
 
-// Looks along a chain, from the place that `from` links to, for the identifier at i: the link to it, 0 where the chain has none, or a link
-// past i where nine others come first.
-fn probe(ids: &[u32], next: &[u16], i: usize, from: usize) -> usize
+// Looks along a chain, from the place that `from` links to, for the identifier at i: the link to it, or 0 where the chain has none. Gives up where
+// nine others come first.
+fn probe(ids: &[u32], next: &[u16], i: usize, from: usize) -> Option<usize>
     requires { (length ids.now ≤ length next.now) × (i < length ids.now) × Chained i ids.now next.now
         × (from ≡ latest ids.now (bucket_of (get_or ids.now i 0)) i) }
-    ensures { Probed ids.now i (get_or ids.now i 0) result }
+    ensures { IfSome result (λ k. (k ≤ i) × Probed ids.now i (get_or ids.now i 0) k) }
 {
     let x = ids[i];
     let mut j = from;
-    let mut left: usize = PASSES;
-    while 0 < j {
+    'passes: for _ in 0..PASSES {
+        if j == 0 {
+            return Some(0);
+        }
         let o = j - 1;
         if ids[o] == x {
-            return j;
+            return Some(j);
         }
-        if left == 0 {
-            return i + 1;
-        }
-        left -= 1;
-        j = wide(next[o]);
+        j = usize::from(next[o]);
     }
-    0
+    None
 }
 
-// Compares each identifier with those of its bucket that came before.
-fn compare(ids: &[u32], pages: &[u16], head: &mut [u16], next: &mut [u16]) -> Attempt
+// Compares each identifier with those of its bucket that came before: the lowest page, if that settles it.
+fn compare(ids: &[u32], pages: &[u16], head: &mut [u16], next: &mut [u16]) -> Option<u16>
     requires { Room ids.now head.old next.old × (length pages.now ≡ length ids.now) × Blank head.old }
-    ensures { result.settled ≡ true → result.page ≡ lowest_repeat ids.now pages.now }
+    ensures { IfSome result (λ page. page ≡ lowest_repeat ids.now pages.now) }
 {
     let mut best = 0;
-    let mut i = 0;
-    while i < ids.len() {
+    for i in 0..ids.len() {
         let before = chain(ids, head, next, i);
-        let k = probe(ids, next, i, before);
-        if i < k {
-            return Attempt {
-                settled: false,
-                page: 0,
-            };
-        }
+        let k = probe(ids, next, i, before)?;
         best = met(ids, pages, i, k, best);
-        i += 1;
     }
-    Attempt {
-        settled: true,
-        page: best,
-    }
+    Some(best)
 }
 
 // Chains all identifiers.
@@ -89,10 +69,8 @@ fn chains(ids: &[u32], head: &mut [u16], next: &mut [u16])
     ensures { Heads (length ids.now) ids.now head.new
         × Chained (length ids.now) ids.now next.new }
 {
-    let mut i = 0;
-    while i < ids.len() {
+    for i in 0..ids.len() {
         chain(ids, head, next, i);
-        i += 1;
     }
 }
 
@@ -112,14 +90,14 @@ fn walk(
     ensures { Stage ids.now pages.now (g + 1) seen.new result }
 {
     let mut best = sofar;
-    let mut j = wide(head[g]);
+    let mut j = usize::from(head[g]);
     while 0 < j {
         let i = j - 1;
         let h = slot(ids[i]);
-        let k = wide(seen[h]);
+        let k = usize::from(seen[h]);
         best = met(ids, pages, i, k, best);
-        seen[h] = narrow(j);
-        j = wide(next[i]);
+        seen[h] = j as u16;
+        j = usize::from(next[i]);
     }
     best
 }
@@ -131,10 +109,8 @@ fn walks(ids: &[u32], pages: &[u16], head: &[u16], next: &[u16], seen: &mut [u16
     ensures { result ≡ lowest_repeat ids.now pages.now }
 {
     let mut best = 0;
-    let mut g = 0;
-    while g < HEADS {
+    for g in 0..HEADS {
         best = walk(ids, pages, head, next, seen, g, best);
-        g += 1;
     }
     best
 }
@@ -154,10 +130,10 @@ fn chain_and_walk(
     walks(ids, pages, head, next, seen)
 }
 
-// The arrays for few identifiers.
-pub fn lowest_of_few(ids: &[u32], pages: &[u16]) -> Attempt
+// The arrays for few identifiers: the lowest page, if comparing settles it.
+pub fn lowest_of_few(ids: &[u32], pages: &[u16]) -> Option<u16>
     requires { (length ids.now ≤ 16384) × (length pages.now ≡ length ids.now) }
-    ensures { result.settled ≡ true → result.page ≡ lowest_repeat ids.now pages.now }
+    ensures { IfSome result (λ page. page ≡ lowest_repeat ids.now pages.now) }
 {
     let mut head = [0u16; HEADS];
     let mut next = [0u16; FEW_IDENTS];

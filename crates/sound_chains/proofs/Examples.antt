@@ -1,6 +1,5 @@
 -- Small cases of `lowest_repeat`.
-use mathlib.Core.Path.{◌≡◌, refl}
-use mathlib.Core.List.{[], ◌∷◌}
+use Rattle.std.proofs.Common.{◌≡◌, refl, [], ◌∷◌}
 use Rattle.lists.specs.Counts.{mult}
 use Rattle.sound_chains.specs.Repeats.{lowest_of, lowest_repeat}
 

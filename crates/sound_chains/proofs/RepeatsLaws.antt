@@ -1,13 +1,6 @@
 -- What `lowest_repeat` is: 0 where the identifiers are distinct; else a page that holds a repeated identifier, and no lower page does.
-use Prim.Native.Nat.{ℕ, zero, suc, min, ◌≤◌, ◌<◌}
-use mathlib.Core.Bool.{true}
-use mathlib.Core.Path.{◌≡◌, refl}
-use mathlib.Core.Logic.{◌≢◌}
-use mathlib.Core.List.{List, [], ◌∷◌}
-use native.Mathlib.Omega.{arith}
-use lib.Dec.{eqb}
-use lib.ListN.{length, get_or}
-use borrow.Author.Tests.{lt-ltb, ltb-true, eq-eqb, ne_eqb, eqb-true, eqb-false}
+use Rattle.std.proofs.Common.{ℕ, zero, suc, min, ◌≤◌, ◌<◌, true, ◌≡◌, refl, List, [], ◌∷◌, arith, eqb, length, get_or, lt-ltb, ltb-true, eqb-true}
+use borrow.Author.Tests.{eqb-false}
 use Rattle.lists.specs.Basics.{if, All}
 use Rattle.lists.specs.Tests.{three, by_cases}
 use Rattle.lists.specs.Tabulated.{all_at}
@@ -16,17 +9,6 @@ use Rattle.lists.specs.Distinct.{Distinct, distinct_places, places_distinct}
 use Rattle.sound_chains.specs.Repeats.{repeated, lower_page, lowest_of, lowest_repeat, Repeated, Under, Lowest}
 
 -- ---- the lower of two pages
-
-module _ (p q : ℕ) where
-  pub lower_none : p ≡ 0 → q ≡ lower_page p q
-  lower_none e = rw (eq-eqb p 0 e)
-
-  module _ (n : p ≢ 0) where
-    pub lower_only : q ≡ 0 → p ≡ lower_page p q
-    lower_only e = rw (ne_eqb p 0 n, eq-eqb q 0 e)
-
-    pub lower_min : q ≢ 0 → min p q ≡ lower_page p q
-    lower_min m = rw (ne_eqb p 0 n, ne_eqb q 0 m)
 
 pub lower_left : (a b p : ℕ) → Under a p → Under (lower_page a b) p
 lower_left a b p u h = let q = u h in

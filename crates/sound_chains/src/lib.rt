@@ -1,5 +1,7 @@
 // Identifiers in a chained hash table: those with the same low 14 bits are in one bucket, each bucket a chain from its last identifier to its first.
 // A link is one more than a place, or 0 for none.
+// Kept: links and pages with 0 for none, in place of an `Option<u16>`. The lent arrays would take twice their fixed memory for links, and
+// `latest`, `Heads`, `Chained` and `lowest_repeat`, of which the contracts speak, have the 0.
 #![tactic(auto)]
 
 ghost use Rattle.std.specs.Prelude.{◌≡◌, ◌+◌, ◌≤◌, ◌<◌, ◌%◌, length, get_or};
@@ -17,33 +19,17 @@ fn bucket(x: u32) -> usize
     (x % BUCKETS) as usize
 }
 
-pub fn wide(x: u16) -> usize
-    ensures { result ≡ x }
-{
-    x as usize
-}
-
-pub fn narrow(x: usize) -> u16
-    requires { x < 65536 }
-    ensures { result ≡ x }
-{
-    x as u16
-}
-
 // The lower of two pages, 0 being no page.
 fn lower_page(p: u16, q: u16) -> u16
     ensures { result ≡ lower_page p q }
 {
     if p == 0 {
-        return q;
+        q
+    } else if q == 0 {
+        p
+    } else {
+        p.min(q)
     }
-    if q == 0 {
-        return p;
-    }
-    if p < q {
-        return p;
-    }
-    q
 }
 
 // The lowest page so far, after the identifier at i has met the one that k links to.
@@ -71,6 +57,6 @@ pub fn chain(ids: &[u32], head: &mut [u16], next: &mut [u16], i: usize) -> usize
     let g = bucket(ids[i]);
     let before = head[g];
     next[i] = before;
-    head[g] = narrow(i + 1);
-    wide(before)
+    head[g] = (i + 1) as u16;
+    usize::from(before)
 }

@@ -1,11 +1,5 @@
 -- Identifiers that differ by their low bits: one more met, and what holds when all are.
-use Prim.Native.Nat.{ℕ, ◌+◌, ◌≤◌, ◌<◌, ◌%◌}
-use mathlib.Core.Path.{◌≡◌, ap, sym, ◌∙◌}
-use mathlib.Core.Logic.{◌≢◌}
-use mathlib.Core.List.{List}
-use native.Mathlib.Omega.{arith}
-use lib.ListN.{length, get_or, set}
-use lib.Seq.{get_or-set_same, get_or-set_other}
+use Rattle.std.proofs.Common.{ℕ, ◌+◌, ◌≤◌, ◌<◌, ◌%◌, ◌≡◌, ap, sym, ◌∙◌, ◌≢◌, List, arith, length, get_or, set, get_or-set_same, get_or-set_other}
 use Rattle.lists.specs.Tests.{decide}
 use Rattle.lists.specs.Distinct.{Distinct, places_distinct}
 

@@ -15,38 +15,21 @@ const LOW_12: usize = 4096;
 
 const LOW_16: usize = 65536;
 
-// Do the identifiers differ by their low bits, the rests of division by `places`? `seen` has a place for each rest, with 1 once it was met.
-// `true` says that the identifiers are distinct. `false` says nothing, and `seen` need not be blank: only time rests on either.
-fn spread(ids: &[u32], seen: &mut [u8], places: u32) -> bool
-    requires { (0 < places) × (places ≤ length seen.old) }
+// Do the identifiers differ by their low bits, the rests of division by PLACES? `seen` has a place for each rest, with 1 once it was met.
+// `true` says that the identifiers are distinct. `false` says nothing: only time rests on it.
+fn spread<const PLACES: usize>(ids: &[u32]) -> bool
+    requires { (0 < PLACES) × (PLACES ≤ 65536) }
     ensures { result ≡ true → Distinct ids.now }
 {
-    let mut i = 0;
-    while i < ids.len() {
-        let at = (ids[i] % places) as usize;
+    let mut seen = [0u8; PLACES];
+    for x in ids {
+        let at = *x as usize % PLACES;
         if seen[at] == 1 {
             return false;
         }
         seen[at] = 1;
-        i += 1;
     }
     true
-}
-
-// The array for the low 12 bits.
-fn spread_few(ids: &[u32]) -> bool
-    ensures { result ≡ true → Distinct ids.now }
-{
-    let mut seen = [0u8; LOW_12];
-    spread(ids, &mut seen, LOW_12 as u32)
-}
-
-// The array for the low 16 bits.
-fn spread_many(ids: &[u32]) -> bool
-    ensures { result ≡ true → Distinct ids.now }
-{
-    let mut seen = [0u8; LOW_16];
-    spread(ids, &mut seen, LOW_16 as u32)
 }
 
 // Do they differ by their low 12 bits, or by 16 where they are more than 4,096?
@@ -54,9 +37,10 @@ fn all_spread(ids: &[u32]) -> bool
     ensures { result ≡ true → Distinct ids.now }
 {
     if ids.len() <= LOW_12 {
-        return spread_few(ids);
+        spread::<LOW_12>(ids)
+    } else {
+        spread::<LOW_16>(ids)
     }
-    spread_many(ids)
 }
 
 // The lowest page that holds a repeated identifier, 0 where all are distinct.
@@ -68,9 +52,8 @@ pub fn lowest_repeat(ids: &[u32], pages: &[u16]) -> u16
         return 0;
     }
     if ids.len() <= FEW_IDENTS {
-        let a = lowest_of_few(ids, pages);
-        if a.settled {
-            return a.page;
+        if let Some(page) = lowest_of_few(ids, pages) {
+            return page;
         }
     }
     lowest_of_many(ids, pages)

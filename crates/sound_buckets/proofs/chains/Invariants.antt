@@ -1,12 +1,6 @@
-use Prim.Native.Nat.{◌-◌, ◌≤◌}
-use mathlib.Core.Path.{◌≡◌}
-use lib.ListN.{length}
 use Rattle.sound_chains.specs.Chains.{Heads, Chained}
 use Rattle.sound_buckets.proofs.chains.Given as goal
 
--- `chains` chains one identifier a turn.
+-- The first i are chained.
 abbrev pub invariant-loop-i : goal.invariant-loop-i
-invariant-loop-i l = (length l.head ≡ length l.initial.head) × (length l.next ≡ length l.initial.next) × (l.i ≤ length l.ids) × Heads l.i l.ids l.head × Chained l.i l.ids l.next
-
-abbrev pub decreases-loop-i : goal.decreases-loop-i
-decreases-loop-i l = length l.ids - l.i
+invariant-loop-i l = Heads l.i l.ids l.head × Chained l.i l.ids l.next

@@ -1,6 +1,5 @@
-use mathlib.Core.Path.{refl}
+use Rattle.std.proofs.Common.{refl, arith}
 use Rattle.sound_chains.proofs.ChainLaws.{blank, room}
-use native.Mathlib.Omega.{arith}
 use Rattle.sound_buckets.proofs.lowest_of_few.Goals as goal
 
 pub compare-requires : goal.compare-requires

@@ -1,11 +1,9 @@
-use mathlib.Core.Path.{◌≡◌}
-use lib.ListN.{length}
 use Rattle.sound_buckets.proofs.BucketLaws.{Walking}
 use Rattle.sound_buckets.proofs.walk.Given as goal
 
--- `walk` meets the identifiers of one bucket, last to first. The loop's invariant is `Walking`.
+-- `walk` meets the identifiers of one bucket, last to first.
 abbrev pub invariant-loop-j : goal.invariant-loop-j
-invariant-loop-j l = (length l.seen ≡ length l.initial.seen) × Walking l.ids l.pages l.g l.seen l.j l.best
+invariant-loop-j l = Walking l.ids l.pages l.g l.seen l.j l.best
 
 abbrev pub decreases-loop-j : goal.decreases-loop-j
 decreases-loop-j l = l.j

@@ -1,37 +1,14 @@
-use mathlib.Core.Path.{◌≡◌, refl, ◌∙◌}
+use Rattle.std.proofs.Common.{◌≡◌, ◌∙◌, arith}
 use Rattle.sound_buckets.proofs.BucketLaws.{stage_none, stage_all}
-use native.Mathlib.Omega.{arith}
 use Rattle.sound_buckets.proofs.walks.Goals as goal
 
 pub loop-g-init : goal.loop-g-init
-loop-g-init c =
-    let st = c in
-    (refl, (omega arith), stage_none st.args.ids.now st.args.pages.now st.args.seen.now st.requires.5)
+loop-g-init c = stage_none c.args.ids.now c.args.pages.now c.args.seen.now c.requires.5
 
 pub walk-best-requires : goal.walk-best-requires
 walk-best-requires c =
-    let l = c.loop-g in
-    let st = c in
-    (st.requires.0, st.requires.1, l.invariant.0 ∙ st.requires.2, (omega arith), st.requires.3, st.requires.4, l.invariant.2)
-
-pub overflow_add-g : goal.overflow_add-g
-overflow_add-g c = omega arith
-
-pub loop-g-smaller : goal.loop-g-smaller
-loop-g-smaller c = omega arith
-
-pub loop-g-preserved : goal.loop-g-preserved
-loop-g-preserved c =
-    let l = c.loop-g in
-    let w = c.walk-best in
-    (w.auto.seen ∙ l.invariant.0, (omega arith), w.ensures)
-
-pub shape_of-seen : goal.shape_of-seen
-shape_of-seen c = c.loop-g.invariant.0
+    let l = c.loop-g in let r = c.requires in
+    (r.0, r.1, l.auto.seen ∙ r.2, omega arith, r.3, r.4, l.invariant)
 
 pub returns : goal.returns
-returns c =
-    let l = c.loop-g in
-    let st = c in
-    let e : l.g ≡ 16384 = omega arith in
-    stage_all st.args.ids.now st.args.pages.now l.seen l.best (rw e at l.invariant.2)
+returns c = let e : c.loop-g.g ≡ 16384 = omega arith in stage_all c.args.ids.now c.args.pages.now c.loop-g.seen c.loop-g.best (rw e at c.loop-g.invariant)

@@ -1,7 +1,6 @@
-use mathlib.Core.Path.{ap, ◌∙◌}
+use Rattle.std.proofs.Common.{ap, ◌∙◌, arith}
 use Rattle.sound_chains.specs.Repeats.{lower_page}
 use Rattle.sound_chains.proofs.ChainLaws.{met_none, met_apart, met_same}
-use native.Mathlib.Omega.{arith}
 use Rattle.sound_chains.proofs.met.Goals as goal
 
 -- `met` is `met_of`.

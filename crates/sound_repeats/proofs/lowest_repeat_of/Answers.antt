@@ -1,5 +1,4 @@
-use lib.ListN.{length-take}
-use native.Mathlib.Omega.{arith}
+use Rattle.std.proofs.Common.{length-take, arith}
 use Rattle.sound_repeats.proofs.lowest_repeat_of.Goals as goal
 
 -- `lowest_repeat_of` hands over the first n.
