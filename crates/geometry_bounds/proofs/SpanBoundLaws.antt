@@ -22,15 +22,15 @@ pub least_sliced : (fs : List Feature) (i lo hi r h v : ℕ) → LeastAt (slice_
 least_sliced fs i lo hi r h v m u e k = k ∙ (ap (slice_at fs i) e ∙ sym (least_in_is fs i lo hi r m u))
 
 -- the pyramids between the ends
-pub between_none : (whole : List ℕ) (b i : ℕ) → b ≡ least_between whole b i (i - i)
+pub between_none : (whole : List ℕ) (b i : ℕ) → least_between whole b i 0 ≡ b
 unfolding least_between
-between_none whole b i = let e : i - i ≡ 0 = omega arith in rw e
+between_none whole b i = refl
 
-pub between_more : (whole : List ℕ) (b i1 i : ℕ) → i1 ≤ i → min (least_between whole b i1 (i - i1)) (get_or whole (i + 1) 0) ≡ least_between whole b i1 (i + 1 - i1)
+pub between_more : (whole : List ℕ) (b i n : ℕ) → least_between whole b i (n + 1) ≡ min (least_between whole b i n) (get_or whole (i + 1 + n) 0)
 unfolding least_between
-between_more whole b i1 i l =
-    let e : i + 1 - i1 ≡ suc (i - i1) = omega arith in
-    let k : i1 + suc (i - i1) ≡ i + 1 = omega arith in
+between_more whole b i n =
+    let e : n + 1 ≡ suc n = omega arith in
+    let k : i + suc n ≡ i + 1 + n = omega arith in
     rw (e, k)
 
 between_is : (fs : List Feature) (whole : List ℕ) (D i h n : ℕ) → ((k : ℕ) → k < D → get_or whole k 0 ≡ least_in fs k (lowest_of (length fs) k) 1000) → i + n < D
