@@ -1,17 +1,9 @@
 -- What the code computes by tests, tables and arithmetic is what the definitions say.
-use mathlib.Core.Path.{◌≡◌, refl, sym, ap, ◌∙◌}
-use mathlib.Core.Bool.{Bool, true, false}
-use mathlib.Core.Logic.{◌≢◌, ◌⊎◌, inl, inr}
-use mathlib.Core.List.{List, [], ◌∷◌}
-use Prim.Native.Nat.{ℕ, zero, suc, ◌+◌, ◌*◌, ◌-◌, ◌/◌, ◌%◌, ◌≤◌, ◌<◌}
-use native.Mathlib.Omega.{arith}
-use lib.Dec.{ltb, eqb}
-use lib.ListN.{get_or, get_or-eq_default}
-use borrow.Author.Tests.{eqb-true, eq-eqb, ne_eqb, lt-ltb, le-ltb}
+use Rattle.std.proofs.Common.{◌≡◌, refl, sym, ap, ◌∙◌, Bool, true, false, ◌≢◌, ◌⊎◌, inl, inr, List, [], ◌∷◌, ℕ, zero, suc, ◌+◌, ◌*◌, ◌-◌, ◌/◌, ◌%◌, ◌≤◌, ◌<◌, arith, ltb, eqb, get_or, eqb-true, eq-eqb, ne_eqb, lt-ltb, le-ltb, ◌&&◌}
+use Rattle.std.proofs.Math.ListN.{get_or-eq_default}
 use Rattle.lists.specs.Basics.{if, indicator}
 use Rattle.lists.specs.Tests.{decide}
 use Rattle.lists.specs.Choices.{bool_cases}
-use Rattle.std.specs.Prelude.{◌&&◌}
 use Rattle.calendar.specs.declared.Date.{Date}
 use Rattle.calendar.specs.Dates.{leap, lengths, month_days}
 use Rattle.calendar.specs.Counting.{in_calendar, days_of_years, days_of_months, number_of, day_number}

@@ -1,11 +1,5 @@
 -- The next date exists and has the next number; so the number of the nth date after 1 January 2000 is n.
-use mathlib.Core.Path.{◌≡◌, refl, ap, ◌∙◌}
-use mathlib.Core.Bool.{Bool, true, false}
-use Prim.Native.Nat.{ℕ, zero, suc, ◌+◌, ◌-◌, ◌≤◌, ◌<◌}
-use native.Mathlib.Numerals.{add-one}
-use native.Mathlib.Omega.{arith}
-use lib.Dec.{ltb}
-use borrow.Author.Tests.{ltb-true, ltb-false}
+use Rattle.std.proofs.Common.{◌≡◌, refl, ap, ◌∙◌, Bool, true, false, ℕ, zero, suc, ◌+◌, ◌-◌, ◌≤◌, ◌<◌, add-one, arith, ltb, ltb-true, ltb-false}
 use Rattle.lists.specs.Basics.{if}
 use Rattle.lists.specs.Choices.{if_cases}
 use Rattle.calendar.specs.declared.Date.{Date}

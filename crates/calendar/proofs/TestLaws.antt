@@ -1,11 +1,5 @@
 -- The tests of a date, of the order of two dates and of the number agree with the definitions.
-use mathlib.Core.Path.{◌≡◌}
-use mathlib.Core.Bool.{true}
-use mathlib.Core.Logic.{inl, inr}
-use Prim.Native.Nat.{◌≤◌}
-use native.Mathlib.Omega.{arith}
-use lib.Dec.{ltb}
-use borrow.Author.Tests.{ltb-true, ltb-false, lt-ltb, le-ltb}
+use Rattle.std.proofs.Common.{◌≡◌, true, inl, inr, ◌≤◌, arith, ltb, ltb-true, ltb-false, lt-ltb, le-ltb}
 use Rattle.lists.specs.Tests.{by_cases, false_true}
 use Rattle.calendar.specs.declared.Date.{Date}
 use Rattle.calendar.specs.Dates.{days_in, InCalendar, Before}

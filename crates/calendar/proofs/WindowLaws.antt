@@ -1,7 +1,5 @@
 -- A stamp lies in a question's window just if the date of its recording day is from the first to the last, or no dates are given.
-use mathlib.Core.Path.{◌≡◌, refl, sym, ap, ◌∙◌, subst}
-use Prim.Native.Nat.{ℕ, ◌+◌, ◌-◌, ◌/◌, ◌≤◌, ◌<◌}
-use native.Mathlib.Omega.{arith}
+use Rattle.std.proofs.Common.{◌≡◌, refl, sym, ap, ◌∙◌, subst, ℕ, ◌+◌, ◌-◌, ◌/◌, ◌≤◌, ◌<◌, arith}
 use Rattle.calendar.specs.declared.Dates.{Dates}
 use Rattle.calendar.specs.Dates.{InCalendar, date_at}
 use Rattle.calendar.specs.Days.{noon, DayOf, InDays}

@@ -1,13 +1,5 @@
 -- `bound_of` is the bound (01) of every span of two real pairs, and the only one; it is below the distance of every point of the span.
-use mathlib.Core.Path.{◌≡◌, refl, ◌∙◌}
-use mathlib.Core.Bool.{Bool}
-use mathlib.Core.Logic.{inl, inr, ◌≢◌}
-use mathlib.Core.List.{List, [], ◌∷◌}
-use Prim.Native.Nat.{ℕ, zero, suc, min, max, ◌+◌, ◌-◌, ◌*◌, ◌≤◌, ◌<◌}
-use native.Mathlib.Omega.{arith}
-use native.Mathlib.Nat.{le_antisymm, le_trans, le_of_eq, le_refl, mul-le-mul}
-use lib.IntN.{ℤ, pos, nat_abs}
-use lib.ListN.{length}
+use Rattle.std.proofs.Common.{◌≡◌, refl, ◌∙◌, Bool, inl, inr, ◌≢◌, List, [], ◌∷◌, ℕ, zero, suc, min, max, ◌+◌, ◌-◌, ◌*◌, ◌≤◌, ◌<◌, arith, le_antisymm, le_trans, le_of_eq, le_refl, mul-le-mul, ℤ, pos, nat_abs, length}
 use Rattle.geometry.proofs.GapLaws.{gap_le}
 use Rattle.geometry.proofs.ConvexLaws.{at_convex}
 use Rattle.geometry.proofs.SliceLaws.{axis_abs}

@@ -1,12 +1,5 @@
 -- The examples of 01 marked P hold. A bound's height is given; that it is least is a test of its two neighbours, by convexity.
-use mathlib.Core.Path.{◌≡◌, refl}
-use mathlib.Core.List.{List, [], ◌∷◌}
-use Prim.Native.Nat.{ℕ, ◌+◌, ◌≤◌, ◌<◌}
-use native.Mathlib.Omega.{arith}
-use lib.Dec.{lit≤, lit<}
-use lib.IntN.{ℤ, pos, neg_ℤ}
-use lib.ListN.{length}
-use mathlib.Core.Logic.{inr}
+use Rattle.std.proofs.Common.{◌≡◌, refl, List, [], ◌∷◌, ℕ, ◌+◌, ◌≤◌, ◌<◌, arith, lit≤, lit<, ℤ, pos, neg_ℤ, length, inr}
 use Rattle.lists.specs.Basics.{All, none, also}
 use Rattle.geometry.proofs.BoundLaws.{bound_exact}
 use Rattle.geometry.proofs.SliceLaws.{plain_ordered}

@@ -1,12 +1,6 @@
 -- The gap of a number from a range: on an axis, beside it, and as the code computes it.
-use mathlib.Core.Path.{◌≡◌, refl, sym, ap, ap₂, ◌∙◌}
-use mathlib.Core.Bool.{Bool, true, false}
-use Prim.Native.Nat.{ℕ, zero, suc, max, ◌+◌, ◌-◌, ◌≤◌, ◌<◌}
-use native.Mathlib.Omega.{arith}
-use native.Mathlib.Nat.{le_refl, le_of_eq}
-use native.Mathlib.Decide.{dec_le}
-use lib.IntN.{ℤ, pos, negsuc, nat_abs, neg_ℤ, ◌-ℤ◌}
-use lib.Signed.{◌≤ℤ◌}
+use Rattle.std.proofs.Common.{◌≡◌, refl, sym, ap, ap₂, ◌∙◌, Bool, true, false, ℕ, zero, suc, max, ◌+◌, ◌-◌, ◌≤◌, ◌<◌, arith, le_refl, le_of_eq, ℤ, pos, negsuc, nat_abs, neg_ℤ, ◌-ℤ◌, ◌≤ℤ◌}
+use Rattle.std.proofs.Math.Decide.{dec_le}
 use Rattle.geometry.proofs.IntLaws.{lower, abs_parts, over_parts, gap_parts, le_parts, neg_abs}
 use Rattle.geometry.proofs.StoredLaws.{coord_parts, parts_back, axis_low, axis_high}
 use Rattle.geometry.specs.Features.{upper, gap_of}

@@ -1,10 +1,6 @@
 -- The least height at which a convex function is least: found by bisection, kept by clamping; and its value.
-use mathlib.Core.Path.{◌≡◌, refl, ap}
-use Prim.Native.Nat.{ℕ, zero, suc, min, max, pred, ◌+◌, ◌-◌, ◌≤◌, ◌<◌}
-use native.Mathlib.Omega.{arith}
-use native.Mathlib.Nat.{le_trans, le_of_eq, le_of_lt, le_antisymm}
-use native.Mathlib.Numerals.{add-one}
-use native.Mathlib.Decide.{dec_lt, dec_le}
+use Rattle.std.proofs.Common.{◌≡◌, refl, ap, ℕ, zero, suc, min, max, pred, ◌+◌, ◌-◌, ◌≤◌, ◌<◌, arith, le_trans, le_of_eq, le_of_lt, le_antisymm, add-one}
+use Rattle.std.proofs.Math.Decide.{dec_lt, dec_le}
 use Rattle.geometry.proofs.ConvexLaws.{Convex, rises, falls}
 use Rattle.geometry.specs.Slices.{LeastAt, least_from}
 

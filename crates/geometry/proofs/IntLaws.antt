@@ -1,11 +1,6 @@
 -- Laws of small signed numbers: the one place that goes by the signs.
-use mathlib.Core.Path.{◌≡◌, refl, ◌∙◌}
-use mathlib.Core.Bool.{Bool, true, false, cond, not}
-use Prim.Native.Nat.{ℕ, zero, suc, ◌+◌, ◌-◌, ◌≤◌, ◌<◌}
-use native.Mathlib.Omega.{arith}
-use lib.Dec.{T, ltb, ltb→lt, nltb→le, leb→le}
-use lib.IntN.{ℤ, pos, negsuc, nat_abs, neg_ℤ, sub_ℕ, ◌-ℤ◌}
-use lib.Signed.{◌≤ℤ◌}
+use Rattle.std.proofs.Common.{◌≡◌, refl, ◌∙◌, Bool, true, false, cond, not, ℕ, zero, suc, ◌+◌, ◌-◌, ◌≤◌, ◌<◌, arith, T, ltb, ltb→lt, nltb→le, leb→le, ℤ, pos, negsuc, nat_abs, neg_ℤ, ◌-ℤ◌, ◌≤ℤ◌}
+use Rattle.std.proofs.Math.IntN.{sub_ℕ}
 use Rattle.geometry.specs.Features.{upper}
 
 subℕ_abs' : (b : Bool) (x y : ℕ) → (T b → x < y) → (T (not b) → y ≤ x) → nat_abs (cond b (negsuc (y - suc x)) (pos (x - y))) ≡ (x - y) + (y - x)

@@ -1,22 +1,11 @@
 -- What each turn of a loop over coordinates adds, with the coordinates from m on still to come.
-use mathlib.Core.Path.{◌≡◌, refl, ap, ◌∙◌}
-use mathlib.Core.Bool.{false}
-use mathlib.Core.List.{List, [], ◌∷◌, ◌++◌, map}
-use mathlib.Core.Logic.{◌≢◌}
-use Prim.Native.Nat.{ℕ, zero, suc, max, ◌+◌, ◌*◌, ◌-◌, ◌/◌, ◌%◌, ◌≤◌, ◌<◌}
-use native.Mathlib.Omega.{arith}
-use native.Mathlib.Nat.{mul-le-mul}
-use native.Mathlib.Numerals.{add-one}
-use borrow.Author.Tests.{eq-eqb, ne_eqb, leb-true, leb-false}
-use lib.Dec.{leb}
-use lib.IntN.{ℤ, pos, nat_abs}
-use lib.ListN.{length, get_or, take, drop, set, replicate, drop_of_length-le}
-use lib.Seq.{drop-cons, take-length}
+use Rattle.std.proofs.Common.{◌≡◌, refl, ap, ◌∙◌, false, List, [], ◌∷◌, ◌++◌, map, ◌≢◌, ℕ, zero, suc, max, ◌+◌, ◌*◌, ◌-◌, ◌/◌, ◌%◌, ◌≤◌, ◌<◌, arith, mul-le-mul, add-one, eq-eqb, ne_eqb, leb-true, leb-false, leb, ℤ, pos, nat_abs, length, get_or, take, drop, set, replicate, drop_of_length-le, drop-cons, ◌&&◌}
+use Rattle.std.proofs.Math.Seq.{take-length}
 use Rattle.lists.specs.Basics.{if}
 use Rattle.lists.specs.Tests.{by_cases}
 use Rattle.lists.specs.Choices.{bool_cases}
 use Rattle.std.specs.List.{list_all}
-use Rattle.std.specs.Prelude.{◌&&◌}
+use Rattle.geometry.proofs.PairLaws.{axis_inside}
 use Rattle.geometry.proofs.StoredLaws.{length_point, point_at, coord_gap}
 use Rattle.geometry.specs.Points.{is_neg, height_of, axis_at, axis_of, pyramid_of, distance}
 use Rattle.geometry.specs.Stored.{coord_of, point_of, stored, slots_of, in_range}
@@ -136,6 +125,13 @@ top_height t h j e = omega arith
 
 pub top_axis : (t h j : ℕ) → t ≡ h * 16 + (15 - j) → j < 16 → 15 - t % 16 ≡ j
 top_axis t h j e l = omega arith
+
+-- of which the axis is a coordinate of the point
+pub axis_in : (p : List ℕ) (t h : ℕ) → (0 < length p) × (length p ≤ 16) → t ≡ h * 16 + (15 - axis_of (point_of p))
+    → (15 - t % 16 ≡ axis_of (point_of p)) × (15 - t % 16 < length p)
+axis_in p t h r e =
+    let l = axis_inside (point_of p) (omega (arith, length_point p, r)) in
+    (omega (arith, length_point p), omega (arith, length_point p))
 
 -- the first coordinate of greatest magnitude and its sign make the pyramid number
 pub pyramid_is : (p : List ℕ) (j : ℕ) → j < length p → j ≡ axis_of (point_of p) → if (is_neg (coord_of (get_or p j 0))) j (j + length p) ≡ pyramid_of (point_of p)

@@ -1,13 +1,7 @@
 -- The closed form of a slice is the least distance to its grid points: below each of them, and reached.
-use mathlib.Core.Path.{◌≡◌, refl, sym, ap, ap₂, ◌∙◌}
-use mathlib.Core.Bool.{Bool, true, false}
-use mathlib.Core.List.{List, [], ◌∷◌}
-use Prim.Native.Nat.{ℕ, zero, suc, ◌+◌, ◌-◌, ◌*◌, ◌≤◌, ◌<◌}
-use native.Mathlib.Omega.{arith}
-use native.Mathlib.Nat.{add-le-add, le_of_eq, suc_inj}
-use lib.IntN.{ℤ, pos, negsuc, nat_abs, neg_ℤ}
-use lib.ListN.{length}
-use lib.Signed.{◌≤ℤ◌, ≤ℤ_refl}
+use Rattle.std.proofs.Common.{◌≡◌, refl, sym, ap, ap₂, ◌∙◌, Bool, true, false, List, [], ◌∷◌, ℕ, zero, suc, ◌+◌, ◌-◌, ◌*◌, ◌≤◌, ◌<◌, arith, add-le-add, le_of_eq, ℤ, pos, negsuc, nat_abs, neg_ℤ, length, ◌≤ℤ◌}
+use Rattle.std.proofs.Math.Nat.{suc_inj}
+use Rattle.std.specs.Int.Signed.{≤ℤ_refl}
 use Rattle.geometry.proofs.IntLaws.{neg_abs}
 use Rattle.geometry.proofs.GapLaws.{gap_ge, gap_point, near, near_in, near_gap}
 use Rattle.geometry.proofs.ConvexLaws.{cost_mono}

@@ -1,15 +1,6 @@
 -- The least over a span's real pairs of the least distance to a pair's slice is the bound of the span.
-use mathlib.Core.Path.{◌≡◌, refl, sym, ◌∙◌}
-use mathlib.Core.Logic.{◌⊎◌, inl, inr, ⊎_elim, ◌≢◌}
-use mathlib.Core.Bool.{Bool, true, false}
-use mathlib.Core.List.{List, [], ◌∷◌}
-use Prim.Native.Nat.{ℕ, zero, suc, min, ◌+◌, ◌≤◌, ◌<◌}
-use native.Mathlib.Omega.{arith}
-use native.Mathlib.Nat.{le_trans, le_of_eq}
-use native.Mathlib.Decide.{dec_lt, ℕ_discrete}
-use borrow.Author.Tests.{lt-ltb, le-ltb, eq-eqb, ne_eqb}
-use lib.IntN.{ℤ, pos, negsuc, nat_abs}
-use lib.ListN.{length, get_or}
+use Rattle.std.proofs.Common.{◌≡◌, refl, sym, ◌∙◌, ◌⊎◌, inl, inr, ⊎_elim, ◌≢◌, Bool, true, false, List, [], ◌∷◌, ℕ, zero, suc, min, ◌+◌, ◌≤◌, ◌<◌, arith, le_trans, le_of_eq, lt-ltb, le-ltb, eq-eqb, ne_eqb, ℤ, pos, negsuc, nat_abs, length, get_or}
+use Rattle.std.proofs.Math.Decide.{dec_lt, ℕ_discrete}
 use Rattle.lists.specs.Basics.{if}
 use Rattle.geometry.proofs.PairLaws.{InSlice, own, slice_height, slice_pyramid, slice_inside, side_of, side_range, height_range}
 use Rattle.geometry.proofs.SliceLaws.{HasPoints, slice_below, near_slice, near_slice_length, near_slice_in, near_slice_dist}

@@ -1,18 +1,6 @@
 -- Stored coordinates: what a stored number's coordinate is, and that a point in range is read back as it was stored.
-use mathlib.Core.Path.{◌≡◌, refl, sym, ap, ap₂, ◌∙◌}
-use mathlib.Core.Bool.{Bool, true, false}
-use mathlib.Core.List.{List, [], ◌∷◌, ◌++◌, map}
-use Prim.Native.Nat.{ℕ, zero, suc, ◌+◌, ◌-◌, ◌/◌, ◌≤◌, ◌<◌}
-use native.Mathlib.Omega.{arith}
-use native.Mathlib.Nat.{add_comm}
-use borrow.Author.Tests.{le-ltb, lt-ltb, ltb-true, ltb-false, le-leb, leb-true}
-use lib.Dec.{leb, ltb}
-use lib.IntN.{ℤ, pos, negsuc, nat_abs, ◌+ℤ◌, ◌-ℤ◌}
-use lib.ListN.{length, get_or, take, replicate, length-map}
-use lib.Seq.{take_at}
-use mir.Syntax.{w16}
-use mir.Val.{SFits, to_z, of_z}
-use mir.Facts.{to_z-of_z}
+use Rattle.std.proofs.Common.{◌≡◌, refl, sym, ap, ap₂, ◌∙◌, Bool, true, false, List, [], ◌∷◌, ◌++◌, map, ℕ, zero, suc, ◌+◌, ◌-◌, ◌/◌, ◌≤◌, ◌<◌, arith, add_comm, le-ltb, lt-ltb, ltb-true, ltb-false, le-leb, leb-true, leb, ltb, ℤ, pos, negsuc, nat_abs, ◌+ℤ◌, ◌-ℤ◌, length, get_or, take, replicate, take_at, w16, SFits, to_z, of_z, to_z-of_z}
+use Rattle.std.proofs.Math.ListN.{length-map}
 use Rattle.lists.specs.Basics.{if, All, none, also}
 use Rattle.lists.specs.Tests.{by_cases}
 use Rattle.geometry.proofs.IntLaws.{lower, gap_pos, gap_parts}

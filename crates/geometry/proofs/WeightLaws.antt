@@ -1,13 +1,6 @@
 -- A point with a weight for each coordinate: the distance by it in Q-1's words (02), weights of ones and of zeros.
-use mathlib.Core.Path.{◌≡◌, refl, sym, ap, ap₂, ◌∙◌, subst}
-use mathlib.Core.List.{List, [], ◌∷◌}
-use Prim.Native.Nat.{ℕ, suc, ◌+◌, ◌-◌, ◌*◌, ◌≤◌, ◌<◌}
-use native.Mathlib.Omega.{arith}
-use native.Mathlib.Numerals.{add-one}
-use lib.IntN.{ℤ}
-use lib.ListN.{length, get_or, drop, replicate, drop_of_length-le}
-use lib.Seq.{drop-cons}
-use lib.Signed.{≤ℤ_refl}
+use Rattle.std.proofs.Common.{◌≡◌, refl, sym, ap, ap₂, ◌∙◌, subst, List, [], ◌∷◌, ℕ, suc, ◌+◌, ◌-◌, ◌*◌, ◌≤◌, ◌<◌, arith, add-one, ℤ, length, get_or, drop, replicate, drop_of_length-le, drop-cons}
+use Rattle.std.specs.Int.Signed.{≤ℤ_refl}
 use Rattle.lists.specs.Basics.{All, also}
 use Rattle.geometry.proofs.GapLaws.{gap_point}
 use Rattle.geometry.proofs.SliceLaws.{plain_distance}

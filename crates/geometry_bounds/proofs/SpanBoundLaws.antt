@@ -1,9 +1,5 @@
 -- The bound from the tables: a pyramid at some heights, the whole pyramids between the ends of a span, and the span.
-use mathlib.Core.Path.{◌≡◌, refl, sym, ap, ap₂, ◌∙◌}
-use mathlib.Core.List.{List}
-use Prim.Native.Nat.{ℕ, zero, suc, min, max, ◌+◌, ◌-◌, ◌≤◌, ◌<◌}
-use native.Mathlib.Omega.{arith}
-use lib.ListN.{length, get_or}
+use Rattle.std.proofs.Common.{◌≡◌, refl, sym, ap, ap₂, ◌∙◌, List, ℕ, zero, suc, min, max, ◌+◌, ◌-◌, ◌≤◌, ◌<◌, arith, length, get_or}
 use Rattle.geometry.proofs.BoundLaws.{least_in_is}
 use Rattle.geometry_slices.proofs.PackedLaws.{asked_length, asked_few}
 use Rattle.geometry.specs.Features.{Feature}

@@ -1,12 +1,6 @@
 -- The list of a question, filled place by place.
-use mathlib.Core.Path.{◌≡◌, refl, sym, ap, ◌∙◌}
-use mathlib.Core.List.{List}
-use mathlib.Core.Logic.{◌≢◌}
-use Prim.Native.Nat.{ℕ, ◌+◌, ◌≤◌, ◌<◌}
-use native.Mathlib.Omega.{arith}
-use native.Mathlib.Decide.{ℕ_discrete}
-use lib.ListN.{length, get_or, take, drop, set, length-set, length-take, length-drop}
-use lib.Seq.{get_or-set_same, get_or-set_other, get_or-take, get_or-drop, ext_get_or, length-take-le}
+use Rattle.std.proofs.Common.{◌≡◌, refl, sym, ap, ◌∙◌, List, ◌≢◌, ℕ, ◌+◌, ◌≤◌, ◌<◌, arith, length, get_or, take, drop, set, length-set, length-take, length-drop, get_or-set_same, get_or-set_other, get_or-take, get_or-drop, ext_get_or, length-take-le}
+use Rattle.std.proofs.Math.Decide.{ℕ_discrete}
 use Rattle.geometry_slices.proofs.QuestionLaws.{Even, length_reaches, reach_at_place}
 use Rattle.geometry_slices.specs.Questions.{features_of, reach_at, reaches_of, size_of, asked_of, Packed, LaidOut}
 

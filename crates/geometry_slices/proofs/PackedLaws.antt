@@ -1,10 +1,5 @@
 -- A question in one list: its parts.
-use mathlib.Core.Path.{◌≡◌, ◌∙◌}
-use mathlib.Core.List.{List}
-use Prim.Native.Nat.{ℕ, ◌-◌, ◌≤◌, ◌<◌}
-use native.Mathlib.Omega.{arith}
-use borrow.Author.Tests.{lt-ltb, le-ltb}
-use lib.ListN.{length, length-take}
+use Rattle.std.proofs.Common.{◌≡◌, ◌∙◌, List, ℕ, ◌-◌, ◌≤◌, ◌<◌, arith, lt-ltb, le-ltb, length, length-take}
 use Rattle.geometry_slices.proofs.QuestionLaws.{prepared_length}
 use Rattle.geometry.specs.Slices.{axis_no}
 use Rattle.geometry_slices.specs.Questions.{size_of, part_from, asked_of, Packed}

@@ -1,10 +1,6 @@
 -- A question's numbers by place: its coordinates, and the sums of a slice.
-use mathlib.Core.Path.{◌≡◌, refl, ap}
-use mathlib.Core.List.{List, [], ◌∷◌}
-use Prim.Native.Nat.{ℕ, zero, suc, ◌<◌}
-use native.Mathlib.Omega.{arith}
-use native.Mathlib.Nat.{suc_inj}
-use lib.ListN.{length, get_or}
+use Rattle.std.proofs.Common.{◌≡◌, refl, ap, List, [], ◌∷◌, ℕ, zero, suc, ◌<◌, arith, length, get_or}
+use Rattle.std.proofs.Math.Nat.{suc_inj}
 use Rattle.geometry.specs.Features.{Feature, weighted}
 use Rattle.geometry.specs.Stored.{coord_of, point_of}
 use Rattle.geometry_slices.specs.Questions.{features_of, reach_at, reaches_of, Prepared}

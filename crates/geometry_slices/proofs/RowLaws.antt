@@ -1,15 +1,6 @@
 -- Sums by place, and a slice as one such sum over the row of its axis.
-use mathlib.Core.Path.{◌≡◌, refl, sym, ap, ap₂, ◌∙◌}
-use mathlib.Core.Bool.{Bool}
-use mathlib.Core.List.{List, [], ◌∷◌}
-use mathlib.Core.Logic.{◌≢◌}
-use Prim.Native.Nat.{ℕ, zero, suc, ◌+◌, ◌*◌, ◌-◌, ◌≤◌, ◌<◌}
-use native.Mathlib.Omega.{arith}
-use native.Mathlib.Nat.{suc-mul, mul-suc}
-use native.Mathlib.Decide.{ℕ_discrete, dec_le, dec_lt}
-use borrow.Author.Tests.{eq-eqb, ne_eqb, lt-ltb, le-ltb}
-use lib.Dec.{ltb, eqb}
-use lib.ListN.{length, get_or}
+use Rattle.std.proofs.Common.{◌≡◌, refl, sym, ap, ap₂, ◌∙◌, Bool, List, [], ◌∷◌, ◌≢◌, ℕ, zero, suc, ◌+◌, ◌*◌, ◌-◌, ◌≤◌, ◌<◌, arith, suc-mul, mul-suc, eq-eqb, ne_eqb, lt-ltb, le-ltb, ltb, eqb, length, get_or}
+use Rattle.std.proofs.Math.Decide.{ℕ_discrete, dec_le, dec_lt}
 use Rattle.lists.specs.Basics.{if, indicator}
 use Rattle.geometry.specs.Features.{Feature, gap_to, cost_of}
 use Rattle.geometry.specs.Slices.{on_axis, reach_of, side_by, slice_by}

@@ -1,17 +1,9 @@
 -- A question without weights, coordinate by coordinate.
-use mathlib.Core.Path.{◌≡◌, refl, sym, ap₂, subst, ◌∙◌}
-use mathlib.Core.Bool.{Bool, true, false}
-use mathlib.Core.List.{List}
-use Prim.Native.Nat.{ℕ, ◌+◌, ◌*◌, ◌-◌, ◌≤◌, ◌<◌}
-use native.Mathlib.Omega.{arith}
-use native.Mathlib.Nat.{mul-le-mul}
-use native.Mathlib.Decide.{dec_lt}
-use lib.Dec.{ltb, eqb}
-use lib.ListN.{length, get_or, drop, length-take, length-drop}
+use Rattle.std.proofs.Common.{◌≡◌, refl, sym, ap₂, subst, ◌∙◌, Bool, true, false, List, ℕ, ◌+◌, ◌*◌, ◌-◌, ◌≤◌, ◌<◌, arith, mul-le-mul, ltb, eqb, length, get_or, drop, length-take, length-drop, zip, HoldsAt, MatchBool}
+use Rattle.std.proofs.Math.Decide.{dec_lt}
 use Rattle.lists.specs.Basics.{if, indicator}
 use Rattle.lists.specs.Tests.{false_true}
-use Rattle.std.specs.List.{zip, AllWithin, HoldsAt}
-use Rattle.std.specs.Bool.{MatchBool}
+use Rattle.std.specs.List.{AllWithin}
 use Rattle.std.proofs.lemmas.Slice.Zip.{length-zip, get_or-zip}
 use Rattle.geometry_slices.proofs.PackedLaws.{asked_few}
 use Rattle.geometry_slices.proofs.RowLaws.{sum_ext}

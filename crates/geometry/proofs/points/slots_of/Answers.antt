@@ -1,6 +1,4 @@
-use Rattle.std.proofs.Common.{◌∙◌, ◌≡◌, List, ℕ, ℤ, arith, get_or, pos, true}
-use mir.Syntax.{w16}
-use mir.Val.{to_z, of_z}
+use Rattle.std.proofs.Common.{◌∙◌, ◌≡◌, List, ℕ, ℤ, arith, get_or, pos, true, w16, to_z, of_z}
 use Rattle.geometry.specs.Stored.{in_range}
 use Rattle.geometry.proofs.StoredLaws.{in_range_law, range_at, word_back}
 use Rattle.geometry.proofs.LoopLaws.{slots_more, slots_end}
@@ -17,7 +15,7 @@ pub loop-m-preserved : goal.loop-m-preserved
 loop-m-preserved c =
     let p = c.args.p.now in let l = c.loop-m in
     let v = rw (read_back p l.m c.requires.1) at c.slot.ensures in
-    (omega arith, rw l.invariant.1 (slots_more p l.m c.slot.result (omega arith) c.requires.0 v))
+    rw l.invariant (slots_more p l.m c.slot.result (omega arith) c.requires.0 v)
 
 pub returns : goal.returns
-returns c = let p = c.args.p.now in let l = c.loop-m in l.invariant.1 ∙ slots_end p l.m (omega arith)
+returns c = let p = c.args.p.now in let l = c.loop-m in l.invariant ∙ slots_end p l.m (omega arith)

@@ -5,7 +5,6 @@ use Rattle.geometry.proofs.points.top_lead.Goals as goal
 pub loop-m-preserved : goal.loop-m-preserved
 loop-m-preserved c =
     let L = c.loop-m in (
-      omega arith,
       omega (arith, c.max-top.ensures, c.lead.ensures, L.invariant),
       omega (arith, c.max-top.ensures, c.lead.ensures, lead_more c.args.p.now L.m (omega arith), L.invariant),
     )

@@ -1,5 +1,4 @@
-use Rattle.std.proofs.Common.{rules, ◌≡◌, ◌+◌, ◌-◌, length, arith}
-use borrow.Author.Tests.{tests}
+use Rattle.std.proofs.Common.{rules, ◌≡◌, ◌+◌, ◌-◌, length, arith, tests}
 use Rattle.std.proofs.lemmas.Iterator.{cases_from_all, YieldsList-from_slice, YieldsList-from_zip}
 use Rattle.geometry_slices.specs.Questions.{NoWeight, part_from, weights_from, reaches_from}
 use Rattle.geometry_slices.proofs.UnweightedLaws.{unweighted_all}

@@ -1,6 +1,4 @@
-use native.Mathlib.Omega.{arith}
-use mathlib.Core.Path.{ap, ◌∙◌}
-use Prim.Native.Nat.{ℕ}
+use Rattle.std.proofs.Common.{arith, ap, ◌∙◌, ℕ}
 use Rattle.geometry_slices.specs.Questions.{sum_to, row_from, row_cost}
 use Rattle.geometry_slices.proofs.UnweightedLaws.{row_room, squares, unweighted_sum}
 use Rattle.geometry_slices.proofs.slices.row_cost.Goals as goal

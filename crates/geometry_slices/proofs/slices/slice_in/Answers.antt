@@ -1,5 +1,4 @@
-use mathlib.Core.Path.{refl, ap, ◌∙◌}
-use Prim.Native.Nat.{ℕ, ◌+◌}
+use Rattle.std.proofs.Common.{refl, ap, ◌∙◌, ℕ, ◌+◌}
 use Rattle.geometry_slices.proofs.WholeLaws.{slice_of}
 use Rattle.geometry_slices.proofs.slices.slice_in.Goals as goal
 

@@ -1,4 +1,4 @@
-use mathlib.Core.Path.{refl}
+use Rattle.std.proofs.Common.{refl}
 use Rattle.geometry_slices.proofs.WholeLaws.{rows_over}
 use Rattle.geometry_slices.proofs.tables.fill_rows.Goals as goal
 

@@ -1,7 +1,4 @@
-use native.Mathlib.Omega.{arith}
-use mathlib.Core.Path.{◌≡◌, sym, ap, ◌∙◌}
-use Prim.Native.Nat.{ℕ, max, ◌+◌, ◌<◌}
-use lib.ListN.{length, get_or, length-set}
+use Rattle.std.proofs.Common.{arith, ◌≡◌, sym, ap, ◌∙◌, ℕ, max, ◌+◌, ◌<◌, length, get_or, length-set}
 use Rattle.lists.specs.Basics.{below_stored}
 use Rattle.geometry_slices.specs.Questions.{size_of, asked_of}
 use Rattle.geometry.specs.Slices.{lowest_of, least_in}
