@@ -1,22 +1,13 @@
 -- The tables of the lanes, filled row by row.
-use mathlib.Core.Path.{◌≡◌, refl, sym, ap, ◌∙◌}
-use mathlib.Core.Bool.{Bool, true, false}
-use mathlib.Core.List.{List}
-use mathlib.Core.Logic.{◌≢◌}
-use Prim.Native.Nat.{ℕ, ◌+◌, ◌*◌, ◌-◌, ◌≤◌, ◌<◌}
-use native.Mathlib.Omega.{arith}
+use Rattle.std.proofs.Common.{◌≡◌, refl, sym, ap, ◌∙◌, Bool, true, false, List, ◌≢◌, ℕ, ◌+◌, ◌*◌, ◌-◌, ◌≤◌, ◌<◌, arith, eq-eqb, ne_eqb, lt-ltb, le-ltb, ltb-false, ltb, length, get_or, set, length-set, get_or-set_same, get_or-set_other}
 use native.Mathlib.Decide.{ℕ_discrete, dec_lt}
-use borrow.Author.Tests.{eq-eqb, ne_eqb, lt-ltb, le-ltb, ltb-false}
-use lib.Dec.{ltb}
-use lib.ListN.{length, get_or, set, length-set}
-use lib.Seq.{get_or-set_same, get_or-set_other}
 use Rattle.lists.specs.Basics.{if, indicator}
 use Rattle.geometry_slices.proofs.PackedLaws.{asked_few, axis_low, axis_high}
 use Rattle.geometry_slices.proofs.TableLaws.{reach_in}
 use Rattle.geometry_lanes.proofs.SlopeLaws.{low_le}
-use Rattle.geometry.specs.Slices.{axis_no, Nearest}
-use Rattle.geometry_slices.specs.Questions.{size_of, asked_of, row_at, Filled}
-use Rattle.geometry_lanes.specs.Lanes.{own_from, from_at, odd_of, Bounded, Axes, Falls, Weights, Sides, side_in, same, copied, Blank}
+use Rattle.geometry.specs.Slices.{axis_no}
+use Rattle.geometry_slices.specs.Questions.{size_of, row_at, Filled}
+use Rattle.geometry_lanes.specs.Lanes.{own_from, from_at, odd_of, Bounded, Axes, Falls, side_in, Blank}
 
 -- the row of coordinate m
 pub falls_none : (a xs : List ℕ) → Blank 512 xs → Falls a xs 0
@@ -122,42 +113,3 @@ module _ (a axes xs ys : List ℕ) (m n u v : ℕ) (p : Bounded a) (few : n ≤ 
       by k i s h (no e) =
           let o : i + 32 * k < 32 * m = omega arith in
           other (i + 32 * k) (omega arith) (omega arith) ∙ (g.before (i + 32 * k) o ∙ f.each k i (omega arith) h)
-
--- the weights
-pub weights_more : (a xs ys : List ℕ) (n m w : ℕ) → n ≤ 32 → w ≡ get_or a (32 + m) 0 → Weights a xs n m → Filled (same w) (32 * m) n xs ys → Weights a ys n (m + 1)
-weights_more a xs ys n m w few e s f = record { long = f.long ∙ s.long; each = λ k i l h. by k i l h (ℕ_discrete k m) }
-  where
-    by : (k i : ℕ) → k < m + 1 → i < n → Dec (k ≡ m) → get_or ys (i + 32 * k) 0 ≡ get_or a (32 + k) 0
-    by k i l h (yes q) = rw q (f.inside (i + 32 * m) (omega arith) (omega arith) ∙ e)
-    by k i l h (no q) = f.before (i + 32 * k) (omega arith) ∙ s.each k i (omega arith) h
-
--- two sides
-pub sides_none : (p q : ℕ → ℕ) (d : ℕ) (xs : List ℕ) → length xs ≡ 32 → Sides p q d 0 xs
-sides_none p q d xs l = record { long = l; below = λ k h. absurd (let z : k < 0 = h in omega arith); above = λ k h. absurd (let z : k < 0 = h in omega arith) }
-
-pub sides_more : (p q : ℕ → ℕ) (d m : ℕ) (xs : List ℕ) (u v : ℕ) → m < d → d ≤ 16 → u ≡ p m → v ≡ q m → Sides p q d m xs → Sides p q d (m + 1) (set (set xs m u) (m + d) v)
-sides_more p q d m xs u v l few eu ev s =
-    record {
-      long = length-set (set xs m u) (m + d) v ∙ (length-set xs m u ∙ s.long);
-      below = λ k h. low k h (ℕ_discrete k m);
-      above = λ k h. high k h (ℕ_discrete k m);
-    }
-  where
-    low : (k : ℕ) → k < m + 1 → Dec (k ≡ m) → get_or (set (set xs m u) (m + d) v) k 0 ≡ p k
-    low k h (yes e) = rw e (get_or-set_other (set xs m u) (m + d) m v 0 (omega arith) ∙ (get_or-set_same xs m u 0 (omega (arith, s.long)) ∙ eu))
-    low k h (no e) = get_or-set_other (set xs m u) (m + d) k v 0 (omega arith) ∙ (get_or-set_other xs m k u 0 e ∙ s.below k (omega arith))
-
-    high : (k : ℕ) → k < m + 1 → Dec (k ≡ m) → get_or (set (set xs m u) (m + d) v) (k + d) 0 ≡ q k
-    high k h (yes e) = rw e (get_or-set_same (set xs m u) (m + d) v 0 (omega (arith, length-set xs m u, s.long)) ∙ ev)
-    high k h (no e) = get_or-set_other (set xs m u) (m + d) (k + d) v 0 (omega arith) ∙ (get_or-set_other xs m (k + d) u 0 (omega arith) ∙ s.above k (omega arith))
-
-pub copied_nearest : (a hs xs ys : List ℕ) → length (asked_of a) ≤ 16 → Nearest (asked_of a) hs → Filled (copied hs) 0 32 xs ys → Nearest (asked_of a) ys
-copied_nearest a hs xs ys few n f = λ i l. rw (f.inside i (omega arith) (omega arith)) (n i l)
-
--- one lane of a row
-pub lane_place : (axes : List ℕ) (m reach i place before after v : ℕ) → place ≡ m → before ≡ odd_of reach → after ≡ odd_of (reach - 1)
-    → v ≡ if (ltb place (get_or axes i 0)) before after
-    → (y : ℕ) → v ≡ side_in axes m reach (32 * m + i) y
-lane_place axes m reach i place before after v p b f e y =
-    let z : 32 * m + i - 32 * m ≡ i = omega arith in
-    rw z (rw (p, b, f) at e)

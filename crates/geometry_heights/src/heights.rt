@@ -2,13 +2,12 @@
 ghost use Rattle.std.specs.Prelude.{◌≡◌, eqb, length};
 ghost use Rattle.lists.specs.Basics.{if};
 ghost use Rattle.geometry.specs.Slices.{Nearest};
-ghost use Rattle.geometry_slices.specs.Questions.{size_of, asked_of, near_places, Filled};
-ghost use Rattle.geometry_lanes.specs.Lanes.{max_lanes, table_places, copied, Bounded, Blank};
+ghost use Rattle.geometry_slices.specs.Questions.{size_of, asked_of, near_places};
+ghost use Rattle.geometry_lanes.specs.Lanes.{max_lanes, table_places, Bounded, Blank};
 
 use crate::lanes::{axes_of, ends_of, fill_falls, fill_weights, owns_of};
 use geometry::MAX_COORDINATE;
-use geometry::points::above;
-use geometry_lanes::bisection::{bisect, lanes};
+use geometry_lanes::bisection::{Tables, bisect, lanes};
 use geometry_lanes::{MAX_LANES, TABLE_PLACES};
 use geometry_slices::{HIGHS_FROM, REACHES_FROM, WEIGHTS_FROM};
 
@@ -25,7 +24,13 @@ fn search_lanes(asked: &[u16], falls: &mut [u16], weights: &mut [u16], heights: 
     let ends = ends_of(asked);
     fill_falls(asked, &axes, n, falls);
     fill_weights(asked, n, weights);
-    bisect(asked, falls, weights, &owns, &ends, heights);
+    let tables = Tables {
+        falls,
+        weights,
+        owns: &owns,
+        ends: &ends,
+    };
+    bisect(asked, tables, heights);
 }
 
 // The nearest height of each pyramid.
@@ -54,8 +59,8 @@ fn nearest_one(asked: &[u16]) -> [u16; MAX_LANES]
 {
     let mut heights = [0u16; MAX_LANES];
     let weight = asked[WEIGHTS_FROM];
-    heights[0] = reached(weight, above(MAX_COORDINATE, asked[HIGHS_FROM]));
-    heights[1] = reached(weight, above(asked[0], MAX_COORDINATE));
+    heights[0] = reached(weight, MAX_COORDINATE.saturating_sub(asked[HIGHS_FROM]));
+    heights[1] = reached(weight, asked[0].saturating_sub(MAX_COORDINATE));
     heights
 }
 
@@ -64,19 +69,9 @@ fn nearest_heights(asked: &[u16]) -> [u16; MAX_LANES]
     ensures { Nearest (asked_of asked.now) result × (length result ≡ max_lanes) }
 {
     if asked.len() - REACHES_FROM == 1 {
-        return nearest_one(asked);
-    }
-    nearest_lanes(asked)
-}
-
-fn copy_heights(heights: &[u16], near: &mut [u16])
-    requires { (length heights.now ≡ max_lanes) × (length near.old ≡ near_places) }
-    ensures { Filled (copied heights.now) 0 max_lanes near.old near.new }
-{
-    let mut i = 0;
-    while i < MAX_LANES {
-        near[i] = heights[i];
-        i += 1;
+        nearest_one(asked)
+    } else {
+        nearest_lanes(asked)
     }
 }
 
@@ -85,6 +80,5 @@ pub fn fill_heights(asked: &[u16], near: &mut [u16])
     requires { Bounded asked.now × (length near.old ≡ near_places) }
     ensures { Nearest (asked_of asked.now) near.new × (length near.new ≡ near_places) }
 {
-    let heights = nearest_heights(asked);
-    copy_heights(&heights, near);
+    near[..MAX_LANES].copy_from_slice(&nearest_heights(asked));
 }

@@ -1,14 +1,13 @@
 // The tables of the lanes: for each pyramid its axis, the axis' weight and end, and what each coordinate falls by in it.
-ghost use Rattle.std.specs.Prelude.{◌≡◌, ◌+◌, ◌*◌, ◌<◌, ◌≤◌, ltb, length};
+ghost use Rattle.std.specs.Prelude.{◌≡◌, ℕ, ◌+◌, ◌*◌, ◌<◌, ◌≤◌, ltb, length};
 ghost use Rattle.lists.specs.Basics.{if};
 ghost use Rattle.geometry.specs.Numbers.{max_features};
 ghost use Rattle.geometry.specs.Slices.{axis_no};
 ghost use Rattle.geometry_slices.specs.Questions.{size_of, Filled};
-ghost use Rattle.geometry_lanes.specs.Lanes.{max_lanes, table_places, odd_of, side_in, same};
-ghost use Rattle.geometry_lanes.specs.Lanes.{Bounded, Axes, Aligned, Falls, Weights, Owns, Ends};
+ghost use Rattle.geometry_lanes.specs.Lanes.{max_lanes, table_places, odd_of, side_in};
+ghost use Rattle.geometry_lanes.specs.Lanes.{Bounded, Axes, Aligned, Falls, Weights, Gives, Sides, Owns, Ends};
 
 use geometry::MAX_COORDINATE;
-use geometry::points::above;
 use geometry_lanes::MAX_LANES;
 use geometry_slices::{HIGHS_FROM, REACHES_FROM, WEIGHTS_FROM};
 
@@ -20,7 +19,7 @@ fn odd(x: u16) -> u16
     requires { x ≤ 32767 }
     ensures { result ≡ odd_of x }
 {
-    above(2 * x, 1)
+    (2 * x).saturating_sub(1)
 }
 
 fn axis_in(d: u16, i: u16) -> u16
@@ -35,10 +34,8 @@ pub fn axes_of(d: usize, n: usize) -> [u16; MAX_LANES]
     ensures { Axes d n result }
 {
     let mut axes = [0u16; MAX_LANES];
-    let mut i = 0;
-    while i < n {
+    for i in 0..n {
         axes[i] = axis_in(d as u16, i as u16);
-        i += 1;
     }
     axes
 }
@@ -56,13 +53,11 @@ fn fill_lanes(falls: &mut [u16], axes: &[u16], m: usize, n: usize, reach: u16)
     ensures { Filled (side_in axes.now m reach) (max_lanes * m) n falls.old falls.new }
 {
     let before = odd(reach);
-    let after = odd(above(reach, 1));
+    let after = odd(reach.saturating_sub(1));
     let at = MAX_LANES * m;
     let place = m as u16;
-    let mut i = 0;
-    while i < n {
+    for i in 0..n {
         falls[at + i] = side_fall(place, axes[i], before, after);
-        i += 1;
     }
 }
 
@@ -74,8 +69,8 @@ fn fill_fall(asked: &[u16], axes: &[u16], m: usize, n: usize, falls: &mut [u16])
     let d = asked.len() - REACHES_FROM;
     let own = MAX_LANES * m + m;
     fill_lanes(falls, axes, m, n, asked[REACHES_FROM + m]);
-    falls[own] = odd(above(MAX_COORDINATE, asked[HIGHS_FROM + m]));
-    falls[own + d] = odd(above(asked[m], MAX_COORDINATE));
+    falls[own] = odd(MAX_COORDINATE.saturating_sub(asked[HIGHS_FROM + m]));
+    falls[own + d] = odd(asked[m].saturating_sub(MAX_COORDINATE));
 }
 
 // What each coordinate falls by in each lane.
@@ -84,21 +79,8 @@ pub fn fill_falls(asked: &[u16], axes: &[u16], n: usize, falls: &mut [u16])
     ensures { Falls asked.now falls.new (size_of asked.now) }
 {
     let d = asked.len() - REACHES_FROM;
-    let mut m = 0;
-    while m < d {
+    for m in 0..d {
         fill_fall(asked, axes, m, n, falls);
-        m += 1;
-    }
-}
-
-fn fill_with(row: &mut [u16], at: usize, n: usize, x: u16)
-    requires { (at + n ≤ length row.old) × (length row.old ≡ table_places) }
-    ensures { Filled (same x) at n row.old row.new }
-{
-    let mut i = 0;
-    while i < n {
-        row[at + i] = x;
-        i += 1;
     }
 }
 
@@ -108,11 +90,25 @@ pub fn fill_weights(asked: &[u16], n: usize, weights: &mut [u16])
     ensures { Weights asked.now weights.new n (size_of asked.now) }
 {
     let d = asked.len() - REACHES_FROM;
-    let mut m = 0;
-    while m < d {
-        fill_with(weights, MAX_LANES * m, n, asked[WEIGHTS_FROM + m]);
-        m += 1;
+    for m in 0..d {
+        let at = MAX_LANES * m;
+        weights[at..at + n].fill(asked[WEIGHTS_FROM + m]);
     }
+}
+
+// A number for each lane from its axis: of coordinate m for the pyramid below 0 and for the one above.
+fn sides<F: Fn(usize) -> (u16, u16)>(d: usize, both: F) -> [u16; MAX_LANES]
+    requires few { d ≤ max_features }
+    requires callable { (m : ℕ) → m < d → F.pre both m }
+    ensures { (p q : ℕ → ℕ) → Gives (F.post both) d p q → Sides p q d d result }
+{
+    let mut xs = [0u16; MAX_LANES];
+    for m in 0..d {
+        let (below, above) = both(m);
+        xs[m] = below;
+        xs[m + d] = above;
+    }
+    xs
 }
 
 // The weight of each lane's axis.
@@ -120,15 +116,10 @@ pub fn owns_of(asked: &[u16]) -> [u16; MAX_LANES]
     requires { Bounded asked.now }
     ensures { Owns asked.now result }
 {
-    let d = asked.len() - REACHES_FROM;
-    let mut owns = [0u16; MAX_LANES];
-    let mut m = 0;
-    while m < d {
-        owns[m] = asked[WEIGHTS_FROM + m];
-        owns[m + d] = asked[WEIGHTS_FROM + m];
-        m += 1;
-    }
-    owns
+    sides(
+        asked.len() - REACHES_FROM,
+        |m| (asked[WEIGHTS_FROM + m], asked[WEIGHTS_FROM + m]),
+    )
 }
 
 // Twice the far end of each lane's axis, towards the pyramid: below 0 the axis is mirrored.
@@ -136,13 +127,8 @@ pub fn ends_of(asked: &[u16]) -> [u16; MAX_LANES]
     requires { Bounded asked.now }
     ensures { Ends asked.now result }
 {
-    let d = asked.len() - REACHES_FROM;
-    let mut ends = [0u16; MAX_LANES];
-    let mut m = 0;
-    while m < d {
-        ends[m] = MIRRORED - 2 * asked[m];
-        ends[m + d] = 2 * asked[HIGHS_FROM + m];
-        m += 1;
-    }
-    ends
+    sides(
+        asked.len() - REACHES_FROM,
+        |m| (MIRRORED - 2 * asked[m], 2 * asked[HIGHS_FROM + m]),
+    )
 }

@@ -1,15 +1,9 @@
 -- Lanes without weights: what coordinates fall by is what they pull, and enough of them are summed.
-use mathlib.Core.Path.{◌≡◌, ap, sym, ◌∙◌}
-use mathlib.Core.Bool.{Bool, true, false}
-use mathlib.Core.List.{List}
-use Prim.Native.Nat.{ℕ, ◌+◌, ◌*◌, ◌-◌, ◌≤◌, ◌<◌}
-use native.Mathlib.Omega.{arith}
+use Rattle.std.proofs.Common.{◌≡◌, sym, ◌∙◌, Bool, true, false, List, ℕ, ◌+◌, ◌*◌, ◌-◌, ◌≤◌, ◌<◌, arith, le-leb, leb, get_or}
 use native.Mathlib.Decide.{dec_le}
-use borrow.Author.Tests.{le-leb, lt-leb}
-use lib.Dec.{leb}
-use lib.ListN.{get_or}
+use borrow.Author.Tests.{lt-leb}
 use Rattle.lists.specs.Basics.{if}
-use Rattle.geometry_slices.proofs.RowLaws.{sum_ext, sum_parts}
+use Rattle.geometry_slices.proofs.RowLaws.{sum_ext}
 use Rattle.geometry_slices.specs.Questions.{size_of, sum_to, Unweighted}
 use Rattle.geometry_lanes.specs.Lanes.{pull_at, fall_at, summed, summed_in, UnweightedLanes, Falls, Weights}
 
@@ -33,31 +27,6 @@ in_enough unweighted d n l = by (leb n 8) unweighted
     by true y k = k
     by false true k = l
     by false false k = k
-
--- what four, eight and sixteen coordinates fall by
-four_sum : (f : ℕ → ℕ) (a b c e : ℕ) → a ≡ f 0 → b ≡ f 1 → c ≡ f 2 → e ≡ f 3 → a + b + (c + e) ≡ sum_to 4 f
-unfolding sum_to
-four_sum f a b c e w x y z = omega (arith, w, x, y, z)
-
-pub fall_small : (x t r : ℕ) → x ≤ 2001 → r ≡ x - t → r ≤ 2001
-fall_small x t r l e = omega arith
-
-module _ (falls : List ℕ) (t : ℕ) where
-  pub four_falls_are : (at a b c e : ℕ) → a ≡ get_or falls at 0 - t → b ≡ get_or falls (at + 32) 0 - t
-      → c ≡ get_or falls (at + 64) 0 - t → e ≡ get_or falls (at + 96) 0 - t → a + b + (c + e) ≡ sum_to 4 (fall_at falls at t)
-  four_falls_are at a b c e w x y z =
-      let i : at ≡ at + 32 * 0 = omega arith in
-      four_sum (fall_at falls at t) a b c e (w ∙ ap (λ (n : ℕ). get_or falls n 0 - t) i) x y z
-
-  later : (at k q m : ℕ) → k ≡ 32 * q → fall_at falls (at + k) t m ≡ fall_at falls at t (q + m)
-  later at k q m e = ap (λ (n : ℕ). get_or falls n 0 - t) (let i : at + k + 32 * m ≡ at + 32 * (q + m) = omega arith in i)
-
-  -- n coordinates after the first q, whose rows begin k places on
-  pub falls_on : (at k q n x y : ℕ) → x ≡ sum_to q (fall_at falls at t) → y ≡ sum_to n (fall_at falls (at + k) t) → k ≡ 32 * q
-      → x + y ≡ sum_to (q + n) (fall_at falls at t)
-  falls_on at k q n x y f g e =
-      let s = sum_ext n (fall_at falls (at + k) t) (λ (m : ℕ). fall_at falls at t (q + m)) (λ m l. later at k q m e) in
-      omega (arith, f, g, s, sum_parts n q (fall_at falls at t))
 
 -- a lane's sum without weights
 pub falls_pull : (falls weights : List ℕ) (n k i t sum : ℕ) → UnweightedLanes falls weights n → i < n → sum ≡ sum_to k (fall_at falls i t)

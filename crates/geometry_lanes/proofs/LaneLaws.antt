@@ -1,14 +1,6 @@
 -- The lanes of the bisection: their tables, filled row by row, and that a turn keeps each lane's nearest height in its interval.
-use mathlib.Core.Path.{◌≡◌, refl, ap, ap₂, ◌∙◌}
-use mathlib.Core.Bool.{Bool, true, false}
-use mathlib.Core.List.{List}
-use Prim.Native.Nat.{ℕ, suc, ◌+◌, ◌*◌, ◌-◌, ◌/◌, ◌≤◌, ◌<◌}
-use native.Mathlib.Omega.{arith}
-use native.Mathlib.Numerals.{add-one}
+use Rattle.std.proofs.Common.{◌≡◌, refl, ap, ap₂, ◌∙◌, Bool, true, false, List, ℕ, suc, ◌+◌, ◌*◌, ◌-◌, ◌/◌, ◌≤◌, ◌<◌, arith, add-one, ltb-true, ltb-false, leb-true, leb-false, leb, ltb, get_or}
 use native.Mathlib.Decide.{ℕ_discrete}
-use borrow.Author.Tests.{ltb-true, ltb-false, leb-true, leb-false}
-use lib.Dec.{leb, ltb}
-use lib.ListN.{get_or}
 use Rattle.lists.specs.Basics.{if}
 use Rattle.geometry.proofs.ConvexLaws.{Convex, rises, at_convex}
 use Rattle.geometry.proofs.HeightLaws.{Bisect, bisect_low, bisect_high}

@@ -1,16 +1,6 @@
 -- What a distance falls and rises by from height h to h + 1 in a pyramid, as two weighted sums.
-use mathlib.Core.Path.{◌≡◌, refl, ap, ◌∙◌}
-use mathlib.Core.Bool.{Bool, true, false}
-use mathlib.Core.List.{List, [], ◌∷◌}
-use mathlib.Core.Logic.{◌⊎◌, inl, inr, ◌≢◌}
-use Prim.Native.Nat.{ℕ, zero, suc, max, ◌+◌, ◌*◌, ◌-◌, ◌≤◌, ◌<◌}
-use native.Mathlib.Omega.{arith}
+use Rattle.std.proofs.Common.{◌≡◌, refl, ap, ◌∙◌, Bool, true, false, List, [], ◌∷◌, ◌⊎◌, inl, inr, ◌≢◌, ℕ, zero, suc, max, ◌+◌, ◌*◌, ◌-◌, ◌≤◌, ◌<◌, arith, eq-eqb, ne_eqb, ltb, nat_abs, length, get_or, ◌≤ℤ◌}
 use native.Mathlib.Decide.{dec_le}
-use borrow.Author.Tests.{eq-eqb, ne_eqb}
-use lib.Dec.{ltb}
-use lib.IntN.{nat_abs}
-use lib.ListN.{length, get_or}
-use lib.Signed.{◌≤ℤ◌}
 use Rattle.lists.specs.Basics.{if}
 use Rattle.geometry.proofs.IntLaws.{le_parts}
 use Rattle.geometry.proofs.GapLaws.{axis_gap_low, axis_gap_high}

@@ -1,21 +1,13 @@
 -- A turn of the bisection in all lanes, and all its turns.
-use mathlib.Core.Path.{◌≡◌, refl, ap, ◌∙◌}
-use mathlib.Core.Bool.{Bool, true, false}
-use mathlib.Core.List.{List}
-use Prim.Native.Nat.{ℕ, ◌+◌, ◌*◌, ◌-◌, ◌/◌, ◌≤◌, ◌<◌}
-use native.Mathlib.Omega.{arith}
-use native.Mathlib.Nat.{mul-le-mul}
-use borrow.Author.Tests.{le-leb, lt-leb, leb-true}
-use lib.Dec.{leb}
-use lib.ListN.{length, get_or}
+use Rattle.std.proofs.Common.{◌≡◌, refl, ◌∙◌, Bool, true, false, List, ℕ, ◌+◌, ◌*◌, ◌-◌, ◌/◌, ◌≤◌, ◌<◌, arith, mul-le-mul, le-leb, leb-true, leb, length, get_or}
+use borrow.Author.Tests.{lt-leb}
 use Rattle.lists.specs.Basics.{if}
 use Rattle.geometry.proofs.HeightLaws.{Bisect, bisect_start, bisect_end}
 use Rattle.geometry.proofs.ConvexLaws.{at_convex}
-use Rattle.geometry_slices.proofs.RowLaws.{sum_ext, sum_parts}
 use Rattle.geometry_lanes.proofs.LaneLaws.{lane_halved, halved_room}
 use Rattle.geometry.specs.Slices.{slice_at, Nearest}
-use Rattle.geometry_slices.specs.Questions.{size_of, asked_of, sum_to, Filled}
-use Rattle.geometry_lanes.specs.Lanes.{pull_at, halved_at, summed, Movable, Lanes, lanes_of, Blank}
+use Rattle.geometry_slices.specs.Questions.{size_of, asked_of, Filled}
+use Rattle.geometry_lanes.specs.Lanes.{halved_at, summed, Movable, Lanes, lanes_of, Blank}
 
 -- how many lanes, and coordinates summed
 pub lanes_few : (d : ℕ) → d ≤ 16 → lanes_of d ≤ 32
@@ -32,42 +24,12 @@ lanes_enough d l = by (leb (lanes_of d) 8) refl (leb (lanes_of d) 16) refl
     by false e true f = omega (arith, leb-true (lanes_of d) 16 f)
     by false e false f = l
 
--- what four, eight and sixteen coordinates pull
+-- what a coordinate pulls
 pub product_fits : (w x : ℕ) → w < 65536 → x < 65536 → w * x < 4294967296
 product_fits w x l k = let a : w ≤ 65535 = omega arith in let b : x ≤ 65535 = omega arith in let s : w * x ≤ 4294836225 = mul-le-mul a b in omega arith
 
 pub pull_small : (w x : ℕ) → w < 65536 → x ≤ 2001 → w * x ≤ 134217728
 pull_small w x l k = let a : w ≤ 65535 = omega arith in let s : w * x ≤ 131135535 = mul-le-mul a k in omega arith
-
-module _ (falls weights : List ℕ) (t : ℕ) where
-  pub four_is : (at a b c e : ℕ) → a ≡ get_or weights at 0 * (get_or falls at 0 - t) → b ≡ get_or weights (at + 32) 0 * (get_or falls (at + 32) 0 - t)
-      → c ≡ get_or weights (at + 64) 0 * (get_or falls (at + 64) 0 - t) → e ≡ get_or weights (at + 96) 0 * (get_or falls (at + 96) 0 - t)
-      → a + b + (c + e) ≡ sum_to 4 (pull_at falls weights at t)
-  unfolding sum_to
-  four_is at a b c e w x y z =
-      let i : at + 32 * 0 ≡ at = omega arith in
-      let o = ap (λ (n : ℕ). get_or weights n 0 * (get_or falls n 0 - t)) i in
-      omega (arith, w, x, y, z, o)
-
-  later : (at k q : ℕ) → k ≡ 32 * q → (m : ℕ) → pull_at falls weights (at + k) t m ≡ pull_at falls weights at t (q + m)
-  later at k q e m = ap (λ (n : ℕ). get_or weights n 0 * (get_or falls n 0 - t)) (let i : at + k + 32 * m ≡ at + 32 * (q + m) = omega arith in i)
-
-  parts : (at k q n x y : ℕ) → k ≡ 32 * q → x ≡ sum_to q (pull_at falls weights at t) → y ≡ sum_to n (pull_at falls weights (at + k) t)
-      → x + y ≡ sum_to (q + n) (pull_at falls weights at t)
-  parts at k q n x y e f g =
-      let s = sum_ext n (pull_at falls weights (at + k) t) (λ (m : ℕ). pull_at falls weights at t (q + m)) (λ m l. later at k q e m) in
-      omega (arith, f, g, s, sum_parts n q (pull_at falls weights at t))
-
-  pub eight_is : (at x y : ℕ) → x ≡ sum_to 4 (pull_at falls weights at t) → y ≡ sum_to 4 (pull_at falls weights (at + 128) t) → x + y ≡ sum_to 8 (pull_at falls weights at t)
-  eight_is at x y e k = parts at 128 4 4 x y refl e k
-
-  pub all_is : (at x y : ℕ) → x ≡ sum_to 8 (pull_at falls weights at t) → y ≡ sum_to 8 (pull_at falls weights (at + 256) t) → x + y ≡ sum_to 16 (pull_at falls weights at t)
-  all_is at x y e k = parts at 256 8 8 x y refl e k
-
--- one lane of a turn
-pub lane_is : (falls weights owns ends : List ℕ) (k step i h t sum v : ℕ) → t ≡ 2 * h + (2 * step - 2) → sum ≡ sum_to k (pull_at falls weights i t)
-    → v ≡ if (leb sum (get_or owns i 0 * (t + 2001 - get_or ends i 0))) h (h + step) → v ≡ halved_at falls weights owns ends k step i h
-lane_is falls weights owns ends k step i h t sum v e s r = rw (← e) (r ∙ ap (λ (x : ℕ). if (leb x (get_or owns i 0 * (t + 2001 - get_or ends i 0))) h (h + step)) s)
 
 -- the whole bisection
 pub record Halving (a : List ℕ) (n size : ℕ) (heights : List ℕ) : Type 0 where
@@ -119,7 +81,3 @@ stays s r q x y e l = rw (le-leb s q (omega arith))
 
 pub moves : (s r q x y : ℕ) → r ≡ q → r < s → y ≡ if (leb s q) x y
 moves s r q x y e l = rw (lt-leb s q (omega arith))
-
--- a lane that has not had its turn
-pub lane_room : (g : ℕ → ℕ → ℕ) (step n i : ℕ) (xs ys : List ℕ) → ((k : ℕ) → k < n → get_or xs k 0 + step ≤ 1000) → Filled g 0 i xs ys → i < n → get_or ys i 0 + step ≤ 1000
-lane_room g step n i xs ys r f l = omega (arith, f.after i (omega arith), r i l)

@@ -63,6 +63,10 @@ pub record Sides (p q : ℕ → ℕ) (d m : ℕ) (xs : List ℕ) : Type 0 where
   pub below : (k : ℕ) → k < m → get_or xs k 0 ≡ p k
   pub above : (k : ℕ) → k < m → get_or xs (k + d) 0 ≡ q k
 
+-- what a function answers for coordinate m, of d, is p m and q m
+abbrev pub Gives : (ℕ → ℕ × ℕ → Type 0) → ℕ → (ℕ → ℕ) → (ℕ → ℕ) → Type 0
+Gives answers d p q = (m : ℕ) (r : ℕ × ℕ) → m < d → answers m r → (r.0 ≡ p m) × (r.1 ≡ q m)
+
 abbrev pub end_below : List ℕ → ℕ → ℕ
 end_below a k = 4 * max_coordinate - 2 * get_or a k 0
 
@@ -83,9 +87,6 @@ Ends a ends = Sides (end_below a) (end_above a) (size_of a) (size_of a) ends
 abbrev pub side_in : List ℕ → ℕ → ℕ → ℕ → ℕ → ℕ
 side_in axes m reach x y = if (ltb m (get_or axes (x - max_lanes * m) 0)) (odd_of reach) (odd_of (reach - 1))
 
-abbrev pub same : ℕ → ℕ → ℕ → ℕ
-same v x y = v
-
 -- what coordinate m of a lane pulls, t being twice the height
 abbrev pub pull_at : List ℕ → List ℕ → ℕ → ℕ → ℕ → ℕ
 pull_at falls weights i t m = get_or weights (i + max_lanes * m) 0 * (get_or falls (i + max_lanes * m) 0 - t)
@@ -101,6 +102,14 @@ UnweightedLanes falls weights n = (i t m : ℕ) → i < n → pull_at falls weig
 -- a lane after a turn: it stays where the distance does not fall from height h + step - 1 on, summed over k coordinates
 abbrev pub settled_at : ℕ → ℕ → ℕ → ℕ → ℕ → ℕ → ℕ
 settled_at sum weight end t step h = if (leb sum (weight * (t + 2001 - end))) h (h + step)
+
+-- lane i after a turn, where its coordinates pull g i t at twice a height t
+abbrev pub turned_at : (ℕ → ℕ → ℕ) → List ℕ → List ℕ → ℕ → ℕ → ℕ → ℕ
+turned_at g owns ends step i h = settled_at (g i (2 * h + (2 * step - 2))) (get_or owns i 0) (get_or ends i 0) (2 * h + (2 * step - 2)) step h
+
+-- what a function answers in n lanes is g
+abbrev pub Sums : (ℕ → ℕ → ℕ → Type 0) → ℕ → (ℕ → ℕ → ℕ) → Type 0
+Sums answers n g = (i t s : ℕ) → i < n → answers i t s → s ≡ g i t
 
 abbrev pub halved_at : List ℕ → List ℕ → List ℕ → List ℕ → ℕ → ℕ → ℕ → ℕ → ℕ
 halved_at falls weights owns ends k step i h =
@@ -130,6 +139,16 @@ pub record Movable (falls weights owns ends : List ℕ) (n step : ℕ) (heights 
   pub small : (x : ℕ) → get_or falls x 0 ≤ 2001
   pub room : (i : ℕ) → i < n → get_or heights i 0 + step ≤ max_coordinate
 
+-- of these, what a turn needs whatever the coordinates pull
+pub record Turnable (owns ends : List ℕ) (n step : ℕ) (heights : List ℕ) : Type 0 where
+  pub few : n ≤ max_lanes
+  pub some : 0 < step
+  pub short : step ≤ max_coordinate
+  pub owning : length owns ≡ max_lanes
+  pub ending : length ends ≡ max_lanes
+  pub long : length heights ≡ max_lanes
+  pub room : (i : ℕ) → i < n → get_or heights i 0 + step ≤ max_coordinate
+
 -- the tables of n lanes
 pub record Lanes (a falls weights owns ends : List ℕ) (n : ℕ) : Type 0 where
   pub asked : Bounded a
@@ -144,9 +163,6 @@ pub record Lanes (a falls weights owns ends : List ℕ) (n : ℕ) : Type 0 where
 -- how many lanes d coordinates take: those of 2d pyramids, and up to a multiple of 8
 abbrev pub lanes_of : ℕ → ℕ
 lanes_of d = (d + 3) / 4 * 8
-
-abbrev pub copied : List ℕ → ℕ → ℕ → ℕ
-copied xs x y = get_or xs x 0
 
 -- n zeros
 pub record Blank (n : ℕ) (xs : List ℕ) : Type 0 where

@@ -1,11 +1,5 @@
 -- What the functions of this crate return and leave, step by step. Assumes nothing.
-use mathlib.Core.Path.{◌≡◌, sym, ap, ◌∙◌}
-use mathlib.Core.Bool.{true, false}
-use mathlib.Core.List.{List, [], ◌++◌}
-use Prim.Native.Nat.{ℕ, ◌+◌, ◌-◌, ◌*◌, ◌≤◌}
-use native.Mathlib.Omega.{arith}
-use lib.ListN.{length, get_or, take, drop, replicate, length-take, length-drop}
-use lib.Seq.{take_all}
+use Rattle.std.proofs.Common.{◌≡◌, sym, ap, ◌∙◌, true, false, List, [], ◌++◌, ℕ, ◌+◌, ◌-◌, ◌*◌, ◌≤◌, arith, length, get_or, take, drop, replicate, length-take, length-drop, take_all}
 use borrow.Rule.Slice.PartMut.{put_mid, post_of, Post-is}
 use Rattle.lists.specs.Basics.{tabulate}
 use Rattle.lists.specs.Tabulated.{tabulate_take}

@@ -1,10 +1,5 @@
 -- What the readers of one page return. Assumes nothing.
-use mathlib.Core.Path.{◌≡◌, sym, ap, ◌∙◌}
-use mathlib.Core.List.{List, []}
-use Prim.Native.Nat.{ℕ, ◌+◌, ◌*◌, ◌%◌, ◌<◌}
-use native.Mathlib.Omega.{arith}
-use lib.ListN.{length, get_or}
-use lib.Seq.{take_all}
+use Rattle.std.proofs.Common.{◌≡◌, sym, ap, ◌∙◌, List, [], ℕ, ◌+◌, ◌*◌, ◌%◌, ◌<◌, arith, length, get_or, take_all}
 use Rattle.lists.specs.Basics.{tabulate}
 use Rattle.lists.specs.Tabulated.{get_d_tabulate, tabulate_take, all_at}
 use Rattle.geometry.specs.declared.Key.{Key}

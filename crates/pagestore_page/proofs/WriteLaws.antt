@@ -1,13 +1,5 @@
 -- What the writers of one page leave: one store behind another. Assumes nothing.
-use mathlib.Core.Path.{◌≡◌, refl, sym, ap, ◌∙◌}
-use mathlib.Core.List.{List, [], ◌∷◌, ◌++◌, append_assoc, append-nil}
-use Prim.Native.Nat.{ℕ, ◌+◌, ◌-◌, ◌*◌, ◌%◌, ◌≤◌, ◌<◌, min}
-use native.Mathlib.Numerals.{add-one}
-use native.Mathlib.Omega.{arith}
-use lib.Dec.{leb}
-use lib.ListN.{length, get_or, take, drop, replicate, length-append, length-take, length-drop, drop_of_length-le}
-use lib.Seq.{take-take, take_all, drop-cons, get_or-take}
-use borrow.Author.Tests.{leb-true, leb-false}
+use Rattle.std.proofs.Common.{◌≡◌, refl, sym, ap, ◌∙◌, List, [], ◌∷◌, ◌++◌, append_assoc, append-nil, ℕ, ◌+◌, ◌-◌, ◌*◌, ◌%◌, ◌≤◌, ◌<◌, min, add-one, arith, leb, length, get_or, take, drop, replicate, length-append, length-take, length-drop, drop_of_length-le, take-take, take_all, drop-cons, get_or-take, leb-true, leb-false}
 use borrow.Rule.Slice.PartMut.{put_mid}
 use Rattle.lists.specs.Basics.{tabulate, concat_map, length_tabulate}
 use Rattle.lists.specs.Tabulated.{tabulate_take, length_concat_map}
@@ -62,12 +54,6 @@ label_put l s t u i r p q o = o ∙ rw (q, p)
 pub record_put : (l s t : List ℕ) (i : ℕ) (r : Record) → s ≡ put_label l i r → t ≡ put_coords 16 s i r.coords → t ≡ put_record l i r
 unfolding put_record
 record_put l s t i r p q = q ∙ rw p
-
--- the four bytes at the head of a page
-pub head_put : (l r s t : List ℕ) (v n : ℕ) → r ≡ put l 0 (v ∷ []) → s ≡ put r 1 (n ∷ []) → t ≡ put s 2 (le_bytes 2 0) → t ≡ put l 0 (v ∷ n ∷ 0 ∷ 0 ∷ [])
-unfolding le_bytes
-head_put l r s t v n p q g =
-    behind l s t 0 (v ∷ n ∷ []) 2 (0 ∷ 0 ∷ []) (behind l r s 0 (v ∷ []) 1 (n ∷ []) p q refl) g refl
 
 -- the bytes vs at the front of a page, and zeros up to its end
 page_put : (s t vs : List ℕ) (n : ℕ) → length s ≡ 1024 → n ≤ 1024 → take n s ≡ vs

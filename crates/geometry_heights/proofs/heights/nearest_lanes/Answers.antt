@@ -1,4 +1,4 @@
-use native.Mathlib.Omega.{arith}
+use Rattle.std.proofs.Common.{arith}
 use Rattle.lists.specs.Lengths.{zero_at}
 use Rattle.geometry_heights.proofs.heights.nearest_lanes.Goals as goal
 

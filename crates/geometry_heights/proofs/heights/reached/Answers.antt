@@ -1,7 +1,4 @@
-use borrow.Author.Tests.{eq-eqb, ne_eqb}
-use mathlib.Core.Path.{sym, ap}
-use mathlib.Core.Bool.{Bool}
-use Prim.Native.Nat.{ℕ}
+use Rattle.std.proofs.Common.{eq-eqb, ne_eqb, sym, ap, Bool, ℕ}
 use Rattle.lists.specs.Basics.{if}
 use Rattle.geometry_heights.proofs.heights.reached.Goals as goal
 

@@ -1,4 +1,4 @@
-use native.Mathlib.Omega.{arith}
+use Rattle.std.proofs.Common.{arith}
 use Rattle.geometry_slices.specs.Questions.{size_of}
 use Rattle.geometry_slices.proofs.PackedLaws.{asked_few}
 use Rattle.geometry_lanes.proofs.TurnLaws.{lanes_few, lanes_cover, lanes_enough}

@@ -1,6 +1,4 @@
-use borrow.Author.Tests.{lt-ltb, le-ltb}
-use mathlib.Core.Path.{sym, ap}
-use mathlib.Core.Bool.{Bool}
+use Rattle.std.proofs.Common.{lt-ltb, le-ltb, sym, ap, Bool}
 use Rattle.lists.specs.Basics.{if}
 use Rattle.geometry_heights.proofs.lanes.side_fall.Goals as goal
 

@@ -1,5 +1,4 @@
-use native.Mathlib.Omega.{arith}
-use Prim.Native.Nat.{◌/◌, ◌≤◌}
+use Rattle.std.proofs.Common.{arith, ◌/◌, ◌≤◌}
 use Rattle.geometry_slices.specs.Questions.{size_of}
 use Rattle.geometry_slices.proofs.PackedLaws.{asked_length, asked_few}
 use Rattle.geometry_lanes.proofs.FallLaws.{in_enough, unweighted_lanes}
@@ -25,8 +24,8 @@ pub halve-requires : goal.halve-requires
 halve-requires c =
     let u = c in let l = u.loop-size in let i = l.invariant in let o = u in
     let a = o.args in
-    let m = movable a.asked.now a.falls.now a.weights.now a.owns.now a.ends.now l.heights _ l.size i.3 in
-    let p = unweighted_lanes a.asked.now a.falls.now a.weights.now in
+    let m = movable a.asked.now a.tables.falls.now a.tables.weights.now a.tables.owns.now a.tables.ends.now l.heights _ l.size i.3 in
+    let p = unweighted_lanes a.asked.now a.tables.falls.now a.tables.weights.now in
     (m u.loop-size-test.true i.0 i.4, λ e. p _ (o.is_unweighted-unweighted.ensures.0 e) i.3.falling i.3.weighing)
 
 pub loop-size-preserved : goal.loop-size-preserved
@@ -36,7 +35,7 @@ loop-size-preserved c =
     let a = o.args in
     let k = in_enough o.is_unweighted-unweighted.result (size_of a.asked.now) n (asked_few a.asked.now i.3.asked.packed) i.3.enough in
     let z : l.size / 2 ≤ 1000 = omega (arith, i.0) in
-    let t = halving_turn a.asked.now a.falls.now a.weights.now a.owns.now a.ends.now l.heights _ _ n l.size i.3 k in
+    let t = halving_turn a.asked.now a.tables.falls.now a.tables.weights.now a.tables.owns.now a.tables.ends.now l.heights _ _ n l.size i.3 k in
     (z, i.1, i.2, i.3, t u.loop-size-test.true i.4 h.halve.ensures)
 
 pub shape_of-heights : goal.shape_of-heights
