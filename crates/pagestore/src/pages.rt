@@ -48,6 +48,7 @@ pub fn write_page<F: FnOnce(&mut [u8])>(index: &mut [u8], page: u32, write: F)
 }
 
 // The bytes of a page; none out of range.
+// Kept: no Option, as `page_bytes` gives. What `stretch` promises of a page out of range, no bytes, is a part without bytes.
 pub fn stretch(index: &[u8], page: u32) -> &[u8]
     ensures { result.now ≡ stretch index.now page }
 {

@@ -21,6 +21,7 @@ const STAMPS: usize = 640;
 // A stored coordinate is below this: the low 11 bits of two bytes.
 const ROOM: u16 = 2048;
 
+// Kept: no `Default`, here and in no_entry. A derived one promises slot by slot what `record_at [] 0` says whole, and an entry's would want one of `Key`.
 pub fn no_record() -> Record
     ensures { result ≡ record_at [] 0 }
 {
@@ -57,6 +58,7 @@ fn coord_bytes(page: &[u8], m: usize, i: usize) -> u16
     u16::read(page, COLUMNS + WIDTH * m + 2 * i)
 }
 
+// Kept: a reader for each field of a record. Each has a column of its own, and its contract names its field.
 // One coordinate of a record, as stored.
 pub fn read_coord(page: &[u8], m: usize, i: usize) -> u16
     requires { (length page.now ≡ 1024) × (m < 16) × (i < 16) }
