@@ -1,11 +1,5 @@
 -- What the search returns, from what the visit leaves.
-use mathlib.Core.Path.{◌≡◌, sym, ◌∙◌}
-use mathlib.Core.Bool.{Bool, true, false, ◌||◌}
-use mathlib.Core.List.{List, []}
-use Prim.Native.Nat.{ℕ, ◌≤◌}
-use native.Mathlib.Omega.{arith}
-use lib.Dec.{eqb, ltb}
-use borrow.Author.Tests.{eq-eqb, ne_eqb, ltb-false}
+use Rattle.std.proofs.Common.{◌≡◌, ◌∙◌, Bool, true, false, ◌||◌, List, [], ℕ, ◌≤◌, arith, eqb, ltb, ltb-false}
 use Rattle.pagestore.specs.Store.{total, level, field_at}
 use Rattle.search.specs.declared.Seen.{Seen}
 use Rattle.search_model.specs.Numbers.{max_level}
@@ -14,14 +8,6 @@ use Rattle.search_model.specs.Visit.{answer_of, visited, reads_none, found}
 use Rattle.search.specs.Steps.{answer_in, Searched}
 use Rattle.search_model.proofs.ExactLaws.{found_exact}
 use Rattle.search_model.proofs.UnreadLaws.{unread_bytes}
-
-pub none_total : (b : List ℕ) (n : ℕ) → n ≡ field_at total b → n ≡ 0 → true ≡ reads_none b
-unfolding reads_none
-none_total b n e z = rw (eq-eqb (field_at total b) 0 (sym e ∙ z))
-
-pub none_level : (b : List ℕ) (n l : ℕ) → n ≡ field_at total b → (n ≡ 0 → ⊥) → l ≡ field_at level b → ltb max_level l ≡ reads_none b
-unfolding reads_none
-none_level b n l e z f = rw (ne_eqb (field_at total b) 0 (λ w. z (e ∙ w)), f)
 
 -- where something is read, the root's level is 4 at most
 pub level_low : (b : List ℕ) → reads_none b ≡ false → field_at level b ≤ max_level

@@ -1,15 +1,6 @@
 -- The turns of the visit.
-use mathlib.Core.Path.{◌≡◌, refl, sym, ap, ◌∙◌}
-use mathlib.Core.Bool.{Bool, true, false}
-use mathlib.Core.Logic.{◌≢◌}
-use mathlib.Core.List.{List, [], ◌∷◌, map}
-use Prim.Native.Nat.{ℕ, suc, ◌+◌, ◌*◌, ◌-◌, ◌≤◌, ◌<◌, min}
-use native.Mathlib.Omega.{arith}
-use native.Mathlib.Nat.{zero-add}
-use lib.ListN.{length, take, set, length-set, length-take, length-map}
-use lib.Dec.{ltb, leb}
-use borrow.Author.Tests.{eq-eqb, ne_eqb, leb-true, leb-false}
-use Rattle.lists.specs.Tests.{false_true}
+use Rattle.std.proofs.Common.{◌≡◌, refl, sym, ap, ◌∙◌, Bool, true, false, ◌≢◌, List, [], ◌∷◌, map, ℕ, suc, ◌+◌, ◌*◌, ◌-◌, ◌≤◌, ◌<◌, min, arith, zero-add, length, take, set, length-set, length-take, ltb, eq-eqb, ne_eqb}
+use lib.ListN.{length-map}
 use Rattle.lists.specs.ConcatMapLaws.{all_every}
 use Rattle.lists.specs.Sorting.{filter, insert_by, sort, insert_all, offer_all}
 use Rattle.lists.specs.Sorting as sorting
@@ -35,7 +26,7 @@ use Rattle.search_frontier.specs.Keys.{key_of, bound_in, place_in, level_in, num
 use Rattle.search_model.specs.Visit.{ranking, Answer, answer_of, room, visited}
 use Rattle.search_frontier.specs.Opening.{Tabled, Opens, Opened}
 use Rattle.search_leaves.specs.Offering.{OfferedAll}
-use Rattle.search.specs.Steps.{Visits, Visited, Turns, first_slot, widened, Goes, Ends, spent, empty, far, full, GoesOn}
+use Rattle.search.specs.Steps.{Visits, Visited, Turns, first_slot, Goes, Ends, spent, empty, far, full}
 use Rattle.tree.proofs.CountLaws.{items_length}
 use Rattle.search_frontier.proofs.KeyLaws.{page_small, key_back}
 use Rattle.search_model.proofs.RoomLaws.{room_some, room_most}
@@ -95,38 +86,6 @@ visiting_start index asked near whole unweighted k choice slots highs lows key m
       few = omega (arith, pages_few index);
       answer = rw (o, b, g) (λ i. record { rows = (visited index q).rows; leaves = zero-add (length (visited index q).read) i });
     }
-
--- ---- WHETHER THE VISIT GOES ON
-
-module _ (index slots : List ℕ) (n : ℕ) (highs : List ℕ) (rows k steps : ℕ) where
-  pub goes_spent : steps ≡ 0 → GoesOn index slots n highs rows k steps false
-  goes_spent z = record { goes = λ e. false_true e; ends = λ e. spent z }
-
-  pub goes_empty : n ≡ 0 → GoesOn index slots n highs rows k steps false
-  goes_empty z = record { goes = λ e. false_true e; ends = λ e. empty z }
-
-  module _ (more : steps ≢ 0) (some : n ≢ 0) (b : ℕ) (bound : b ≡ bound_in (first_slot slots)) (t : Bool) (test : t ≡ behind_all highs rows k b) where
-    stops : (r : Bool) → t ≡ r → behind_all highs rows k (bound_in (first_slot slots)) ≡ r
-    stops r e = rw (← bound) (sym test ∙ e)
-
-    pub goes_far : t ≡ true → GoesOn index slots n highs rows k steps false
-    goes_far e = record { goes = λ f. false_true f; ends = λ f. far (omega (arith, more)) (omega (arith, some)) (stops true e) }
-
-    module _ (e : t ≡ false) (l : ℕ) (level : l ≡ level_in (first_slot slots)) where
-      pub goes_leaf : l ≡ 0 → GoesOn index slots n highs rows k steps true
-      goes_leaf z =
-          record {
-            goes = λ f. record { left = omega (arith, more); some = omega (arith, some); near = stops false e; room = λ i. absurd (i (sym level ∙ z)) };
-            ends = λ f. false_true (sym f);
-          }
-
-      pub goes_inner : l ≢ 0 → (g m : ℕ) → g ≡ number_in (first_slot slots) → m ≡ length (entries_in (inner_at index g)) → GoesOn index slots n highs rows k steps (leb (m + (n - 1)) (length slots))
-      goes_inner i g m page entries =
-          let w : m + (n - 1) ≡ widened index slots n = rw (← page, ← entries) refl in
-          record {
-            goes = λ f. record { left = omega (arith, more); some = omega (arith, some); near = stops false e; room = λ _. rw (← w) (leb-true (m + (n - 1)) (length slots) f) };
-            ends = λ f. full (omega (arith, more)) (omega (arith, some)) (stops false e) (λ z. i (level ∙ z)) (rw (← w) (leb-false (m + (n - 1)) (length slots) f));
-          }
 
 -- ---- THE TURNS
 

@@ -9,7 +9,7 @@ use Rattle.search_frontier.specs.Keys.{bound_in, level_in, number_in}
 use Rattle.search_frontier.specs.Opening.{Tabled}
 use Rattle.search_model.specs.Numbers.{max_level}
 use Rattle.search_model.specs.Asked.{Seekable, Asked, Askable, asking}
-use Rattle.search_model.specs.Visit.{full_room, Answer, answer_of, room, visited, reads_none, found}
+use Rattle.search_model.specs.Visit.{full_room, Answer, answer_of, room, visited, found}
 use Rattle.search_model.specs.Questions.{answer_due, unread_pages, AgreeBut}
 use Rattle.geometry.specs.Numbers.{max_features}
 use Rattle.geometry_slices.specs.Questions.{Unweighted}
@@ -59,15 +59,6 @@ pub data Ends (index slots : List ℕ) (n : ℕ) (highs : List ℕ) (rows k step
 pub record GoesOn (index slots : List ℕ) (n : ℕ) (highs : List ℕ) (rows k steps : ℕ) (r : Bool) : Type 0 where
   pub goes : r ≡ true → Goes index slots n highs rows k steps
   pub ends : r ≡ false → Ends index slots n highs rows k steps
-
--- what a search that reads something is lent: room for branches and rows
-pub record Seeks (index asked : List ℕ) (k : ℕ) (slots highs lows : List ℕ) : Type 0 where
-  pub seekable : Seekable asked
-  pub one : 1 ≤ k
-  pub some : reads_none index ≡ false
-  pub room : length slots ≡ room index
-  pub room_highs : k ≤ length highs
-  pub room_lows : k ≤ length lows
 
 -- the answer in arrays of rows, of which some are held
 abbrev pub answer_in : List ℕ → List ℕ → Seen → Answer

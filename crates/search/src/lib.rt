@@ -5,7 +5,9 @@
 // entries to the heap, a leaf page is handed to the one function that reads leaf pages.
 #![tactic(auto)]
 
-ghost use Rattle.search.specs.Steps.{asks, Seeks, Looks, Searches, Searched};
+ghost use Rattle.std.specs.Prelude.{◌≡◌, false};
+ghost use Rattle.search.specs.Steps.{asks, Looks, Searches, Searched};
+ghost use Rattle.search_model.specs.Visit.{reads_none, room};
 ghost use Rattle.search_model.specs.Asked.{asking};
 
 use crate::visit::{best_first, reads_none};
@@ -36,26 +38,28 @@ pub struct Seen {
     pub leaves: u32,
 }
 
-// The search of an index in which something is read, with room for its frontier.
-fn search_with(
+// The search of an index in which something is read, with room for so many branches.
+fn search_with<const ROOM: usize>(
     index: &[u8],
     asked: &[u16],
     k: usize,
     choice: Choice,
-    slots: &mut [u64],
     highs: &mut [u64],
     lows: &mut [u64],
 ) -> Seen
-    requires { Seeks index.now asked.now k slots.old highs.old lows.old }
+    requires looks { Looks asked.now k highs.old lows.old }
+    requires some { reads_none index.now ≡ false }
+    requires room { ROOM ≡ room index.now }
     ensures { Searched index.now (asking asked.now k choice)
         highs.new lows.new result }
 {
+    let mut slots = [0u64; ROOM];
     let mut near = [0u16; NEAR_PLACES];
     let mut whole = [0u64; WHOLE_PLACES];
     prepare(asked, &mut near, &mut whole);
     let unweighted = is_unweighted(asked);
     best_first(
-        index, asked, &near, &whole, unweighted, k, choice, slots, highs, lows,
+        index, asked, &near, &whole, unweighted, k, choice, &mut slots, highs, lows,
     )
 }
 
@@ -76,20 +80,18 @@ fn search_for(
         return Seen { rows: 0, leaves: 0 };
     }
     let total = total_records(index);
-    if total <= FEW_RECORDS {
-        let mut slots = [0u64; SMALL_ROOM];
-        return search_with(index, asked, k, choice, &mut slots, highs, lows);
+    let few = total <= FEW_RECORDS;
+    let some = total <= SOME_RECORDS;
+    let many = total <= MANY_RECORDS;
+    if few {
+        search_with::<SMALL_ROOM>(index, asked, k, choice, highs, lows)
+    } else if some {
+        search_with::<MIDDLE_ROOM>(index, asked, k, choice, highs, lows)
+    } else if many {
+        search_with::<LARGE_ROOM>(index, asked, k, choice, highs, lows)
+    } else {
+        search_with::<FULL_ROOM>(index, asked, k, choice, highs, lows)
     }
-    if total <= SOME_RECORDS {
-        let mut slots = [0u64; MIDDLE_ROOM];
-        return search_with(index, asked, k, choice, &mut slots, highs, lows);
-    }
-    if total <= MANY_RECORDS {
-        let mut slots = [0u64; LARGE_ROOM];
-        return search_with(index, asked, k, choice, &mut slots, highs, lows);
-    }
-    let mut slots = [0u64; FULL_ROOM];
-    search_with(index, asked, k, choice, &mut slots, highs, lows)
 }
 
 // The nearest of the index's records to what is asked, as upper and lower words in the arrays lent: how many there are, and the number

@@ -18,13 +18,11 @@ use search_model::{Choice, MAX_LEVEL};
 use search_rows::behind;
 
 // Whether nothing is read: there are no records, or the root's level is that of no sound index.
+#[tactic(auto, unfolding(search_model::specs::Visit::reads_none))]
 pub fn reads_none(index: &[u8]) -> bool
     ensures { result ≡ reads_none index.now }
 {
-    if total_records(index) == 0 {
-        return true;
-    }
-    MAX_LEVEL < root_level(index)
+    total_records(index) == 0 || MAX_LEVEL < root_level(index)
 }
 
 // The key of the root, which needs no bound.
@@ -58,23 +56,14 @@ fn goes_on(
     requires { Turns slots.now n highs.now rows k }
     ensures { GoesOn index.now slots.now n highs.now rows k steps result }
 {
-    if steps == 0 {
+    if steps == 0 || n == 0 || behind(highs, rows, k, bound_in(slots[0])) {
         return false;
     }
-    if n == 0 {
-        return false;
-    }
-    let first = slots[0];
-    if behind(highs, rows, k, bound_in(first)) {
-        return false;
-    }
-    if level_in(first) == 0 {
-        return true;
-    }
-    entry_count(index, page_in(first)) + (n - 1) <= slots.len()
+    level_in(slots[0]) == 0 || entry_count(index, page_in(slots[0])) + (n - 1) <= slots.len()
 }
 
 // Takes branches from the root on, the first one first, until its bound exceeds the k-th distance.
+// Kept: a `while`, since the frontier grows as it is emptied, and the rows held decide with it when the visit ends.
 pub fn best_first(
     index: &[u8],
     asked: &[u16],

@@ -1,11 +1,5 @@
 -- Keys are in the order of their branches.
-use mathlib.Core.Path.{◌≡◌, refl, sym, ap, ◌∙◌}
-use mathlib.Core.Bool.{true, false}
-use mathlib.Core.List.{List, [], ◌∷◌, map}
-use Prim.Native.Nat.{ℕ, ◌+◌, ◌*◌, ◌-◌, ◌/◌, ◌%◌, ◌≤◌, ◌<◌}
-use native.Mathlib.Omega.{arith}
-use lib.Dec.{ltb}
-use borrow.Author.Tests.{lt-ltb, le-ltb}
+use Rattle.std.proofs.Common.{◌≡◌, refl, sym, ap, ◌∙◌, true, false, List, [], ◌∷◌, map, ℕ, ◌+◌, ◌*◌, ◌-◌, ◌/◌, ◌%◌, ◌≤◌, ◌<◌, arith, ltb, lt-ltb, le-ltb}
 use Rattle.lists.specs.Tests.{three, by_cases}
 use Rattle.lists.specs.Sorting.{insert_by}
 use Rattle.lists.specs.Orders.{lower, higher, by_lower, by_equal, by_higher_law, lex_first, lex_second, lex_last}

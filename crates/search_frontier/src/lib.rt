@@ -56,7 +56,7 @@ pub fn key_of(bound: u64, place: usize, level: usize, page: u32) -> u64
     ensures { result ≡ key_of (record { bound = bound; place = place; level = level; page = page }) }
 {
     let upper = (bound * PLACES + place as u64) * LEVELS + (TOP - level as u64);
-    upper * PAGES + page as u64
+    upper * PAGES + u64::from(page)
 }
 
 // A page of the index, or 0.
@@ -70,10 +70,11 @@ pub fn page_of(index: &[u8], page: u32) -> u32
 fn place_of(at: usize) -> usize
     ensures { (result ≡ min at last_place) × (result ≤ last_place) }
 {
-    if at < LAST_PLACE { at } else { LAST_PLACE }
+    at.min(LAST_PLACE)
 }
 
 // The pair of a key.
+// Kept: a function, since `From<Key> for Pair` could stand only in geometry, whose types both are.
 fn pair_of(key: Key) -> Pair
     ensures { (result.pyramid.0 ≡ key.pyramid.0) × (result.height.0 ≡ key.height.0) }
 {
@@ -130,13 +131,11 @@ pub fn open_page(
     let count = filled(count_at(index, page) as usize);
     let mut held = n;
     let mut at = place as usize;
-    let mut i = 0;
-    while i < count {
+    for i in 0..count {
         let entry = entry_at(index, page, i);
         let key = entry_key(index, asked, near, whole, entry, level, at);
         held = push(slots, held, key);
         at += leaf_count(index, level, entry.child);
-        i += 1;
     }
     held
 }

@@ -1,15 +1,6 @@
 -- Laws of a heap: a step down or up, the least at the top, what push and pop do to what is held.
-use Prim.Native.Nat.{ℕ, zero, suc, ◌+◌, ◌*◌, ◌-◌, ◌/◌, ◌≤◌, ◌<◌, min}
-use mathlib.Core.Bool.{false}
-use mathlib.Core.Path.{◌≡◌, refl, sym, ap, ◌∙◌}
-use mathlib.Core.Logic.{◌≢◌}
-use mathlib.Core.List.{List, [], ◌∷◌}
-use native.Mathlib.Omega.{arith}
-use native.Mathlib.Numerals.{add-one}
-use lib.ListN.{length, take, drop, get_or, set, length-set, length-take}
-use lib.Seq.{take-suc-set, get_or-set_same, get_or-set_other, get_or-take, lt-length-set, set-set, take-set-lt, drop-set-lt, length-take-le}
-use lib.Dec.{ltb}
-use borrow.Author.Tests.{le-ltb, ltb-true, ltb-false}
+use Rattle.std.proofs.Common.{ℕ, zero, suc, ◌+◌, ◌*◌, ◌-◌, ◌/◌, ◌≤◌, ◌<◌, min, false, ◌≡◌, refl, sym, ap, ◌∙◌, ◌≢◌, List, [], ◌∷◌, arith, add-one, length, take, drop, get_or, set, length-set, length-take, take-suc-set, get_or-set_same, get_or-set_other, get_or-take, lt-length-set, set-set, drop-set-lt, length-take-le, ltb, le-ltb, ltb-true, ltb-false}
+use lib.Seq.{take-set-lt}
 use Rattle.lists.specs.Basics.{All}
 use Rattle.lists.specs.Tests.{decide, three, by_cases}
 use Rattle.lists.specs.Places.{all_places}

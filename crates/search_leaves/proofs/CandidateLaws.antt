@@ -1,11 +1,7 @@
 -- A stage in a set of stages, by shift and mask, and what it and the stamp tell of a record.
-use mathlib.Core.Path.{◌≡◌, sym, ap, ◌∙◌}
-use mathlib.Core.Bool.{Bool, true, false}
-use Prim.Native.Nat.{ℕ, ◌/◌, ◌^◌, ◌≤◌, ◌<◌}
-use native.Mathlib.Omega.{arith}
-use native.Mathlib.Nat.{div-eq_of_lt, pow-le-pow_right, lt_of_lt_of_le}
-use lib.Dec.{eqb}
-use lib.Bits.{bit_and, and_mask}
+use Rattle.std.proofs.Common.{Option, ◌≡◌, sym, ap, ◌∙◌, Bool, true, false, ℕ, ◌/◌, ◌^◌, ◌≤◌, ◌<◌, arith, lt_of_lt_of_le, eqb, bit_and}
+use native.Mathlib.Nat.{div-eq_of_lt, pow-le-pow_right}
+use lib.Bits.{and_mask}
 use Rattle.calendar.specs.declared.Window.{Window}
 use Rattle.calendar.specs.Counting.{in_window}
 use Rattle.pagestore_page.specs.declared.Record.{Record}
@@ -36,7 +32,7 @@ module _ (c : Choice) (x : Record) where
       rw left
 
   -- one whose stage is in it is one just if its stamp lies in the window
-  pub window_tells : (t : Bool) (set s : ℕ) → t ≡ in_stages set s → t ≡ true → set ≡ c.stages → s ≡ x.stage → (r : Bool) (v : Window) (m : ℕ) → r ≡ in_window v m → v ≡ c.window → m ≡ x.stamp
+  pub window_tells : (t : Bool) (set s : ℕ) → t ≡ in_stages set s → t ≡ true → set ≡ c.stages → s ≡ x.stage → (r : Bool) (v : Option Window) (m : ℕ) → r ≡ in_window v m → v ≡ c.window → m ≡ x.stamp
       → (q : Asked) → q.choice ≡ c → r ≡ candidate q x
   unfolding candidate
   window_tells t set s e f g h r v m k l n q w =

@@ -1,16 +1,8 @@
 -- The steps of adding columns.
-use mathlib.Core.Path.{◌≡◌, refl, sym, ap, ◌∙◌}
-use mathlib.Core.Bool.{Bool, not}
-use mathlib.Core.Logic.{◌≢◌}
-use mathlib.Core.List.{List, [], ◌∷◌}
-use Prim.Native.Nat.{ℕ, zero, suc, ◌+◌, ◌-◌, ◌*◌, ◌≤◌, ◌<◌}
-use native.Mathlib.Omega.{arith}
-use native.Mathlib.Nat.{mul-le-mul, mul-suc, le_refl}
-use native.Mathlib.Numerals.{add-one}
-use lib.Dec.{ltb}
-use lib.ListN.{length, get_or, take, set, replicate, length-set, get_or-replicate}
-use lib.Seq.{get_or-set_same, get_or-set_other, take-suc}
-use borrow.Author.Tests.{ltb-true, lt-ltb, le-ltb, ne_eqb}
+use Rattle.std.proofs.Common.{◌≡◌, refl, sym, ap, ◌∙◌, Bool, true, false, not, ◌≢◌, List, [], ◌∷◌, ℕ, zero, suc, ◌+◌, ◌-◌, ◌*◌, ◌≤◌, ◌<◌, min, arith, mul-le-mul, mul-suc, le_refl, add-one, ltb, leb, length, get_or, take, set, replicate, length-set, get_or-set_same, get_or-set_other, take-suc, ltb-true, ltb-false, lt-ltb, le-ltb, le-leb, ne_eqb}
+use lib.ListN.{get_or-replicate}
+use borrow.Author.Tests.{lt-leb}
+use Rattle.std.specs.Int.{from_bool}
 use Rattle.lists.specs.Basics.{indicator, all_map}
 use Rattle.lists.specs.Tabulated.{all_at}
 use Rattle.lists.specs.Sorting.{count}
@@ -128,6 +120,10 @@ module _ (left : ℕ → ℕ → ℕ) (most : ℕ) (page q : List ℕ) (m n : �
   pub column_next : (i c : ℕ) (sums : List ℕ) → i < n → n ≤ 16 → left m i ≡ c + left (m + 1) i → c ≤ most → AddingColumn i sums → AddingColumn (i + 1) (set sums i (get_or sums i 0 + c))
   column_next i c sums h f e l a = let more : most * (m + 1) ≡ most * m + most = ap (λ (x : ℕ). most * x) (add-one m) ∙ mul-suc most m in adding_next most (left m) (left (m + 1)) (left 0) m (m + 1) n i c sums h f e (omega arith) a
 
+  -- of at most 16 columns
+  pub column_most : (i : ℕ) (sums : List ℕ) → AddingColumn i sums → i < n → m < length q → length q ≤ 16 → get_or sums i 0 ≤ most * 15
+  column_most i sums a h l f = let w = (a.todo i (le_refl i) h).1 in let top : most * m ≤ most * 15 = mul-le-mul (le_refl most) (omega arith) in omega arith
+
   pub column_end : (i : ℕ) (sums : List ℕ) → n ≤ i → Sized page q n → m < length q → AddingColumn i sums → SumsBy left most page q (m + 1) n sums
   column_end i sums h s w a =
       record { sized = s; within = omega arith; slots = a.slots; each = λ r g. (a.done r (omega arith)).0; low = λ r g. (a.done r (omega arith)).1 }
@@ -238,9 +234,17 @@ weight_light page ws q m n sums s h = all_at s.light m 0 (omega (arith, s.number
 -- ---- NONE NEAR ENOUGH
 
 -- one sum more is counted
-pub within_more : (limit : ℕ) (sums : List ℕ) (r : ℕ) → r < length sums → count (not_past limit) (take (r + 1) sums) ≡ count (not_past limit) (take r sums) + indicator (not_past limit (get_or sums r 0))
+pub within_more : (limit : ℕ) (sums : List ℕ) (r : ℕ) → r < length sums → count (not_past limit) (take (r + 1) sums) ≡ count (not_past limit) (take r sums) + from_bool (leb (get_or sums r 0) limit)
 unfolding count
-within_more limit sums r h = rw (add-one r, take-suc sums r 0 h, count_append (not_past limit) (take r sums) (get_or sums r 0 ∷ [])) (omega arith)
+within_more limit sums r h =
+    let b : from_bool (leb (get_or sums r 0) limit) ≡ indicator (not_past limit (get_or sums r 0)) = by_cases (ltb limit (get_or sums r 0))
+    (λ e. rw (e, lt-leb (get_or sums r 0) limit (ltb-true limit (get_or sums r 0) e)))
+    (λ e. rw (e, le-leb (get_or sums r 0) limit (ltb-false limit (get_or sums r 0) e))) in
+    rw (add-one r, take-suc sums r 0 h, count_append (not_past limit) (take r sums) (get_or sums r 0 ∷ [])) (omega arith)
+
+pub at_most_one : (b : Bool) → from_bool b ≤ 1
+at_most_one true = omega arith
+at_most_one false = omega arith
 
 -- where none is counted, all are beyond the limit
 pub none_within : (limit n : ℕ) (sums : List ℕ) → count (not_past limit) (take n sums) ≡ 0 → (r : ℕ) → r < n → r < length sums → limit < get_or sums r 0
@@ -254,5 +258,8 @@ none_within limit (suc n) (x ∷ xs) e (suc r) h g = none_within limit n xs (ome
 pub limit_all : (highs : List ℕ) (n k : ℕ) → BehindPast highs n k 4294967295
 limit_all highs n k x h l = absurd (omega arith)
 
-pub limit_last : (highs : List ℕ) (n k : ℕ) → k ≤ n → k ≢ 0 → BehindPast highs n k (distance_in (get_or highs (k - 1) 0))
+limit_last : (highs : List ℕ) (n k : ℕ) → k ≤ n → k ≢ 0 → BehindPast highs n k (distance_in (get_or highs (k - 1) 0))
 limit_last highs n k h z x g l = rw (le-ltb n k h, ne_eqb k 0 z, lt-ltb (distance_in (get_or highs (k - 1) 0)) x l)
+
+pub limit_near : (highs : List ℕ) (n k : ℕ) → k ≤ n → k ≢ 0 → BehindPast highs n k (min (distance_in (get_or highs (k - 1) 0)) 4294967295)
+limit_near highs n k h z x g l = limit_last highs n k h z x g (omega arith)

@@ -1,13 +1,6 @@
 -- The steps of offering a leaf's records.
-use mathlib.Core.Path.{◌≡◌, refl, sym, ap, ◌∙◌}
-use mathlib.Core.Bool.{true, false}
-use mathlib.Core.List.{List, [], ◌∷◌, map}
-use lib.IntN.{ℤ}
-use Prim.Native.Nat.{ℕ, zero, suc, ◌+◌, ◌*◌, ◌-◌, ◌≤◌, ◌<◌, min}
-use native.Mathlib.Omega.{arith}
-use native.Mathlib.Nat.{le_refl, mul-le-mul}
-use lib.ListN.{length, take, drop, get_or, replicate, length-take, length-replicate}
-use lib.Seq.{take_all}
+use Rattle.std.proofs.Common.{◌≡◌, refl, sym, ap, ◌∙◌, true, false, List, [], ◌∷◌, map, ℤ, ℕ, zero, suc, ◌+◌, ◌*◌, ◌-◌, ◌≤◌, ◌<◌, min, arith, le_refl, mul-le-mul, length, take, drop, get_or, replicate, length-take, take_all}
+use lib.ListN.{length-replicate}
 use Rattle.lists.specs.Sorting.{filter, count}
 use Rattle.lists.specs.SortingLaws.{filter_first, filter_past, offer_take, offer_all_take, ins_all_ins}
 use Rattle.lists.specs.Sorting as sorting
@@ -35,7 +28,7 @@ use Rattle.search_model.specs.Asked.{Asked, distance_to, candidate, asking, aski
 use Rattle.search_model.specs.Branches.{row_of, rows_among}
 use Rattle.search_leaves.specs.Columns.{record_in, row_at, most_cost, Sums, not_past, BehindPast}
 use Rattle.search_model.specs.Asked.{low_ends, weights_in, Seekable}
-use Rattle.search_leaves.specs.Offering.{OfferedAll, OfferedRecord, ones}
+use Rattle.search_leaves.specs.Offering.{OfferedAll, ones}
 use Rattle.search_leaves.proofs.ColumnLaws.{sums_end, none_within}
 
 -- ---- OFFERING
@@ -94,6 +87,13 @@ module _ (q : Asked) (position : ℕ) (x : Record) where
   among_last rs k s h = by_cases (candidate q x) (λ e. rw e (offer_last k (row_of q position x) (map (row_of q position) (filter (candidate q) rs)) s h)) (λ e. rw e)
 
 -- ---- ONE RECORD
+
+-- the record in slot i of a leaf page is offered if it is a candidate, at that distance from whatever is asked
+pub record OfferedRecord (page : List ℕ) (i distance position : ℕ) (highs lows : List ℕ) (n k : ℕ)
+    (c : Choice) (r : ℕ) (highs' lows' : List ℕ) : Type 0 where
+  pub held : Held highs' lows' r k
+  pub rows : (q : Asked) → q.choice ≡ c → distance ≡ distance_to q (record_in page i)
+      → rows_in highs' lows' r ≡ sorting.offer_all row_order k (rows_among q position (record_in page i ∷ [])) (rows_in highs lows n)
 
 module _ (page : List ℕ) (i D position : ℕ) (highs lows : List ℕ) (n k : ℕ) (choice : Choice) where
   abbrev here : Record
@@ -156,6 +156,16 @@ module _ (page : List ℕ) (q : Asked) (position k : ℕ) (leaf : Leaf) (is : le
   offers_none s short h zero i l = offers_end i s (omega arith)
   offers_none s short h (suc m) i l =
       offers_next i no_record s s (omega arith) short (sym (offers_none s short h m (i + 1) (omega arith))) ∙ sym (h i (omega arith))
+
+-- one record more is offered, whose distance is told
+pub one_offered : (post : ℕ → ℕ → Type 0) (page : List ℕ) (count position k : ℕ) (c : Choice) → count ≡ min (leaf_of page).count 16 → (s : List Row) → length s ≤ k
+    → (highs lows : List ℕ) (n i j d r : ℕ) (highs' lows' : List ℕ) → i ≡ j + 1 → j < count → post j d
+    → ((q : Asked) → q.choice ≡ c → ((m d : ℕ) → m < count → post m d → d ≡ distance_to q (record_in page m)) → rows_in highs lows n ≡ offers_from q position k (records_in (leaf_of page)) i s)
+    → OfferedRecord page j d position highs lows n k c r highs' lows'
+    → (q : Asked) → q.choice ≡ c → ((m d : ℕ) → m < count → post m d → d ≡ distance_to q (record_in page m)) → rows_in highs' lows' r ≡ offers_from q position k (records_in (leaf_of page)) j s
+one_offered post page count position k c number s short highs lows n i j d r highs' lows' e h p before o q w told =
+    o.rows q w (told j d h p)
+    ∙ sym (offers_next page q position k (leaf_of page) refl count number j no_record s (rows_in highs lows n) h short (before q w told ∙ ap (λ (x : ℕ). offers_from q position k (records_in (leaf_of page)) x s) e))
 
 -- no more than k rows are held
 pub held_few : (highs lows : List ℕ) (n k : ℕ) → Held highs lows n k → length (rows_in highs lows n) ≤ k

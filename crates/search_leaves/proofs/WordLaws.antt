@@ -1,12 +1,5 @@
 -- Small numbers with a sign, in words of 16 and of 32 bits.
-use mathlib.Core.Path.{◌≡◌, refl}
-use Prim.Native.Nat.{ℕ, ◌*◌, ◌≤◌, ◌<◌}
-use native.Mathlib.Omega.{arith}
-use native.Mathlib.Nat.{mul-le-mul}
-use lib.IntN.{ℤ, pos, negsuc, nat_abs, ◌-ℤ◌, ◌*ℤ◌}
-use mir.Syntax.{w16, w32}
-use mir.Val.{to_z, of_z, SFits}
-use mir.Facts.{to_z-of_z}
+use Rattle.std.proofs.Common.{◌≡◌, refl, ℕ, ◌*◌, ◌≤◌, ◌<◌, arith, mul-le-mul, ℤ, pos, negsuc, nat_abs, ◌-ℤ◌, ◌*ℤ◌, w16, w32, to_z, of_z, SFits, to_z-of_z}
 use Rattle.geometry.proofs.IntLaws.{gap_pos}
 use Rattle.search_leaves.specs.Columns.{most_cost}
 

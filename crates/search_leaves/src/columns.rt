@@ -59,10 +59,8 @@ fn add_column(page: &[u8], q: &[u16], m: usize, n: usize, sums: &mut [u32])
     ensures { Sums page.now q.now (m + 1) n sums.new }
 {
     let x = q[m];
-    let mut r = 0;
-    while r < n {
+    for r in 0..n {
         sums[r] += cost_at(page, m, r, x);
-        r += 1;
     }
 }
 
@@ -78,14 +76,12 @@ fn add_four(page: &[u8], q: &[u16], m: usize, apart: usize, n: usize, sums: &mut
     let y = q[second];
     let z = q[third];
     let w = q[fourth];
-    let mut r = 0;
-    while r < n {
+    for r in 0..n {
         let a = cost_at(page, m, r, x);
         let b = cost_at(page, second, r, y);
         let c = cost_at(page, third, r, z);
         let e = cost_at(page, fourth, r, w);
         sums[r] += pair_cost(a, b) + pair_cost(c, e);
-        r += 1;
     }
 }
 
@@ -95,10 +91,8 @@ fn add_quarters(page: &[u8], q: &[u16], n: usize, sums: &mut [u32]) -> usize
     ensures { Sums page.now q.now result n sums.new }
 {
     let apart = q.len() / 4;
-    let mut m = 0;
-    while m < apart {
+    for m in 0..apart {
         add_four(page, q, m, apart, n, sums);
-        m += 1;
     }
     4 * apart
 }
@@ -108,10 +102,8 @@ fn add_rest(page: &[u8], q: &[u16], from: usize, n: usize, sums: &mut [u32])
     requires { Sums page.now q.now from n sums.old }
     ensures { Sums page.now q.now (length q.now) n sums.new }
 {
-    let mut m = from;
-    while m < q.len() {
+    for m in from..q.len() {
         add_column(page, q, m, n, sums);
-        m += 1;
     }
 }
 
@@ -129,20 +121,20 @@ fn weighted_cost(cost: u32, weight: u16) -> u64
     requires { (cost ≤ most_cost) × (weight ≤ max_weight) }
     ensures { (result ≡ weight * cost) × (result ≤ most_weighted) }
 {
-    weight as u64 * cost as u64
+    u64::from(weight) * u64::from(cost)
 }
 
 // Adds what coordinate m costs with its weight to the sums of the first n records.
+// Kept: beside `add_column`, as the sums have another width and each cost a factor; one function for both would be handed, for the one line
+// that differs, a closure with clauses of its own, and state its contract by them.
 fn add_weighted(page: &[u8], q: &[u16], weights: &[u16], m: usize, n: usize, sums: &mut [u64])
     requires { WeightedSums page.now weights.now q.now m n sums.old × (m < length q.now) }
     ensures { WeightedSums page.now weights.now q.now (m + 1) n sums.new }
 {
     let x = q[m];
     let weight = weights[m];
-    let mut r = 0;
-    while r < n {
+    for r in 0..n {
         sums[r] += weighted_cost(cost_at(page, m, r, x), weight);
-        r += 1;
     }
 }
 
@@ -151,9 +143,7 @@ pub fn add_weighted_columns(page: &[u8], q: &[u16], weights: &[u16], n: usize, s
     requires { WeightedSums page.now weights.now q.now 0 n sums.old }
     ensures { WeightedSums page.now weights.now q.now (length q.now) n sums.new }
 {
-    let mut m = 0;
-    while m < q.len() {
+    for m in 0..q.len() {
         add_weighted(page, q, weights, m, n, sums);
-        m += 1;
     }
 }

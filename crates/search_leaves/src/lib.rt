@@ -1,15 +1,14 @@
 // Leaves: the one function that reads leaf pages.
 #![tactic(auto)]
 
-ghost use Rattle.std.specs.Prelude.{◌≡◌, true, ◌≤◌, ◌<◌, min, length, take};
-ghost use Rattle.lists.specs.Basics.{indicator};
+ghost use Rattle.std.specs.Prelude.{◌≡◌, true, ◌≤◌, ◌<◌, min, length, get_or, take};
 ghost use Rattle.lists.specs.Sorting.{count};
-ghost use Rattle.search_rows.specs.Rows.{distances, positions};
+ghost use Rattle.search_rows.specs.Rows.{positions};
 ghost use Rattle.search_rows.specs.Held.{Held};
 ghost use Rattle.search_leaves.specs.Columns.{row_at, not_past, BehindPast};
 ghost use Rattle.search_model.specs.Asked.{in_stages, Seekable};
 ghost use Rattle.geometry_slices.specs.Questions.{Unweighted};
-ghost use Rattle.search_leaves.specs.Offering.{Tells, Offers, OfferedRecord, ones, LeafOffers, OfferedPart, OfferedLeaf};
+ghost use Rattle.search_leaves.specs.Offering.{Tells, Offers, OfferedRecords, ones, LeafOffers, OfferedPart, OfferedLeaf};
 ghost use Rattle.pagestore_page.specs.Layout.{max_items, page_size};
 
 use crate::columns::{add_columns, add_weighted_columns};
@@ -24,9 +23,7 @@ use search_rows::{Row, behind, distance_in, offer};
 mod columns;
 
 // The greatest distance of 32 bits.
-const FAR: u32 = 4294967295;
-
-const WIDE_FAR: u64 = FAR as u64;
+const FAR: u64 = 4294967295;
 
 // So many bits a set of stages has.
 const SET_BITS: u8 = 8;
@@ -35,13 +32,7 @@ const SET_BITS: u8 = 8;
 pub fn filled(count: usize) -> usize
     ensures { result ≡ min count max_items }
 {
-    if count < MAX_ITEMS { count } else { MAX_ITEMS }
-}
-
-fn wide(x: u32) -> u64
-    ensures { (result ≡ x) × (result < distances) }
-{
-    x as u64
+    count.min(MAX_ITEMS)
 }
 
 // A distance beyond which, up to 32 bits, a row is behind all k rows; with fewer than k rows there is none.
@@ -49,20 +40,10 @@ fn limit_of(highs: &[u64], n: usize, k: usize) -> u32
     requires { k ≤ length highs.now }
     ensures { BehindPast highs.now n k result }
 {
-    if n < k {
-        return FAR;
+    if n < k || k == 0 {
+        return FAR as u32;
     }
-    if k == 0 {
-        return FAR;
-    }
-    let last = distance_in(highs[k - 1]);
-    if last < WIDE_FAR { last as u32 } else { FAR }
-}
-
-fn not_past(limit: u32, x: u32) -> u32
-    ensures { (result ≡ indicator (not_past limit x)) × (result ≤ 1) }
-{
-    if limit < x { 0 } else { 1 }
+    distance_in(highs[k - 1]).min(FAR) as u32
 }
 
 // How many of the first n sums are not beyond the limit.
@@ -71,10 +52,8 @@ fn within(sums: &[u32], n: usize, limit: u32) -> u32
     ensures { result ≡ count (not_past limit) (take n sums.now) }
 {
     let mut near = 0;
-    let mut r = 0;
-    while r < n {
-        near += not_past(limit, sums[r]);
-        r += 1;
+    for r in 0..n {
+        near += u32::from(sums[r] <= limit);
     }
     near
 }
@@ -83,10 +62,7 @@ fn within(sums: &[u32], n: usize, limit: u32) -> u32
 fn in_stages(stages: u8, stage: u8) -> bool
     ensures { result ≡ in_stages stages stage }
 {
-    if SET_BITS <= stage {
-        return false;
-    }
-    (stages >> stage) & 1 == 1
+    stage < SET_BITS && (stages >> stage) & 1 == 1
 }
 
 // Whether the record in slot i of a leaf page is one of those looked for.
@@ -94,10 +70,7 @@ fn is_candidate(page: &[u8], i: usize, choice: Choice) -> bool
     requires { (length page.now ≡ page_size) × (i < max_items) }
     ensures { Tells page.now i choice result }
 {
-    if !in_stages(choice.stages, read_stage(page, i)) {
-        return false;
-    }
-    in_window(choice.window, read_stamp(page, i))
+    in_stages(choice.stages, read_stage(page, i)) && in_window(choice.window, read_stamp(page, i))
 }
 
 // The row of the record in slot i of a leaf page at a position, whose distance is told.
@@ -106,19 +79,20 @@ fn row_in(page: &[u8], i: usize, distance: u64, position: u32) -> Row
     ensures { result ≡ row_at page.now i distance position }
 {
     Row {
-        distance: distance,
+        distance,
         id: read_ident(page, i),
         stamp: read_stamp(page, i),
-        position: position as u64,
+        position: u64::from(position),
     }
 }
 
-// Offers the record in slot i of a leaf page, whose squared distance is told, if it is a candidate. Its identifier and
-// its stamp are read only where the distance is near enough for a row.
-fn offer_record(
+// Offers the first records of a leaf page, as many as `count`, whose distances are told, to the n rows held. Records are offered from
+// the last on: of those at one point identifiers rise, and where stamps rise with them, as in one recording, the best are offered first.
+// The identifier and the stamp of a record are read only where its distance is near enough for a row.
+fn offer_records<D: Fn(usize) -> u64>(
     page: &[u8],
-    i: usize,
-    distance: u64,
+    count: usize,
+    distance: D,
     position: u32,
     highs: &mut [u64],
     lows: &mut [u64],
@@ -126,22 +100,23 @@ fn offer_record(
     k: usize,
     choice: Choice,
 ) -> usize
-    requires { Offers page.now i distance position highs.old lows.old n k }
-    ensures { OfferedRecord page.now i distance position highs.old lows.old n k choice
+    requires { Offers (D.pre distance) (D.post distance) page.now count position highs.old lows.old n k }
+    ensures { OfferedRecords (D.post distance) page.now count position highs.old lows.old n k choice
         result highs.new lows.new }
 {
-    if behind(highs, n, k, distance) {
-        return n;
+    let mut rows = n;
+    for i in (0..count).rev() {
+        let far = distance(i);
+        let taken = !behind(highs, rows, k, far) && is_candidate(page, i, choice);
+        if taken {
+            rows = offer(highs, lows, rows, k, row_in(page, i, far, position));
+        }
     }
-    if !is_candidate(page, i, choice) {
-        return n;
-    }
-    offer(highs, lows, n, k, row_in(page, i, distance, position))
+    rows
 }
 
 // Offers the records of a leaf page to the n rows held, for a point without weights. The distances come first, all together; where
-// none is near enough, no record is looked at. Records are offered from the last on: of those at one point identifiers rise, and
-// where stamps rise with them, as in one recording, the best are offered first.
+// none is near enough, no record is looked at.
 fn offer_plain(
     page: &[u8],
     q: &[u16],
@@ -163,39 +138,11 @@ fn offer_plain(
     if within(&sums, full, limit_of(highs, n, k)) == 0 {
         return n;
     }
-    let mut rows = n;
-    let mut i = count;
-    while 0 < i {
-        i -= 1;
-        let sum = wide(sums[i]);
-        rows = offer_record(page, i, sum, position, highs, lows, rows, k, choice);
-    }
-    rows
-}
-
-// The same as `offer_record`, for the loop of weighted distances: a function that two loops call would be compiled into neither.
-fn offer_weighted_record(
-    page: &[u8],
-    i: usize,
-    distance: u64,
-    position: u32,
-    highs: &mut [u64],
-    lows: &mut [u64],
-    n: usize,
-    k: usize,
-    choice: Choice,
-) -> usize
-    requires { Offers page.now i distance position highs.old lows.old n k }
-    ensures { OfferedRecord page.now i distance position highs.old lows.old n k choice
-        result highs.new lows.new }
-{
-    if behind(highs, n, k, distance) {
-        return n;
-    }
-    if is_candidate(page, i, choice) {
-        return offer(highs, lows, n, k, row_in(page, i, distance, position));
-    }
-    n
+    let distance = |i: usize| -> u64
+        requires { i < max_items }
+        ensures { result ≡ get_or sums i 0 }
+    { u64::from(sums[i]) };
+    offer_records(page, count, distance, position, highs, lows, n, k, choice)
 }
 
 // The same for a point with weights, whose sums take more than 32 bits; each record is looked at.
@@ -218,13 +165,11 @@ fn offer_weighted(
     let full = lanes(count);
     let mut sums = [0u64; MAX_ITEMS];
     add_weighted_columns(page, q, weights, full, &mut sums);
-    let mut rows = n;
-    let mut i = count;
-    while i > 0 {
-        i -= 1;
-        rows = offer_weighted_record(page, i, sums[i], position, highs, lows, rows, k, choice);
-    }
-    rows
+    let distance = |i: usize| -> u64
+        requires { i < max_items }
+        ensures { result ≡ get_or sums i 0 }
+    { sums[i] };
+    offer_records(page, count, distance, position, highs, lows, n, k, choice)
 }
 
 // Offers the records of a leaf page, handed over as a part of the index, to the n rows held. No function of the search reads a

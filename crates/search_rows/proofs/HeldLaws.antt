@@ -1,15 +1,7 @@
 -- Laws of rows in two arrays: comparing words, putting a row in from the last on, what an offer leaves, and the stop test.
-use mathlib.Core.Path.{◌≡◌, refl, sym, ap, ◌∙◌}
-use mathlib.Core.Logic.{◌≢◌}
-use mathlib.Core.Bool.{Bool, true, false, not}
-use mathlib.Core.List.{List, [], ◌∷◌, ◌++◌, map, append-nil}
-use Prim.Native.Nat.{ℕ, zero, suc, ◌+◌, ◌*◌, ◌-◌, ◌/◌, ◌%◌, ◌≤◌, ◌<◌}
-use native.Mathlib.Omega.{arith}
-use native.Mathlib.Numerals.{add-one}
-use lib.ListN.{length, take, drop, get_or, set, length-take, length-set, drop_of_length-le}
-use lib.Seq.{length-take-le, get_or-take, take_all, take_at, take-suc, take-take, take-append-le, take-set-le, drop-set-lt}
-use lib.Dec.{ltb, eqb}
-use borrow.Author.Tests.{lt-ltb, le-ltb, le-leb, lt-leb, ltb-true, ltb-false, ne_eqb, not-true, not-false}
+use Rattle.std.proofs.Common.{◌≡◌, refl, sym, ap, ◌∙◌, ◌≢◌, Bool, true, false, not, List, [], ◌∷◌, ◌++◌, map, append-nil, ℕ, zero, suc, ◌+◌, ◌*◌, ◌-◌, ◌/◌, ◌%◌, ◌≤◌, ◌<◌, arith, add-one, length, take, drop, get_or, set, length-take, length-set, drop_of_length-le, length-take-le, get_or-take, take_all, take_at, take-suc, take-take, drop-set-lt, ltb, eqb, lt-ltb, le-ltb, le-leb, ltb-true, ltb-false, ne_eqb}
+use lib.Seq.{take-append-le, take-set-le}
+use borrow.Author.Tests.{lt-leb, not-true, not-false}
 use Rattle.lists.specs.Basics.{if, indicator}
 use Rattle.lists.specs.Tests.{three, false_true, by_cases}
 use Rattle.lists.specs.Sorting.{insert_by, offer}

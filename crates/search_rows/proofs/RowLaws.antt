@@ -2,10 +2,8 @@
 -- distance, and lists past a mark join up.
 use Rattle.std.specs.Prelude.{◌≡◌, ◌≢◌, Bool, true, false, ◌&&◌, ℕ, ◌+◌, ◌≤◌, ◌<◌, take, eqb}
 use Rattle.std.proofs.Math.Path.{refl, ap}
-use Rattle.std.proofs.Common.{sym, ◌∙◌, arith}
-use mathlib.Core.List.{List, [], ◌∷◌, map}
+use Rattle.std.proofs.Common.{sym, ◌∙◌, arith, List, [], ◌∷◌, map, eq-eqb, le-ltb, lt-ltb}
 use Rattle.std.proofs.Math.Dec.{ltb}
-use borrow.Author.Tests.{eq-eqb, le-ltb, lt-ltb}
 use Rattle.lists.specs.Basics.{All, none, also, all_map}
 use Rattle.lists.specs.Tests.{three, by_cases}
 use Rattle.lists.specs.Sorting.{count, filter, sum, Order, Sorted}

@@ -1,13 +1,10 @@
 -- Laws of the k-th cost: what it counts, how it goes with k and with the cost, and the rows within reach of it.
 use Rattle.std.specs.Prelude.{◌≡◌, Bool, true, false, take, ltb, leb}
 use Rattle.std.proofs.Math.Path.{refl, ap}
-use Rattle.std.proofs.Common.{sym, ◌∙◌, length-take}
+use Rattle.std.proofs.Common.{sym, ◌∙◌, length-take, List, [], ◌∷◌, map, ℕ, zero, suc, ◌-◌, ◌≤◌, ◌<◌, arith, ltb-false, lt-ltb, le-ltb, le-leb, leb-true, leb-false}
 use Rattle.std.proofs.Math.Bool.{not}
-use mathlib.Core.List.{List, [], ◌∷◌, map}
-use Prim.Native.Nat.{ℕ, zero, suc, ◌-◌, ◌≤◌, ◌<◌}
-use native.Mathlib.Omega.{arith}
 use Rattle.std.proofs.Math.ListN.{length, get_or}
-use borrow.Author.Tests.{ltb-false, lt-ltb, le-ltb, le-leb, lt-leb, leb-true, leb-false}
+use borrow.Author.Tests.{lt-leb}
 use Rattle.lists.specs.Basics.{All, none, also, all_map}
 use Rattle.lists.specs.Tests.{false_true, by_cases}
 use Rattle.lists.specs.Sorting.{filter, count, Order, Sorted, end, next}

@@ -1,8 +1,7 @@
 -- Why the lists got by always marking the last row join up.
 use Rattle.std.specs.Prelude.{◌≡◌, Bool, true, false, ℕ}
 use Rattle.std.proofs.Math.Path.{refl, sym, ap}
-use Rattle.std.proofs.Common.{◌∙◌, take-add}
-use mathlib.Core.List.{List, [], ◌∷◌, ◌++◌, append_assoc}
+use Rattle.std.proofs.Common.{◌∙◌, take-add, List, [], ◌∷◌, ◌++◌, append_assoc}
 use Rattle.std.proofs.Math.ListN.{take, drop, take-append-drop}
 use Rattle.lists.specs.Basics.{All, none, also, all_right, all_head}
 use Rattle.lists.specs.Sorting.{filter, sum, Order, sort}

@@ -1,7 +1,6 @@
 -- What is promised of a best-first search, over any kind of row and leaf.
 use Rattle.std.specs.Prelude.{◌≡◌, Bool, true, false, ℕ, zero, suc, ◌≤◌, length, take}
-use Rattle.std.proofs.Common.{sym, ap, ◌∙◌, arith}
-use mathlib.Core.List.{List, []}
+use Rattle.std.proofs.Common.{sym, ap, ◌∙◌, arith, List, []}
 use Rattle.std.proofs.Math.Seq.{take-take}
 use Rattle.lists.specs.Basics.{All, concat_map}
 use Rattle.lists.specs.Tests.{from_one}

@@ -1,11 +1,8 @@
 -- Why the leaves of the set hold every row within reach, and why reach leaves no near row out.
 use Rattle.std.specs.Prelude.{◌≡◌, true, ℕ, suc, ◌≤◌, ◌<◌, length, ltb, leb}
 use Rattle.std.proofs.Math.Path.{refl, sym, ap}
-use Rattle.std.proofs.Common.{◌∙◌}
+use Rattle.std.proofs.Common.{◌∙◌, List, [], ◌∷◌, ◌++◌, arith, ltb-true, ltb-false, le-leb, leb-true}
 use Rattle.std.proofs.Math.Bool.{Bool, false}
-use mathlib.Core.List.{List, [], ◌∷◌, ◌++◌}
-use native.Mathlib.Omega.{arith}
-use borrow.Author.Tests.{ltb-true, ltb-false, le-leb, leb-true}
 use Rattle.lists.specs.Basics.{All, none, also, all_map, concat_map}
 use Rattle.lists.specs.Tests.{false_true, by_cases}
 use Rattle.lists.specs.Sorting.{filter, count, Order, sort}

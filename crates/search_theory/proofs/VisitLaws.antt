@@ -1,14 +1,11 @@
 -- Why the visit gives the nearest rows and reads just the leaves of the set.
 use Rattle.std.specs.Prelude.{◌≡◌, Bool, true, false, ◌&&◌, ◌||◌, get_or, ltb, leb}
 use Rattle.std.proofs.Math.Path.{refl, sym, ap, ap₂, fun_ext}
-use Rattle.std.proofs.Common.{◌∙◌, length-take}
+use Rattle.std.proofs.Common.{◌∙◌, length-take, List, [], ◌∷◌, map, ℕ, zero, suc, ◌-◌, ◌≤◌, ◌<◌, arith, ltb-true, ltb-false, lt-ltb, le-ltb, le-leb}
 use Rattle.std.proofs.Math.Bool.{not}
-use mathlib.Core.List.{List, [], ◌∷◌, map}
-use Prim.Native.Nat.{ℕ, zero, suc, ◌-◌, ◌≤◌, ◌<◌}
-use native.Mathlib.Omega.{arith}
 use Rattle.std.proofs.Math.ListN.{length, take}
 use Rattle.std.proofs.Math.Dec.{leb-suc-zero, leb-suc-suc}
-use borrow.Author.Tests.{ltb-true, ltb-false, lt-ltb, le-ltb, le-leb, lt-leb}
+use borrow.Author.Tests.{lt-leb}
 use Rattle.lists.specs.Basics.{All, none, also, all_head, all_tail, all_map, concat_map}
 use Rattle.lists.specs.Tests.{false_true, by_cases}
 use Rattle.lists.specs.Sorting.{filter, Order, insert_by, sort, insert_all, Sorted, end, next}

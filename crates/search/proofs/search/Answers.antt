@@ -1,6 +1,4 @@
-use mathlib.Core.Path.{sym}
-use native.Mathlib.Omega.{arith}
-use lib.Seq.{length-take-le}
+use Rattle.std.proofs.Common.{sym, arith, length-take-le}
 use Rattle.search.proofs.search.Goals as goal
 
 pub slice_bounds-search_for-end : goal.slice_bounds-search_for-end

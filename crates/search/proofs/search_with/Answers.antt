@@ -1,29 +1,33 @@
-use mathlib.Core.Path.{◌∙◌}
+use Rattle.std.proofs.Common.{◌∙◌, rules, arith}
 use Rattle.search_model.specs.Asked.{asking}
-use Rattle.search.proofs.AnswerLaws.{level_low, answer_some, searched}
 use Rattle.search_model.proofs.AskedLaws.{preparable}
-use borrow.Author.Rules.{rules}
+use Rattle.search_model.proofs.RoomLaws.{room_most}
+use Rattle.search.proofs.AnswerLaws.{level_low, answer_some, searched}
 use Rattle.search.proofs.search_with.Goals as goal
 
 pub prepare-requires : goal.prepare-requires
-prepare-requires c = preparable _ _ _ c.requires.seekable (search rules) (search rules)
+prepare-requires g c = preparable _ _ _ c.requires.looks.seekable (search rules) (search rules)
 
 pub is_unweighted-unweighted-requires : goal.is_unweighted-unweighted-requires
-is_unweighted-unweighted-requires c = c.requires.seekable.packed
+is_unweighted-unweighted-requires g c = c.requires.looks.seekable.packed
+
+pub whole_as_slice-best_first : goal.whole_as_slice-best_first
+whole_as_slice-best_first g c = let r = room_most c.args.index.now in let e = c.requires.room in omega arith
 
 pub best_first-requires : goal.best_first-requires
-best_first-requires c = let S = c in
+best_first-requires g c =
+    let L = c.requires.looks in
     record {
-      tables = record { seekable = S.requires.seekable; ready = c.prepare.ensures };
+      tables = record { seekable = L.seekable; ready = c.prepare.ensures };
       flag = c.is_unweighted-unweighted.ensures.0;
-      low = level_low S.args.index.now S.requires.some;
-      one = S.requires.one;
-      room = S.requires.room;
-      room_highs = S.requires.room_highs;
-      room_lows = S.requires.room_lows;
+      low = level_low c.args.index.now c.requires.some;
+      one = L.one;
+      room = search rules;
+      room_highs = L.room_highs;
+      room_lows = L.room_lows;
     }
 
 pub returns : goal.returns
-returns c = let S = c in let B = c.best_first in
-    searched S.args.index.now (asking S.args.asked.now S.args.k S.args.choice) _ _ _ S.requires.one B.ensures.held.few
-    (B.ensures.answer ∙ answer_some S.args.index.now (asking S.args.asked.now S.args.k S.args.choice) S.requires.some)
+returns g c =
+    let a = c.args in let B = c.best_first in let q = asking a.asked.now a.k a.choice in
+    searched a.index.now q _ _ _ c.requires.looks.one B.ensures.held.few (B.ensures.answer ∙ answer_some a.index.now q c.requires.some)

@@ -1,5 +1,4 @@
-use mathlib.Core.Path.{refl, ap, ◌∙◌}
-use native.Mathlib.Omega.{arith}
+use Rattle.std.proofs.Common.{refl, ap, ◌∙◌, arith}
 use Rattle.pagestore_page.specs.declared.Entry.{Entry}
 use Rattle.tree_core.specs.Lookup.{leaf_count}
 use Rattle.search_model.specs.Asked.{asking}
@@ -12,23 +11,8 @@ use Rattle.search_frontier.proofs.open_page.Goals as goal
 pub loop-i-init : goal.loop-i-init
 loop-i-init c = let S = c in opening_start _ _ _ _ _ _ _ _ _ _ _ S.requires refl (inner_number S.args.index.now S.args.page _ _ c.count_at.ensures c.filled-count.ensures)
 
-pub entry_at-entry-requires : goal.entry_at-entry-requires
-entry_at-entry-requires c = let v = c.loop-i.invariant in let w = v.number in omega (arith, c.loop-i-test.true)
-
-pub entry_key-key-requires : goal.entry_key-key-requires
-entry_key-key-requires c = let v = c.loop-i.invariant in let l = v.low in (v.tables, omega arith)
-
-pub push-held-requires : goal.push-held-requires
-push-held-requires c = c.loop-i.invariant.heap
-
-pub leaf_count-at-requires : goal.leaf_count-at-requires
-leaf_count-at-requires c = let v = c.loop-i.invariant in let l = v.low in omega arith
-
 pub overflow_add-at : goal.overflow_add-at
 overflow_add-at c = let v = c.loop-i.invariant in let p = opening_places _ _ _ _ _ _ _ _ _ _ _ _ _ _ _ v c.loop-i-test.true in let m = c.leaf_count-at.ensures.1 in omega arith
-
-pub overflow_add-i : goal.overflow_add-i
-overflow_add-i c = let v = c.loop-i.invariant in let w = v.number in omega arith
 
 pub loop-i-preserved : goal.loop-i-preserved
 loop-i-preserved c = let S = c in let b = S.args.index.now in let L = c.loop-i in let P = c.push-held in let E = c.entry_key-key in let X = c.entry_at-entry in let C = c.leaf_count-at in
@@ -37,4 +21,4 @@ loop-i-preserved c = let S = c in let b = S.args.index.now in let L = c.loop-i i
     (C.ensures.0 ∙ ap (λ (x : Entry). leaf_count S.args.level b x.child) X.ensures) C.ensures.1
 
 pub returns : goal.returns
-returns c = opening_end _ _ _ _ _ _ _ _ _ _ _ _ _ _ _ c.loop-i.invariant c.loop-i-test.false
+returns c = opening_end _ _ _ _ _ _ _ _ _ _ _ _ _ _ _ c.loop-i.invariant (omega arith)

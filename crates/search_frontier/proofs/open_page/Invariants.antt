@@ -1,4 +1,3 @@
-use Prim.Native.Nat.{◌-◌}
 use Rattle.pagestore.specs.Store.{inner_at}
 use Rattle.search_frontier.proofs.OpenLaws.{Opening}
 use Rattle.search_frontier.proofs.open_page.Given as goal
@@ -6,6 +5,3 @@ use Rattle.search_frontier.proofs.open_page.Given as goal
 -- `open_page`: the invariant says what the branches still to come make of the frontier.
 abbrev pub invariant-loop-i : goal.invariant-loop-i
 invariant-loop-i l = Opening l.initial.slots l.n l.index l.asked l.near l.whole l.level l.place l.page (inner_at l.index l.page) l.count l.slots l.held l.at l.i
-
-abbrev pub decreases-loop-i : goal.decreases-loop-i
-decreases-loop-i l = l.count - l.i

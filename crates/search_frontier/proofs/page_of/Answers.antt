@@ -1,4 +1,4 @@
-use mathlib.Core.Path.{sym, ◌∙◌}
+use Rattle.std.proofs.Common.{sym, ◌∙◌}
 use Rattle.search_frontier.proofs.KeyLaws.{page_inside, page_outside}
 use Rattle.search_frontier.proofs.page_of.Goals as goal
 

@@ -1,4 +1,4 @@
-use native.Mathlib.Omega.{arith}
+use Rattle.std.proofs.Common.{arith}
 use Rattle.search_heap.proofs.HeapLaws.{least_one, least_join}
 use Rattle.search_heap.proofs.least_from.Goals as goal
 

@@ -1,5 +1,4 @@
-use Prim.Native.Nat.{◌+◌}
-use native.Mathlib.Omega.{arith}
+use Rattle.std.proofs.Common.{◌+◌, arith}
 use Rattle.search_heap.proofs.HeapLaws.{least_pair, least_join, least_all}
 use Rattle.search_heap.proofs.lowest_child.Goals as goal
 

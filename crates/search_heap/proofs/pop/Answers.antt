@@ -1,5 +1,5 @@
 use Rattle.search_heap.proofs.HeapLaws.{pop_start, popped, pop_last}
-use native.Mathlib.Omega.{arith}
+use Rattle.std.proofs.Common.{arith}
 use Rattle.search_heap.proofs.pop.Goals as goal
 
 -- `pop` takes the top and lets the last of the first n sink from there.

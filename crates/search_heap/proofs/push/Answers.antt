@@ -1,5 +1,5 @@
 use Rattle.search_heap.proofs.HeapLaws.{push_start, pushed, push_full}
-use native.Mathlib.Omega.{arith}
+use Rattle.std.proofs.Common.{arith}
 use Rattle.search_heap.proofs.push.Goals as goal
 
 -- `push` puts x behind the first n and lets it rise.

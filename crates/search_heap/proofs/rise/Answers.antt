@@ -1,9 +1,5 @@
-use Prim.Native.Nat.{◌<◌}
-use mathlib.Core.Path.{refl, ◌∙◌}
-use lib.ListN.{length-set}
-use lib.Seq.{drop-set-lt}
+use Rattle.std.proofs.Common.{◌<◌, refl, ◌∙◌, length-set, drop-set-lt, arith}
 use Rattle.search_heap.proofs.HeapLaws.{risen, rises, held_rises, settled, fits_of}
-use native.Mathlib.Omega.{arith}
 use Rattle.search_heap.proofs.rise.Goals as goal
 
 pub loop-h-init : goal.loop-h-init

@@ -1,6 +1,4 @@
-use Prim.Native.Nat.{◌+◌, ◌≤◌}
-use mathlib.Core.Path.{◌≡◌}
-use lib.ListN.{length, set, drop}
+use Rattle.std.proofs.Common.{◌+◌, ◌≤◌, ◌≡◌, length, set, drop}
 use Rattle.search_heap.specs.Heap.{held}
 use Rattle.search_heap.specs.Sifting.{Rising}
 use Rattle.search_heap.proofs.rise.Given as goal

@@ -1,8 +1,5 @@
-use mathlib.Core.Path.{refl, ◌∙◌}
-use lib.ListN.{length-set}
-use lib.Seq.{drop-set-lt}
+use Rattle.std.proofs.Common.{refl, ◌∙◌, length-set, drop-set-lt, arith}
 use Rattle.search_heap.proofs.HeapLaws.{lowest_kid, lowest, sunk, sinks, held_sinks, settled, fits_of}
-use native.Mathlib.Omega.{arith}
 use Rattle.search_heap.proofs.sink.Goals as goal
 
 pub loop-a-init : goal.loop-a-init

@@ -1,4 +1,4 @@
-use mathlib.Core.Path.{sym}
+use Rattle.std.proofs.Common.{sym}
 use Rattle.search_leaves.proofs.offer_leaf.Goals as goal
 
 -- `offer_leaf` meets its contract: where a point has no weights, they are ones.

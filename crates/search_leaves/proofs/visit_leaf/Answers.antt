@@ -1,10 +1,4 @@
-use mathlib.Core.Path.{◌≡◌, sym, ap, ◌∙◌}
-use mathlib.Core.Bool.{true}
-use mathlib.Core.List.{List}
-use Prim.Native.Nat.{ℕ, ◌+◌, ◌*◌, ◌-◌}
-use native.Mathlib.Omega.{arith}
-use lib.ListN.{length, take, drop, length-drop}
-use lib.Seq.{length-take-le}
+use Rattle.std.proofs.Common.{◌≡◌, sym, ap, ◌∙◌, true, List, ℕ, ◌+◌, ◌*◌, ◌-◌, arith, length, take, drop, length-drop, length-take-le}
 use Rattle.pagestore.specs.Store.{in_range}
 use Rattle.pagestore.specs.Store.RangeLaws.{range_whole}
 use Rattle.search_model.specs.Asked.{asking, weights_in}

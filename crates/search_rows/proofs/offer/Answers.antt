@@ -1,7 +1,6 @@
 use Rattle.search_rows.specs.Rows.{row_of}
 use Rattle.search_rows.proofs.HeldLaws.{held_part, offered_in, offered_out, offered_over, offered_same}
-use Prim.Native.Nat.{◌-◌}
-use native.Mathlib.Omega.{arith}
+use Rattle.std.proofs.Common.{◌-◌, arith}
 use Rattle.search_rows.proofs.offer.Goals as goal
 
 pub returns-then-n-k : goal.returns-then-n-k

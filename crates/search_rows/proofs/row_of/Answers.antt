@@ -1,6 +1,5 @@
-use native.Mathlib.Omega.{arith}
+use Rattle.std.proofs.Common.{arith, rules}
 use Rattle.search_rows.proofs.HeldLaws.{age_fits}
-use borrow.Author.Rules.{rules}
 use Rattle.search_rows.proofs.row_of.Goals as goal
 
 pub overflow_add-age : goal.overflow_add-age

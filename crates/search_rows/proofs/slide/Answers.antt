@@ -1,5 +1,4 @@
-use mathlib.Core.Path.{refl, ◌∙◌}
-use lib.ListN.{length-set}
+use Rattle.std.proofs.Common.{refl, ◌∙◌, length-set}
 use Rattle.search_rows.specs.Rows.{row_of}
 use Rattle.search_rows.proofs.HeldLaws.{slide_start, slide_on, slide_done}
 use Rattle.search_rows.proofs.slide.Goals as goal

@@ -1,5 +1,4 @@
-use mathlib.Core.Path.{◌≡◌}
-use lib.ListN.{length}
+use Rattle.std.proofs.Common.{◌≡◌, length}
 use Rattle.search_rows.specs.Rows.{row_of}
 use Rattle.search_rows.proofs.HeldLaws.{Sliding}
 use Rattle.search_rows.proofs.slide.Given as goal

@@ -1,11 +1,8 @@
-use native.Mathlib.Omega.{arith}
+use Rattle.std.proofs.Common.{arith}
 use Rattle.pagestore.specs.Store.RangeLaws.{pages_few}
 use Rattle.search_model.proofs.RoomLaws.{room_some}
 use Rattle.search.proofs.TurnLaws.{visiting_start, visiting_turns, visiting_ends, visiting_leaf, visiting_opens, visiting_open}
 use Rattle.search.proofs.visit.best_first.Goals as goal
-
-pub root_key-requires : goal.root_key-requires
-root_key-requires c = c.requires.low
 
 pub bounds-slots-0 : goal.bounds-slots-0
 bounds-slots-0 c = let S = (c) in let r = S.requires.room in let s = room_some S.args.index.now in omega arith
@@ -19,38 +16,17 @@ loop-choice-init c = visiting_start _ _ _ _ _ _ _ _ _ _ _ _ c.requires c.root_ke
 pub goes_on-requires : goal.goes_on-requires
 goes_on-requires c = visiting_turns _ _ _ _ _ _ _ _ _ _ _ _ _ _ _ _ c.loop-choice.invariant
 
-pub overflow_sub-steps : goal.overflow_sub-steps
-overflow_sub-steps c = let g = (c.goes_on.ensures.goes c.loop-choice-test.true).left in omega arith
-
-pub pop-key-requires : goal.pop-key-requires
-pop-key-requires c = ((c.goes_on.ensures.goes c.loop-choice-test.true).some, c.loop-choice.invariant.heap)
-
-pub overflow_sub-n : goal.overflow_sub-n
-overflow_sub-n c = let g = (c.goes_on.ensures.goes c.loop-choice-test.true).some in omega arith
-
 pub visit_leaf-rows-requires : goal.visit_leaf-rows-requires
 visit_leaf-rows-requires c = let v = c.loop-choice.invariant in (v.tables.seekable, c.requires.flag, omega (arith, c.place_in-place.ensures), v.holds)
-
-pub overflow_add-leaves : goal.overflow_add-leaves
-overflow_add-leaves c = let f = c.loop-choice.invariant.few in omega arith
-
-pub loop-choice-smaller-then-level-eq0 : goal.loop-choice-smaller-then-level-eq0
-loop-choice-smaller-then-level-eq0 c = let g = (c.goes_on.ensures.goes c.loop-choice-test.true).left in omega arith
 
 pub loop-choice-preserved-then-level-eq0 : goal.loop-choice-preserved-then-level-eq0
 loop-choice-preserved-then-level-eq0 c = let P = c.pop-key in let W = c.visit_leaf-rows in
     visiting_leaf _ _ _ _ _ _ _ _ _ _ _ _ _ _ _ _ c.loop-choice.invariant (c.goes_on.ensures.goes c.loop-choice-test.true) _ _ P.ensures P.auto.a
     _ _ _ _ _ _ c.level_in-level.ensures c.place_in-place.ensures c.page_in-page.ensures c.if-level-eq0.true W.ensures W.auto.highs W.auto.lows
 
-pub overflow_sub-level : goal.overflow_sub-level
-overflow_sub-level c = omega (arith, c.if-level-eq0.false)
-
 pub open_page-n-requires : goal.open_page-n-requires
 open_page-n-requires c = let P = c.pop-key in
     visiting_opens _ _ _ _ _ _ _ _ _ _ _ _ _ _ _ _ c.loop-choice.invariant (c.goes_on.ensures.goes c.loop-choice-test.true) _ _ P.ensures P.auto.a _ _ _ c.level_in-level.ensures c.place_in-place.ensures c.page_in-page.ensures c.if-level-eq0.false
-
-pub loop-choice-smaller : goal.loop-choice-smaller
-loop-choice-smaller c = let g = (c.goes_on.ensures.goes c.loop-choice-test.true).left in omega arith
 
 pub loop-choice-preserved : goal.loop-choice-preserved
 loop-choice-preserved c = let P = c.pop-key in let O = c.open_page-n in

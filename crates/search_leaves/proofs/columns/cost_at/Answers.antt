@@ -1,4 +1,4 @@
-use mathlib.Core.Path.{ap, ◌∙◌}
+use Rattle.std.proofs.Common.{ap, ◌∙◌}
 use Rattle.search_leaves.specs.Columns.{gap_square}
 use Rattle.search_leaves.proofs.columns.cost_at.Goals as goal
 

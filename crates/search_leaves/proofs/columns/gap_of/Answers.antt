@@ -1,6 +1,4 @@
-use native.Mathlib.Omega.{arith}
-use lib.IntN.{pos, ◌-ℤ◌}
-use mir.Syntax.{w16}
+use Rattle.std.proofs.Common.{arith, pos, ◌-ℤ◌, w16}
 use mir.Facts.{to_z_pos}
 use Rattle.search_leaves.proofs.WordLaws.{fits_16, back_16, gap_most}
 use Rattle.search_leaves.proofs.columns.gap_of.Goals as goal

@@ -1,4 +1,4 @@
-use native.Mathlib.Omega.{arith}
+use Rattle.std.proofs.Common.{arith}
 use Rattle.search_leaves.proofs.columns.pair_cost.Goals as goal
 
 pub returns : goal.returns

@@ -1,7 +1,4 @@
-use mathlib.Core.Path.{◌≡◌, ap, ◌∙◌}
-use Prim.Native.Nat.{ℕ, ◌+◌, ◌-◌, ◌*◌, ◌≤◌}
-use native.Mathlib.Omega.{arith}
-use lib.IntN.{ℤ, pos, nat_abs, ◌-ℤ◌}
+use Rattle.std.proofs.Common.{◌≡◌, ap, ◌∙◌, ℕ, ◌+◌, ◌-◌, ◌*◌, ◌≤◌, arith, ℤ, pos, nat_abs, ◌-ℤ◌}
 use Rattle.geometry.proofs.IntLaws.{gap_pos}
 use Rattle.search_leaves.specs.Columns.{gap_square}
 use Rattle.search_leaves.proofs.ColumnLaws.{square_most}

@@ -1,7 +1,4 @@
-use mathlib.Core.Path.{refl}
-use Prim.Native.Nat.{◌*◌}
-use native.Mathlib.Omega.{arith}
-use lib.IntN.{pos, nat_abs}
+use Rattle.std.proofs.Common.{refl, ◌*◌, arith, pos, nat_abs}
 use Rattle.search_leaves.proofs.WordLaws.{fits_32, back_16, back_32, self_square, squared_most}
 use Rattle.search_leaves.proofs.columns.squared.Goals as goal
 

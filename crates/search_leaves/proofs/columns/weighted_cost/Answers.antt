@@ -1,11 +1,8 @@
-use mathlib.Core.Path.{refl}
-use native.Mathlib.Omega.{arith}
-use native.Mathlib.Nat.{mul-le-mul}
+use Rattle.std.proofs.Common.{refl, arith, mul-le-mul}
 use Rattle.search_leaves.proofs.columns.weighted_cost.Goals as goal
 
--- `columns::weighted_cost` meets its contract. Assumes nothing.
 pub overflow_mul-result : goal.overflow_mul-result
-overflow_mul-result c = let P = c.requires in let l = mul-le-mul P.1 P.0 in record { fits = omega (arith, l) }
+overflow_mul-result c = let l = mul-le-mul c.requires.1 c.requires.0 in rw (c.from.ensures, c.from-2.ensures) (record { fits = omega (arith, l) })
 
 pub returns : goal.returns
-returns c = let P = c.requires in (refl, mul-le-mul P.1 P.0)
+returns c = rw (c.from.ensures, c.from-2.ensures) (refl, mul-le-mul c.requires.1 c.requires.0)
