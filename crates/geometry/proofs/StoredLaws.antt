@@ -1,5 +1,5 @@
 -- Stored coordinates: what a stored number's coordinate is, and that a point in range is read back as it was stored.
-use Rattle.std.proofs.Common.{◌≡◌, refl, sym, ap, ap₂, ◌∙◌, Bool, true, false, List, [], ◌∷◌, ◌++◌, map, ℕ, zero, suc, ◌+◌, ◌-◌, ◌/◌, ◌≤◌, ◌<◌, arith, add_comm, le-ltb, lt-ltb, ltb-true, ltb-false, le-leb, leb-true, leb, ltb, ℤ, pos, negsuc, nat_abs, ◌+ℤ◌, ◌-ℤ◌, length, get_or, take, replicate, take_at, w16, SFits, to_z, of_z, to_z-of_z}
+use Rattle.std.proofs.Common.{◌≡◌, refl, sym, ap, ap₂, ◌∙◌, Bool, true, false, List, [], ◌∷◌, ◌++◌, map, ℕ, zero, suc, ◌+◌, ◌-◌, ◌/◌, ◌≤◌, ◌<◌, arith, le-ltb, lt-ltb, ltb-true, ltb-false, le-leb, leb-true, leb, ltb, ℤ, pos, negsuc, nat_abs, ◌-ℤ◌, length, get_or, take, replicate, take_at, w16, SFits, to_z, of_z, to_z-of_z}
 use Rattle.std.proofs.Math.ListN.{length-map}
 use Rattle.lists.specs.Basics.{if, All, none, also}
 use Rattle.lists.specs.Tests.{by_cases}
@@ -132,10 +132,6 @@ point_ranges none = refl
 point_ranges (also {x = x} h t) = rw (le-leb (nat_abs (coord_of x)) 1000 (omega (arith, coord_magnitude x))) (point_ranges t)
 
 -- a coordinate as the machine holds it
-pub sum_stored : (c : ℤ) → nat_abs c ≤ 1000 → c +ℤ pos 1000 ≡ pos (stored c)
-sum_stored (pos n) h = ap pos (add_comm n 1000)
-sum_stored (negsuc n) h = rw (le-ltb 1000 (suc n) h) (ap pos (let e : 1000 - suc n ≡ 999 - n = omega arith in e))
-
 pub word_fits : (c : ℤ) → nat_abs c ≤ 2000 → SFits w16 c
 word_fits (pos n) h = record { sfits = omega arith }
 word_fits (negsuc n) h = record { sfits = omega arith }

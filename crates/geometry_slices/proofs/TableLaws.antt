@@ -13,7 +13,7 @@ use Rattle.geometry.specs.Slices.{on_axis, reach_of, axis_no, sign_no, slice_at}
 use Rattle.geometry.specs.Stored.{coord_of}
 use Rattle.geometry_slices.specs.Questions.{reach_at, size_of, part_from, asked_of, Packed, sum_to, row_at, row_from, width_of, row_cost, Filled, Rows}
 use Rattle.lists.specs.Lengths.{zero_at}
-use Rattle.geometry_slices.specs.Tables.{row_in, Counted, Reached}
+use Rattle.geometry_slices.specs.Tables.{Reached}
 
 -- coordinate m of a question
 abbrev pub feature_in : List ℕ → ℕ → Feature
@@ -149,13 +149,6 @@ filled_more g at n xs ys v f l e =
 -- from the list's first place on
 pub filled_on : (g : ℕ → ℕ → ℕ) (n : ℕ) (xs ys : List ℕ) (v : ℕ) → Filled g 0 n xs ys → n < length ys → v ≡ g n (get_or ys n 0) → Filled g 0 (n + 1) xs (set ys n v)
 filled_on g n xs ys v f l e = let z : 0 + n ≡ n = omega arith in rw z at (filled_more g 0 n xs ys v f (omega arith) (rw z e))
-
--- one place of a row
-pub row_place : (reach places : List ℕ) (j m v : ℕ) → Counted places → m < 16 → v ≡ if (eqb (get_or places m 0) j) 0 (get_or reach m 0 - indicator (ltb j (get_or places m 0)))
-    → (y : ℕ) → v ≡ row_in reach j (row_from j + m) y
-row_place reach places j m v c l e y =
-    let z : row_from j + m - row_from j ≡ m = omega arith in
-    rw z (rw (c.each m l) at e)
 
 -- the reaches copied, and 0 past them
 pub reaches_copied : (a r : List ℕ) → size_of a ≤ 16 → r ≡ part_from 48 a → Reached a (r ++ drop (size_of a) (replicate 16 0))

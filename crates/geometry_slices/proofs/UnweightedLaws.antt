@@ -1,5 +1,5 @@
 -- A question without weights, coordinate by coordinate.
-use Rattle.std.proofs.Common.{◌≡◌, refl, sym, ap₂, subst, ◌∙◌, Bool, true, false, List, ℕ, ◌+◌, ◌*◌, ◌-◌, ◌≤◌, ◌<◌, arith, mul-le-mul, ltb, eqb, length, get_or, drop, length-take, length-drop, zip, HoldsAt, MatchBool}
+use Rattle.std.proofs.Common.{◌≡◌, refl, sym, ap₂, subst, ◌∙◌, Bool, true, false, List, ℕ, ◌+◌, ◌*◌, ◌-◌, ◌≤◌, ◌<◌, arith, ltb, eqb, length, get_or, drop, length-take, length-drop, zip, HoldsAt, MatchBool}
 use Rattle.std.proofs.Math.Decide.{dec_lt}
 use Rattle.lists.specs.Basics.{if, indicator}
 use Rattle.lists.specs.Tests.{false_true}
@@ -36,10 +36,6 @@ module _ (a : List ℕ) (p : Packed a) where
   unweighted_all false (k, l, f) =
       let l' : k < size_of a = omega (arith, many) in
       (λ (e : false ≡ true). false_true e, λ u. absurd (f (0, 0) (subst (λ (x : ℕ × ℕ). NoWeight x.0 x.1) (sym (pair_at k l')) (u k l'))))
-
--- a number below 2,048 squared
-pub square_small : (x : ℕ) → x < small_reach → x * x ≤ 4194304
-square_small x l = let k : x ≤ 2047 = omega arith in let s : x * x ≤ 4190209 = mul-le-mul k k in omega arith
 
 -- no place of a row is above the coordinate's reach
 row_below : (a : List ℕ) (j m : ℕ) → row_at a j m ≤ get_or a (reaches_from + m) 0

@@ -1,13 +1,12 @@
--- A slice from its row, rows filled one after the other, and the least distance to each whole pyramid.
-use Rattle.std.proofs.Common.{◌≡◌, refl, sym, ap, ap₂, ◌∙◌, List, ◌≢◌, ℕ, min, max, ◌+◌, ◌*◌, ◌-◌, ◌≤◌, ◌<◌, arith, ltb, length, get_or, set, length-set, get_or-set_same, get_or-set_other}
-use Rattle.std.proofs.Math.Decide.{ℕ_discrete}
+-- A slice from its row, the rows of a question, and the least distance to each whole pyramid.
+use Rattle.std.proofs.Common.{◌≡◌, sym, ap, ap₂, ◌∙◌, List, ◌≢◌, ℕ, min, max, ◌+◌, ◌*◌, ◌-◌, ◌<◌, arith, ltb, length, get_or, set, length-set, get_or-set_same, get_or-set_other}
 use Rattle.geometry.proofs.BoundLaws.{least_in_is}
 use Rattle.geometry_slices.proofs.PackedLaws.{asked_few}
 use Rattle.geometry_slices.proofs.TableLaws.{slice_asked, axis_in, row_sum, width_le}
 use Rattle.geometry.specs.Features.{Feature, gap_of}
 use Rattle.geometry.specs.Slices.{on_axis, axis_no, slice_at, LeastAt, least_in}
 use Rattle.geometry.specs.Stored.{coord_of}
-use Rattle.geometry_slices.specs.Questions.{size_of, asked_of, Packed, Unweighted, sum_to, row_at, row_from, width_of, row_cost, unweighted_place, near_places, Filled, Rows}
+use Rattle.geometry_slices.specs.Questions.{size_of, asked_of, Packed, Unweighted, sum_to, row_at, row_from, width_of, row_cost, unweighted_place, near_places, Rows}
 use Rattle.geometry_slices.specs.Tables.{row_in, Reached, Rowed, RowsOver}
 
 -- a slice as the code sums it
@@ -17,29 +16,14 @@ slice_of a near i j h n at g s r l e w f k t =
     let u : j < size_of a = omega (arith, e, axis_in (size_of a) i l) in
     ap₂ (λ (x y : ℕ). get_or a (32 + j) 0 * (x * x) + y) k (t ∙ row_sum a near j h n at r u w f) ∙ sym (slice_asked a r.packed i j h l e)
 
--- rows one after the other
-pub rowed_none : (reach : List ℕ) (n : ℕ) (xs : List ℕ) → Rowed reach 0 n xs xs
-rowed_none reach n xs = record { long = refl; before = λ x l. refl; row = λ j m l k. absurd (let z : j < 0 = l in omega arith) }
-
-pub rowed_more : (reach : List ℕ) (j n : ℕ) (xs ys zs : List ℕ) → n ≤ 16 → Rowed reach j n xs ys → Filled (row_in reach j) (row_from j) n ys zs → Rowed reach (j + 1) n xs zs
-rowed_more reach j n xs ys zs few r f =
-    record {
-      long = f.long ∙ r.long;
-      before = λ x l. f.before x (omega arith) ∙ r.before x l;
-      row = λ k m l u. by k m l u (ℕ_discrete k j);
-    }
-  where
-    by : (k m : ℕ) → k < j + 1 → m < n → Dec (k ≡ j) → get_or zs (row_from k + m) 0 ≡ row_in reach k (row_from k + m) 0
-    by k m l u (yes e) = rw e (f.inside (row_from j + m) (omega arith) (omega arith))
-    by k m l u (no e) = f.before (row_from k + m) (omega arith) ∙ r.row k m (omega arith) u
-
+-- a row from the reaches
 row_in_law : (a reach : List ℕ) (j m : ℕ) → Reached a reach → m < 16 → row_in reach j (row_from j + m) 0 ≡ row_at a j m
 unfolding row_at
 row_in_law a reach j m r l =
     let z : row_from j + m - row_from j ≡ m = omega arith in
     rw (z, r.each m l)
 
--- and behind them the flag
+-- the rows, and behind them the flag
 pub rows_over : (a reach xs ys : List ℕ) (d n v : ℕ) → Packed a → length xs ≡ near_places → d ≡ size_of a → n ≡ width_of d → Reached a reach → Rowed reach d n xs ys
     → (v ≡ 1 → Unweighted a) → RowsOver a xs (set ys unweighted_place v)
 rows_over a reach xs ys d n v p l e w r s q =

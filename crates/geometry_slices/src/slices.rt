@@ -46,6 +46,7 @@ fn square(x: u16) -> u32
 }
 
 // What n places of a row cost at height h without weights.
+// Kept beside row_sum: the two differ in what they sum, not only in its width, so that one generic function would have to be told both.
 fn row_squares(near: &[u16], at: usize, n: usize, h: u16) -> u32
     requires { Squares near.now at n }
     ensures { (result ≡ sum_to n (row_square near.now at h)) × (result ≤ 4194304 * n) }
