@@ -1,6 +1,6 @@
 // Points: range test and conversion, pyramid and height, gaps and what they cost.
 // A record holds each coordinate with 1,000 added (`point_of` reads it back), so everything here but the conversion is on unsigned numbers.
-ghost use Rattle.std.specs.Prelude.{◌≡◌, true, min, max, ◌+◌, ◌*◌, ◌-◌, ◌<◌, ◌≤◌, nat_abs, leb, length};
+ghost use Rattle.std.specs.Prelude.{◌≡◌, true, max, ◌+◌, ◌*◌, ◌-◌, ◌<◌, ◌≤◌, nat_abs, leb, length};
 ghost use Rattle.lists.specs.Basics.{if};
 ghost use Rattle.geometry.specs.Numbers.{max_features, max_coordinate};
 ghost use Rattle.geometry.specs.Points.{is_neg, height_of, axis_of, pyramid_of};
@@ -40,32 +40,6 @@ pub fn slots_of(p: &[i16]) -> [u16; MAX_FEATURES]
         slots[m] = slot(*c);
     }
     slots
-}
-
-// The distance of two numbers.
-pub fn apart(a: u16, b: u16) -> u16
-    ensures { result ≡ (a - b) + (b - a) }
-{
-    if a < b { b - a } else { a - b }
-}
-
-// What a has above b.
-pub fn above(a: u16, b: u16) -> u16
-    ensures { result ≡ a - b }
-{
-    if a < b { 0 } else { a - b }
-}
-
-pub fn smaller(a: u16, b: u16) -> u16
-    ensures { result ≡ min a b }
-{
-    if b < a { b } else { a }
-}
-
-pub fn greater(a: u16, b: u16) -> u16
-    ensures { result ≡ max a b }
-{
-    if a < b { b } else { a }
 }
 
 // The magnitude of a stored coordinate.
@@ -123,12 +97,6 @@ pub fn pair_of(p: &[u16]) -> Pair
         pyramid: Pyramid(i),
         height: Height(h),
     }
-}
-
-pub fn wide(x: u16) -> u64
-    ensures { (result ≡ x) × (result < 65536) }
-{
-    x as u64
 }
 
 // What a gap costs: its square.
