@@ -1,11 +1,5 @@
 -- What a repeated identifier shows. Assumes nothing.
-use mathlib.Core.Path.{◌≡◌, sym, ◌∙◌, subst}
-use mathlib.Core.List.{List, map}
-use Prim.Native.Nat.{ℕ, ◌≤◌, ◌<◌}
-use native.Mathlib.Omega.{arith}
-use lib.Dec.{ltb}
-use lib.ListN.{length, get_or, take}
-use borrow.Author.Tests.{ltb-true, ltb-false}
+use Rattle.std.proofs.Common.{◌≡◌, sym, ◌∙◌, subst, List, map, ℕ, ◌≤◌, ◌<◌, arith, ltb, length, get_or, take, ltb-true, ltb-false}
 use Rattle.lists.specs.Counts.{mult, mult_append, mult_none}
 use Rattle.lists.specs.Members.{At, get_spot, spot_get, spot_below, spot_map, map_spot, all_spot, mult_two, mult_find_two}
 use Rattle.lists.specs.Sorting.{sum}

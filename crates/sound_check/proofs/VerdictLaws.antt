@@ -1,8 +1,5 @@
 -- The verdict, from what is known of all but identifiers, and from these. Assumes nothing.
-use mathlib.Core.Path.{◌≡◌}
-use mathlib.Core.List.{List, map}
-use Prim.Native.Nat.{ℕ, ◌≤◌}
-use lib.ListN.{length}
+use Rattle.std.proofs.Common.{◌≡◌, List, map, ℕ, ◌≤◌, length}
 use Rattle.lists.specs.Counts.{mult}
 use Rattle.pagestore.specs.Store.{view_of}
 use Rattle.tree_model.specs.Trees.{ident_of, live}

@@ -15,7 +15,7 @@ use pagestore::{features_of, page_count, root_level, root_page, total_records};
 use pagestore_page::{MAX_PAGES, MAX_POINTS};
 pub use sound_faults::Fault;
 use sound_links::{header_fine, reach, root_filled, walk_freed};
-use sound_pages::{find_lost, judge_parents};
+use sound_pages::{Survey, find_lost};
 use sound_repeats::lowest_repeat_of;
 use sound_visit::visit;
 
@@ -51,10 +51,7 @@ fn check_whole(
     if POINTS < n {
         return Err(Fault { page: 0 });
     }
-    let q = find_lost(index, marks, freed);
-    if q != 0 {
-        return Err(Fault { page: q });
-    }
+    find_lost(index, marks, freed)?;
     let p = lowest_repeat_of(ids, holders, n);
     if p == 0 {
         Ok(())
@@ -79,15 +76,16 @@ fn check_tree(
     ensures { Verdict index.now result }
 {
     let d = features_of(index) as usize;
-    let v = visit(index, d, marks, firsts, lasts, ids, holders);
-    if v.page != 0 {
-        return Err(Fault { page: v.page });
-    }
-    let p = judge_parents(index, marks, freed, firsts, lasts, named);
-    if p != 0 {
-        return Err(Fault { page: p });
-    }
-    check_whole(index, v.points, marks, freed, ids, holders)
+    let n = visit(index, d, marks, firsts, lasts, ids, holders)?;
+    let survey = Survey {
+        index: index,
+        marks: marks,
+        freed: freed,
+        firsts: firsts,
+        lasts: lasts,
+    };
+    survey.judge_parents(named)?;
+    check_whole(index, n, marks, freed, ids, holders)
 }
 
 // The header, the freed pages and the root; then the pages that are followed from it are marked.
@@ -141,12 +139,15 @@ fn check_with<const PAGES: usize, const POINTS: usize>(index: &[u8]) -> Result<(
 
 // Is the index sound? The length is for the caller to test: of one that is not permitted, `Ok` says nothing. A small index is spared the room
 // for 16,384 pages and 65,535 points.
+#[tactic(auto, using(pagestore::specs::Store::RangeLaws::pages_few), unfolding(pagestore::specs::Store::view_of))]
 pub fn check(index: &[u8]) -> Result<(), Fault>
     ensures { Verdict index.now result }
 {
-    if page_count(index) <= SMALL_PAGES && total_records(index) <= SMALL_POINTS {
-        check_with::<FEW_PAGES, FEW_POINTS>(index)
-    } else {
+    if SMALL_PAGES < page_count(index) {
         check_with::<PAGES, POINTS>(index)
+    } else if SMALL_POINTS < total_records(index) {
+        check_with::<FEW_PAGES, POINTS>(index)
+    } else {
+        check_with::<FEW_PAGES, FEW_POINTS>(index)
     }
 }

@@ -1,12 +1,6 @@
 -- Greatest leads, column by column, and the key that they tell. Assumes nothing.
-use mathlib.Core.Path.{◌≡◌, sym, ap, ◌∙◌, subst}
-use mathlib.Core.List.{List}
-use Prim.Native.Nat.{ℕ, zero, suc, ◌+◌, ◌-◌, ◌*◌, ◌/◌, ◌%◌, ◌≤◌, ◌<◌, max}
-use native.Mathlib.Omega.{arith}
-use native.Mathlib.Numerals.{add-one}
-use lib.IntN.{nat_abs}
-use lib.ListN.{length, get_or, take, drop, set, replicate, length-take, length-set, length-replicate}
-use lib.Seq.{get_or-take, get_or-set_same, get_or-set_other}
+use Rattle.std.proofs.Common.{◌≡◌, sym, ap, ◌∙◌, subst, List, ℕ, zero, suc, ◌+◌, ◌-◌, ◌*◌, ◌/◌, ◌%◌, ◌≤◌, ◌<◌, max, arith, add-one, nat_abs, length, get_or, take, drop, set, replicate, length-take, length-set, get_or-take, get_or-set_same, get_or-set_other}
+use lib.ListN.{length-replicate}
 use Rattle.lists.specs.Basics.{if}
 use Rattle.lists.specs.Members.{all_spot, get_spot}
 use Rattle.lists.specs.Tests.{decide}
@@ -32,18 +26,13 @@ lead_reads cs m x h e f = ap (λ (y : ℕ). y * 16 + (15 - m)) (f ∙ ap (λ (z 
 
 -- ---- COLUMNS
 
--- one coordinate more, and four
-pub lead_next : (cs : List ℕ) (m : ℕ) {a l t : ℕ} → l ≡ lead_of m cs → t ≡ max a l → a ≡ lead_to m cs → t ≡ lead_to (m + 1) cs
-unfolding lead_to
-lead_next cs m {a} {l} e f g = rw (add-one m) (f ∙ (λ i. max (g i) (e i)))
+-- none more, and one more
+pub lead_same : (cs : List ℕ) (m n : ℕ) {t : ℕ} → n ≡ m → t ≡ lead_to m cs → t ≡ lead_to n cs
+lead_same cs m n e q = rw e q
 
-pub lead_fourth : (cs : List ℕ) (m : ℕ) {a b c e t k l p q : ℕ} → k ≡ lead_of m cs → b ≡ max a k → l ≡ lead_of (m + 1) cs → c ≡ max b l
-    → p ≡ lead_of (m + 2) cs → e ≡ max c p → q ≡ lead_of (m + 3) cs → t ≡ max e q → a ≡ lead_to m cs → t ≡ lead_to (m + 4) cs
-lead_fourth cs m f1 g1 f2 g2 f3 g3 f4 g4 s =
-    let one = lead_next cs m f1 g1 s in
-    let two = lead_next cs (m + 1) f2 g2 one ∙ ap (λ (z : ℕ). lead_to z cs) (let y : m + 1 + 1 ≡ m + 2 = omega arith in y) in
-    let three = lead_next cs (m + 2) f3 g3 two ∙ ap (λ (z : ℕ). lead_to z cs) (let y : m + 2 + 1 ≡ m + 3 = omega arith in y) in
-    lead_next cs (m + 3) f4 g4 three ∙ ap (λ (z : ℕ). lead_to z cs) (let y : m + 3 + 1 ≡ m + 4 = omega arith in y)
+pub lead_more_by : (cs : List ℕ) (m n : ℕ) {a l t : ℕ} → n ≡ m + 1 → l ≡ lead_of m cs → t ≡ max a l → a ≡ lead_to m cs → t ≡ lead_to n cs
+unfolding lead_to
+lead_more_by cs m n {a} {l} q e f g = rw (q, add-one m) (f ∙ (λ i. max (g i) (e i)))
 
 -- the first i of n records have their leads up to coordinate k, the others up to m
 pub record Leading (x : Leaf) (m k n i : ℕ) (tops : List ℕ) : Type 0 where

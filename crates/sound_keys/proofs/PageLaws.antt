@@ -1,7 +1,5 @@
 -- A followed page, judged by what was read of it. Assumes nothing.
-use mathlib.Core.Path.{◌≡◌, sym, ap, ◌∙◌, subst}
-use mathlib.Core.List.{List, [], map}
-use Prim.Native.Nat.{ℕ}
+use Rattle.std.proofs.Common.{◌≡◌, sym, ap, ◌∙◌, subst, List, [], map, ℕ, Option, Some, None}
 use Rattle.lists.specs.Basics.{All, none, concat_map}
 use Rattle.lists.specs.Ascending.{Ascending}
 use Rattle.lists.specs.Members.{At}
@@ -13,8 +11,8 @@ use Rattle.tree_model.specs.Sound.{RecordOk}
 use Rattle.sound_faults.specs.Faults.{ends, ranks_in, Reached, FailsAt}
 use Rattle.sound_faults.specs.Linked.{PageFine}
 use Rattle.sound_keys.specs.Judged.{RecordsFine, RecordsBad, LeafJudged, InnerJudged, PageJudged}
-use Rattle.sound_keys.specs.declared.Span.{Span}
-use Rattle.sound_keys.proofs.SpanLaws.{span_map}
+use Rattle.sound_keys.specs.declared.Ends.{Ends}
+use Rattle.lists.specs.AscendingLaws.{head_no, last_no}
 use Rattle.sound_faults.proofs.ViewLaws.{leaf_is, inner_is}
 
 module _ (b : List ℕ) (p d : ℕ) (same : d ≡ (view_of b).d) where
@@ -39,8 +37,9 @@ module _ (b : List ℕ) (p d : ℕ) (same : d ≡ (view_of b).d) where
     leaf_fails r (RecordsBad.field i y at n) =
         FailsAt.field (record { reached = r; at = subst (λ (z : Page). At (records_of z) i y) (sym page) at }) (λ o. n (subst (λ (k : ℕ). RecordOk k y) (sym same) o))
 
-    pub leaf_judged : {r : Span} → Reached (view_of b) p → LeafJudged d (records_in x) r → PageJudged (view_of b) p r
-    leaf_judged r s = span_map leaf_fine (leaf_fails r) leaf_ranks s
+    pub leaf_judged : (r : Option Ends) → Reached (view_of b) p → LeafJudged d (records_in x) r → PageJudged (view_of b) p r
+    leaf_judged None r q = leaf_fails r q
+    leaf_judged (Some e) r s = (leaf_fine s.0, s.1 ∙ ap head_no leaf_ranks, s.2 ∙ ap last_no leaf_ranks)
 
 module _ (b : List ℕ) (p : ℕ) (x : Inner) (e : x ≡ inner_at b p) (deep : ¬ (level_at b p ≡ 0)) where
   inner_ranks : (d : ℕ) → ranks_in d ((view_of b).page p) ≡ concat_map ends (entries_in x)
@@ -61,5 +60,6 @@ module _ (b : List ℕ) (p : ℕ) (x : Inner) (e : x ≡ inner_at b p) (deep : �
   inner_fails : Reached (view_of b) p → ¬ Ascending (concat_map ends (entries_in x)) → FailsAt (view_of b) p
   inner_fails r n = FailsAt.order r (λ a. n (subst Ascending (inner_ranks (view_of b).d) a))
 
-  pub inner_judged : {r : Span} → Reached (view_of b) p → InnerJudged (entries_in x) r → PageJudged (view_of b) p r
-  inner_judged r s = span_map inner_fine (inner_fails r) (sym (inner_ranks (view_of b).d)) s
+  pub inner_judged : (r : Option Ends) → Reached (view_of b) p → InnerJudged (entries_in x) r → PageJudged (view_of b) p r
+  inner_judged None r q = inner_fails r q
+  inner_judged (Some e) r s = let k = sym (inner_ranks (view_of b).d) in (inner_fine s.0, s.1 ∙ ap head_no k, s.2 ∙ ap last_no k)

@@ -1,21 +1,12 @@
--- Numbers that ascend, and the answers that tell the first and the last of them. Assumes nothing.
-use mathlib.Core.Path.{◌≡◌, refl, sym, ap, ◌∙◌, subst}
-use mathlib.Core.Bool.{Bool, true, false}
-use mathlib.Core.List.{List, [], ◌∷◌, ◌++◌, map, append_assoc}
-use Prim.Native.Nat.{ℕ, ◌+◌, ◌-◌, ◌≤◌, ◌<◌}
-use native.Mathlib.Omega.{arith}
-use lib.Dec.{ltb, eqb}
-use lib.ListN.{length, get_or, take, length-append}
-use borrow.Author.Tests.{eq-eqb, ne_eqb, ltb-true, ltb-false}
-use Rattle.lists.specs.Basics.{indicator, if, concat_map, concat_map_append}
+-- Numbers that ascend. Assumes nothing.
+use Rattle.std.proofs.Common.{◌≡◌, refl, sym, ap, ◌∙◌, subst, Bool, List, [], ◌∷◌, ◌++◌, map, append_assoc, ℕ, ◌+◌, ◌-◌, ◌≤◌, ◌<◌, arith, ltb, eqb, length, get_or, take, length-append, eq-eqb, ne_eqb, ltb-true, ltb-false}
+use Rattle.lists.specs.Basics.{if, concat_map, concat_map_append}
 use Rattle.lists.specs.Ascending.{Ascending, one, head_or, last_or, last_append}
 use Rattle.lists.specs.AscendingLaws.{head_no, last_no, asc_append, asc_cross}
 use Rattle.lists.specs.ConcatMapLaws.{map_append}
 use Rattle.lists.specs.Tests.{by_cases}
-use Rattle.lists.specs.Judges.{Judges, pass, fault, judge_map}
 use Rattle.sound_faults.specs.Prefixes.{take_more, take_next}
-use Rattle.sound_keys.specs.Judged.{AscendingSpan, Spans}
-use Rattle.sound_keys.specs.declared.Span.{Span}
+use Rattle.sound_keys.specs.Judged.{AscendingSpan}
 
 -- ---- NUMBERS THAT ASCEND
 
@@ -52,7 +43,7 @@ ascending_stop xs f n x ys r h a =
     (λ e. omega (arith, r.empty (omega (arith, ltb-false 0 (length xs) e))))
 
 -- the last one
-ascending_last : (xs : List ℕ) (f n : ℕ) → AscendingSpan xs f n → n - 1 ≡ last_no xs
+pub ascending_last : (xs : List ℕ) (f n : ℕ) → AscendingSpan xs f n → n - 1 ≡ last_no xs
 unfolding last_or
 ascending_last [] f n r = omega (arith, r.empty refl)
 ascending_last (x ∷ xs) f n r = omega (arith, r.last (omega arith))
@@ -102,16 +93,3 @@ module _ {A : Type 0} (f : A → List ℕ) (d : A) (xs : List A) where
       let w = next_pair i m x y h g e in
       ascending_stop (concat_map f (take i xs) ++ (x ∷ [])) (if (eqb n 0) x k) (x + 1) y w.0 (ascending_step (concat_map f (take i xs)) k n x (if (eqb n 0) x k) r l refl) (omega arith)
       (subst Ascending (w.1 ∙ sym (append_assoc (concat_map f (take i xs)) (x ∷ []) (y ∷ w.0))) a)
-
--- ---- SPANS
-
-pub span_fine : {P Q : Type 0} {xs : List ℕ} {f n : ℕ} {r : Span} → P → AscendingSpan xs f n → (r.fine ≡ true) × (r.first ≡ f) × (r.last ≡ n - 1) → Spans P Q xs r
-span_fine {P} {Q} {xs} {f} {n} p u e =
-    record { judged = subst (Judges P Q) (sym e.0) (pass p); ends = λ t. (e.1 ∙ u.first, e.2 ∙ ascending_last xs f n u) }
-
-pub span_faulty : {P Q : Type 0} {xs : List ℕ} {r : Span} → Q → r.fine ≡ false → Spans P Q xs r
-span_faulty {P} {Q} q e =
-    record { judged = subst (Judges P Q) (sym e) (fault q); ends = λ t. absurd (let z : ◌≡◌ {A = ℕ} 0 1 = ap indicator (sym e ∙ t) in omega arith) }
-
-pub span_map : {P P' Q Q' : Type 0} {xs ys : List ℕ} {r : Span} → (P → P') → (Q → Q') → xs ≡ ys → Spans P Q xs r → Spans P' Q' ys r
-span_map f g e s = record { judged = judge_map f g s.judged; ends = λ t. ((s.ends t).0 ∙ ap head_no e, (s.ends t).1 ∙ ap last_no e) }

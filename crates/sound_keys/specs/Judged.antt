@@ -1,5 +1,5 @@
 -- What is shown of a page that is judged by itself.
-use Rattle.std.specs.Prelude.{◌≡◌, true, List, map, ℕ, suc, ◌<◌, length}
+use Rattle.std.specs.Prelude.{◌≡◌, List, map, ℕ, suc, ◌<◌, length, Option, MatchOption}
 use Rattle.lists.specs.AscendingLaws.{head_no, last_no}
 use Rattle.lists.specs.Ascending.{Ascending}
 use Rattle.lists.specs.Members.{At}
@@ -11,8 +11,7 @@ use Rattle.tree_model.specs.Trees.{rank_of}
 use Rattle.tree_model.specs.Sound.{RecordOk}
 use Rattle.sound_faults.specs.Faults.{ends, ranks_in, FailsAt}
 use Rattle.sound_faults.specs.Linked.{PageFine}
-use Rattle.lists.specs.Judges.{Judges}
-use Rattle.sound_keys.specs.declared.Span.{Span}
+use Rattle.sound_keys.specs.declared.Ends.{Ends}
 
 -- the records of a leaf, by themselves
 pub record RecordsFine (d : ℕ) (rs : List Record) : Type 0 where
@@ -33,16 +32,15 @@ pub record AscendingSpan (xs : List ℕ) (f n : ℕ) : Type 0 where
 -- ---- A PAGE BY ITSELF
 
 -- a test that shows P, with the first and the last of the numbers xs, or Q
-pub record Spans (P Q : Type 0) (xs : List ℕ) (r : Span) : Type 0 where
-  pub judged : Judges P Q r.fine
-  pub ends : r.fine ≡ true → (r.first ≡ head_no xs) × (r.last ≡ last_no xs)
+abbrev pub Spans : Type 0 → Type 0 → List ℕ → Option Ends → Type 0
+Spans P Q xs r = MatchOption r Q (λ e. P × (e.first ≡ head_no xs) × (e.last ≡ last_no xs))
 
 -- a leaf's records, an inner page's entries, and the followed page p
-abbrev pub LeafJudged : ℕ → List Record → Span → Type 0
+abbrev pub LeafJudged : ℕ → List Record → Option Ends → Type 0
 LeafJudged d rs = Spans (RecordsFine d rs) (RecordsBad d rs) (map (rank_of d) rs)
 
-abbrev pub InnerJudged : List Entry → Span → Type 0
+abbrev pub InnerJudged : List Entry → Option Ends → Type 0
 InnerJudged es = Spans (Ascending (concat_map ends es)) (¬ Ascending (concat_map ends es)) (concat_map ends es)
 
-abbrev pub PageJudged : View → ℕ → Span → Type 0
+abbrev pub PageJudged : View → ℕ → Option Ends → Type 0
 PageJudged v p = Spans (PageFine v p) (FailsAt v p) (ranks_in v.d (v.page p))

@@ -1,5 +1,5 @@
 // The keys of records and entries, and a page judged by itself.
-ghost use Rattle.std.specs.Prelude.{◌≡◌, true, false, ◌-◌, ◌<◌, ◌≤◌, ◌^◌, eqb, length};
+ghost use Rattle.std.specs.Prelude.{◌≡◌, true, ◌<◌, ◌≤◌, ◌^◌, eqb, length};
 ghost use Rattle.lists.specs.Basics.{if};
 ghost use Rattle.geometry.specs.Keys.{key_number};
 ghost use Rattle.pagestore_page.specs.Layout.{leaf_of, max_items, page_size};
@@ -11,7 +11,7 @@ ghost use Rattle.geometry.specs.Numbers.{max_features, max_coordinate};
 ghost use Rattle.sound_keys.specs.Judged.{LeafJudged, InnerJudged, PageJudged};
 ghost use Rattle.sound_keys.specs.Leads.{Leads};
 
-use crate::Span;
+use crate::Ends;
 use crate::leads::{lead_columns, lead_key};
 use geometry::keys::key_number;
 use geometry::{Key, MAX_COORDINATE};
@@ -43,17 +43,7 @@ pub fn item_count(index: &[u8], page: u32) -> usize
     ensures { (result ≡ (leaf_at index.now page).count) × (result ≡ (inner_at index.now page).count)
         × (result ≡ fill_of (page_at index.now page)) }
 {
-    count_at(index, page) as usize
-}
-
-fn faulty() -> Span
-    ensures { result.fine ≡ false }
-{
-    Span {
-        fine: false,
-        first: 0,
-        last: 0,
-    }
+    usize::from(count_at(index, page))
 }
 
 // The first key of a page, with item i, whose key is `own`. The test is on i, so that the compiler takes a loop's first turn apart and drops it from
@@ -64,45 +54,34 @@ fn first_of(i: usize, first: u64, own: u64) -> u64
     if i == 0 { own } else { first }
 }
 
-// Keys from `first` to the one below `next`.
-fn span_to(first: u64, next: u64) -> Span
-    ensures { (result.fine ≡ true) × (result.first ≡ first) × (result.last ≡ next - 1) }
-{
-    let last = if next == 0 { 0 } else { next - 1 };
-    Span {
-        fine: true,
-        first: first,
-        last: last,
-    }
-}
-
 // Are the first n records in range, and do their keys ascend? `tops` holds their greatest leads.
-fn judge_records(page: &[u8], n: usize, d: usize, tops: &[u16]) -> Span
+fn judge_records(page: &[u8], n: usize, d: usize, tops: &[u16]) -> Option<Ends>
     requires { (length page.now ≡ page_size) × (n ≡ (leaf_of page.now).count) × (n ≤ max_items) × (1 ≤ d) × (d ≤ max_features)
         × Leads (leaf_of page.now) d n tops.now }
     ensures { LeafJudged d (records_in (leaf_of page.now)) result }
 {
     let mut first: u64 = 0;
     let mut next: u64 = 0;
-    let mut i = 0;
-    while i < n {
+    for i in 0..n {
         let key = lead_key(page, tops[i], i, d);
         if !record_fine(key, read_stage(page, i)) {
-            return faulty();
+            return None;
         }
         let own = rank(key);
         if own < next {
-            return faulty();
+            return None;
         }
         first = first_of(i, first, own);
         next = own + 1;
-        i += 1;
     }
-    span_to(first, next)
+    Some(Ends {
+        first: first,
+        last: next.saturating_sub(1),
+    })
 }
 
 // The records of a leaf, read from its page.
-fn judge_part(page: &[u8], n: usize, d: usize) -> Span
+fn judge_part(page: &[u8], n: usize, d: usize) -> Option<Ends>
     requires { (length page.now ≡ page_size) × (n ≡ (leaf_of page.now).count) × (n ≤ max_items) × (1 ≤ d) × (d ≤ max_features) }
     ensures { LeafJudged d (records_in (leaf_of page.now)) result }
 {
@@ -112,7 +91,7 @@ fn judge_part(page: &[u8], n: usize, d: usize) -> Span
 }
 
 // The same of the leaf at a page in range.
-fn judge_leaf(index: &[u8], page: u32, n: usize, d: usize) -> Span
+fn judge_leaf(index: &[u8], page: u32, n: usize, d: usize) -> Option<Ends>
     requires { (n ≡ (leaf_at index.now page).count) × (n ≤ max_items) × (1 ≤ d) × (d ≤ max_features) × (in_range index.now page ≡ true) }
     ensures { LeafJudged d (records_in (leaf_at index.now page)) result }
 {
@@ -122,38 +101,37 @@ fn judge_leaf(index: &[u8], page: u32, n: usize, d: usize) -> Span
 }
 
 // Do the keys of an inner page ascend, each entry's first and last in turn?
-fn judge_inner(index: &[u8], page: u32, n: usize) -> Span
+fn judge_inner(index: &[u8], page: u32, n: usize) -> Option<Ends>
     requires { (n ≡ (inner_at index.now page).count) × (n ≤ max_items) }
     ensures { InnerJudged (entries_in (inner_at index.now page)) result }
 {
     let mut first: u64 = 0;
     let mut next: u64 = 0;
-    let mut i = 0;
-    while i < n {
+    for i in 0..n {
         let e = entry_at(index, page, i);
         let low = rank(e.first);
         let high = rank(e.last);
-        if low < next {
-            return faulty();
-        }
-        if high <= low {
-            return faulty();
+        if low < next || high <= low {
+            return None;
         }
         first = first_of(i, first, low);
         next = high + 1;
-        i += 1;
     }
-    span_to(first, next)
+    Some(Ends {
+        first: first,
+        last: next.saturating_sub(1),
+    })
 }
 
 // The followed page p, by itself.
-pub fn judge_page(index: &[u8], p: u32, d: usize) -> Span
+pub fn judge_page(index: &[u8], p: u32, d: usize) -> Option<Ends>
     requires { Reached (view_of index.now) p × (d ≡ (view_of index.now).d) }
     ensures { PageJudged (view_of index.now) p result }
 {
     let n = item_count(index, p);
     if level_at(index, p) == 0 {
-        return judge_leaf(index, p, n, d);
+        judge_leaf(index, p, n, d)
+    } else {
+        judge_inner(index, p, n)
     }
-    judge_inner(index, p, n)
 }

@@ -5,7 +5,7 @@ ghost use Rattle.tree_model.specs.Trees.{key_of};
 ghost use Rattle.sound_keys.specs.Leads.{lead_of, lead_to, Leads};
 ghost use Rattle.geometry.specs.Numbers.{max_features};
 
-use geometry::points::{greater, magnitude, pyramid_no};
+use geometry::points::{magnitude, pyramid_no};
 use geometry::{Height, Key, MAX_FEATURES, Pyramid};
 use pagestore::{read_coord, read_ident};
 
@@ -25,66 +25,32 @@ fn lead(page: &[u8], m: usize, i: usize) -> u16
     h * PLACES + (LAST - m as u16)
 }
 
-// The greatest leads of the first n records, with coordinate m.
-fn lead_one(page: &[u8], m: usize, n: usize, tops: &mut [u16])
-    requires { (length page.now ≡ page_size) × (m < max_features) × (n ≤ max_items) × Leads (leaf_of page.now) m n tops.old }
-    ensures { Leads (leaf_of page.now) (m + 1) n tops.new }
+// The greatest leads of the first n records, with K coordinates from m on.
+fn lead_next<const K: usize>(page: &[u8], m: usize, n: usize, tops: &mut [u16])
+    requires { (length page.now ≡ page_size) × (m + K ≤ max_features) × (n ≤ max_items) × Leads (leaf_of page.now) m n tops.old }
+    ensures { Leads (leaf_of page.now) (m + K) n tops.new }
 {
-    let mut i = 0;
-    while i < n {
-        tops[i] = greater(tops[i], lead(page, m, i));
-        i += 1;
+    for i in 0..n {
+        let mut top = tops[i];
+        for k in 0..K {
+            top = top.max(lead(page, m + k, i));
+        }
+        tops[i] = top;
     }
 }
 
-// The same with four coordinates from m on.
-fn lead_four(page: &[u8], m: usize, n: usize, tops: &mut [u16])
-    requires { (length page.now ≡ page_size) × (m + 3 < max_features) × (n ≤ max_items) × Leads (leaf_of page.now) m n tops.old }
-    ensures { Leads (leaf_of page.now) (m + 4) n tops.new }
-{
-    let mut i = 0;
-    while i < n {
-        let a = greater(tops[i], lead(page, m, i));
-        let b = greater(a, lead(page, m + 1, i));
-        let c = greater(b, lead(page, m + 2, i));
-        tops[i] = greater(c, lead(page, m + 3, i));
-        i += 1;
-    }
-}
-
-// With the first d coordinates as far as they go in fours: how many these are.
-fn lead_fours(page: &[u8], d: usize, n: usize, tops: &mut [u16]) -> usize
-    requires { (length page.now ≡ page_size) × (d ≤ max_features) × (n ≤ max_items) × Leads (leaf_of page.now) 0 n tops.old }
-    ensures { Leads (leaf_of page.now) result n tops.new × (result ≤ d) }
-{
-    let mut m = 0;
-    while m + 3 < d {
-        lead_four(page, m, n, tops);
-        m += 4;
-    }
-    m
-}
-
-// With each of the first d coordinates, those before `from` being done.
-fn lead_rest(page: &[u8], from: usize, d: usize, n: usize, tops: &mut [u16])
-    requires { (length page.now ≡ page_size) × (from ≤ d) × (d ≤ max_features) × (n ≤ max_items)
-        × Leads (leaf_of page.now) from n tops.old }
-    ensures { Leads (leaf_of page.now) d n tops.new }
-{
-    let mut m = from;
-    while m < d {
-        lead_one(page, m, n, tops);
-        m += 1;
-    }
-}
-
-// The greatest leads of the first n records with d features.
+// The greatest leads of the first n records with d features: in fours, as far as they go, then one by one.
 pub fn lead_columns(page: &[u8], d: usize, n: usize, tops: &mut [u16])
     requires { (length page.now ≡ page_size) × (d ≤ max_features) × (n ≤ max_items) × Leads (leaf_of page.now) 0 n tops.old }
     ensures { Leads (leaf_of page.now) d n tops.new }
 {
-    let m = lead_fours(page, d, n, tops);
-    lead_rest(page, m, d, n, tops);
+    let fours = d / 4;
+    for q in 0..fours {
+        lead_next::<4>(page, 4 * q, n, tops);
+    }
+    for m in 4 * fours..d {
+        lead_next::<1>(page, m, n, tops);
+    }
 }
 
 // The key of record i with d features, by its greatest lead.

@@ -6,10 +6,9 @@ mod leads;
 
 pub use keys::{item_count, judge_page, rank};
 
-// A page judged by itself: is it fine, and if so, its first and last key as numbers; 0 where it has no keys.
-#[derive(Clone, Copy)]
-pub struct Span {
-    pub fine: bool,
+// The first and the last key of a page, as numbers; 0 where it has no keys.
+#[derive(Clone, Copy, Debug, PartialEq, Eq)]
+pub struct Ends {
     pub first: u64,
     pub last: u64,
 }

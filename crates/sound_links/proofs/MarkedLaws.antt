@@ -1,11 +1,5 @@
 -- The marked pages as a list: the followed pages, each once. Assumes nothing.
-use mathlib.Core.Path.{◌≡◌, refl, sym, ap, ◌∙◌, subst}
-use mathlib.Core.List.{List, [], ◌∷◌}
-use Prim.Native.Nat.{ℕ, zero, suc, ◌+◌, ◌≤◌, ◌<◌}
-use native.Mathlib.Omega.{arith}
-use native.Mathlib.Numerals.{add-one}
-use lib.ListN.{get_or}
-use borrow.Author.Tests.{eq-eqb, ne_eqb}
+use Rattle.std.proofs.Common.{◌≡◌, refl, sym, ap, ◌∙◌, subst, List, [], ◌∷◌, ℕ, zero, suc, ◌+◌, ◌≤◌, ◌<◌, arith, add-one, get_or, eq-eqb, ne_eqb}
 use Rattle.lists.specs.Counts.{mult, mult_self, mult_not, mult_none}
 use Rattle.lists.specs.Tests.{decide}
 use Rattle.pagestore.specs.Store.{View}

@@ -1,10 +1,5 @@
 -- Steps of the walk along the freed pages. Assumes nothing.
-use mathlib.Core.Path.{◌≡◌, refl, sym, ap, ◌∙◌, subst}
-use mathlib.Core.Bool.{true, false}
-use mathlib.Core.List.{List, [], ◌∷◌, ◌++◌, append_assoc, append-nil}
-use Prim.Native.Nat.{ℕ, suc, ◌+◌, ◌-◌, ◌≤◌, ◌<◌}
-use native.Mathlib.Omega.{arith}
-use lib.ListN.{length, set, length-set}
+use Rattle.std.proofs.Common.{◌≡◌, refl, sym, ap, ◌∙◌, subst, true, false, List, [], ◌∷◌, ◌++◌, append_assoc, append-nil, ℕ, suc, ◌+◌, ◌-◌, ◌≤◌, ◌<◌, arith, length, set, length-set}
 use Rattle.lists.specs.Counts.{mult, mult_append, mult_self, mult_not, mult_none}
 use Rattle.lists.specs.Tests.{by_cases, decide}
 use Rattle.pagestore.specs.Store.{View, view_of, pages_in, in_range, chain, chain_end, link_at, field_at, freed, freed_at, rest_at}

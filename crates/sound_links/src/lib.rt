@@ -1,7 +1,7 @@
 // Links between pages, for the check: the header, the freed chain, the root, and the pages that are followed from it.
 #![tactic(auto)]
 
-ghost use Rattle.std.specs.Prelude.{◌≡◌, suc, ◌≤◌};
+ghost use Rattle.std.specs.Prelude.{◌≤◌};
 ghost use Rattle.pagestore.specs.Store.{view_of, page_at};
 ghost use Rattle.sound_faults.specs.Faults.{RootFill, FailsAt};
 ghost use Rattle.sound_faults.specs.Linked.{HeaderFine};
@@ -23,19 +23,11 @@ const LEAST: u8 = MIN_ITEMS as u8;
 
 const MOST: u8 = MAX_ITEMS as u8;
 
-// A page number as the place of the page's mark.
-pub fn place(page: u32) -> usize
-    ensures { result ≡ page }
-{
-    page as usize
-}
-
 // Do the header's fields have no fault, each by itself?
 pub fn header_fine(index: &[u8]) -> bool
     ensures { Judges (HeaderFine (view_of index.now)) (FailsAt (view_of index.now) 0) result }
 {
-    let size = place(index_size(index));
-    if size * PAGE_SIZE != index.len() {
+    if index_size(index) as usize * PAGE_SIZE != index.len() {
         return false;
     }
     let d = features_of(index);
@@ -67,21 +59,19 @@ pub fn walk_freed(index: &[u8], freed: &mut [u8]) -> bool
     let pages = page_count(index);
     let fresh = fresh_page(index);
     let mut q = freed_head(index);
-    let mut k = 0;
-    while k < pages {
+    for k in 0..pages {
         if q == 0 {
             return true;
         }
         if fresh <= q {
             return false;
         }
-        let at = place(q);
+        let at = q as usize;
         if freed[at] == 1 {
             return false;
         }
         freed[at] = 1;
         q = link_at(index, q);
-        k += 1;
     }
     q == 0
 }
@@ -121,19 +111,12 @@ pub fn may_follow(index: &[u8], c: u32, above: u8) -> bool
     n <= MOST
 }
 
-// The mark of a followed page.
-fn mark_of(level: u8) -> u16
-    ensures { result ≡ suc level }
-{
-    level as u16 + 1
-}
-
 // Marks the page, which has the level, after the pages to be followed from it.
 pub fn reach(index: &[u8], page: u32, level: u8, marks: &mut [u16])
     requires { Ready (view_of index.now) marks.old page level }
     ensures { Grown (view_of index.now) marks.old marks.new page }
 {
-    let at = place(page);
+    let at = page as usize;
     if marks[at] != 0 {
         return;
     }
@@ -141,15 +124,12 @@ pub fn reach(index: &[u8], page: u32, level: u8, marks: &mut [u16])
         marks[at] = 1;
         return;
     }
-    let n = item_count(index, page);
-    let mut i = 0;
-    while i < n {
+    for i in 0..item_count(index, page) {
         let e = entry_at(index, page, i);
         let c = e.child;
         if may_follow(index, c, level) {
             reach(index, c, level - 1, marks);
         }
-        i += 1;
     }
-    marks[at] = mark_of(level);
+    marks[at] = u16::from(level) + 1;
 }

@@ -1,9 +1,5 @@
 -- The first and the last key of a page by the numbers that are kept of them. Assumes nothing.
-use mathlib.Core.Path.{◌≡◌, refl, sym, ap, ◌∙◌}
-use mathlib.Core.List.{List, [], ◌∷◌}
-use Prim.Native.Nat.{ℕ, ◌≤◌, ◌<◌}
-use native.Mathlib.Omega.{arith}
-use lib.ListN.{length, get_or}
+use Rattle.std.proofs.Common.{◌≡◌, refl, sym, ap, ◌∙◌, List, [], ◌∷◌, ℕ, ◌≤◌, ◌<◌, arith, length, get_or}
 use Rattle.lists.specs.Basics.{All, none, also, concat_map}
 use Rattle.lists.specs.Ascending.{head_or, last_or}
 use Rattle.lists.specs.AscendingLaws.{head_no, last_no}

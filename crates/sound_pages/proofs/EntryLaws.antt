@@ -1,11 +1,5 @@
 -- Steps of the judgement of entries. Assumes nothing.
-use mathlib.Core.Path.{◌≡◌, refl, sym, ap, ◌∙◌, subst}
-use mathlib.Core.List.{List}
-use Prim.Native.Nat.{ℕ, suc, ◌+◌, ◌*◌, ◌≤◌, ◌<◌}
-use native.Mathlib.Omega.{arith}
-use lib.Dec.{leb, ltb}
-use lib.ListN.{length, get_or, set, length-set}
-use borrow.Author.Tests.{leb-true, leb-false, ltb-true, ltb-false}
+use Rattle.std.proofs.Common.{◌≡◌, refl, sym, ap, ◌∙◌, subst, List, ℕ, suc, ◌+◌, ◌*◌, ◌≤◌, ◌<◌, arith, leb, ltb, length, get_or, set, length-set, leb-true, leb-false, ltb-true, ltb-false}
 use Rattle.lists.specs.Members.{At, spot_below}
 use Rattle.lists.specs.Tests.{by_cases, decide}
 use Rattle.pagestore_page.specs.declared.Entry.{Entry}

@@ -1,12 +1,14 @@
 -- What is kept of the followed pages, what their entries are held to, and the pages in no state.
-use Rattle.std.specs.Prelude.{◌≡◌, Bool, ◌⊎◌, List, ℕ, ◌+◌, ◌*◌, ◌≤◌, ◌<◌, length, get_or}
+use Rattle.std.specs.Prelude.{◌≡◌, Bool, ◌⊎◌, List, ℕ, ◌+◌, ◌*◌, ◌≤◌, ◌<◌, length, get_or, Result, MatchResult}
 use Rattle.lists.specs.AscendingLaws.{head_no, last_no}
 use Rattle.geometry.specs.Keys.{key_number}
 use Rattle.pagestore_page.specs.declared.Entry.{Entry}
-use Rattle.pagestore.specs.Store.{View}
+use Rattle.sound_pages.specs.declared.Survey.{Survey}
+use Rattle.pagestore.specs.Store.{View, view_of}
+use Rattle.sound_faults.specs.declared.Fault.{Fault}
 use Rattle.sound_faults.specs.Faults.{IsPage, Freed, Fresh, ranks_in, Reached, EntryAt, EntryFault, FailsAt}
 use Rattle.sound_faults.specs.Linked.{EntryFine, PageFine, InState}
-use Rattle.lists.specs.Judges.{Judges, Found}
+use Rattle.lists.specs.Judges.{Judges}
 use Rattle.sound_links.specs.Marks.{Marked, Seen, MarksAre, FreedMarks}
 use Rattle.pagestore_page.specs.Layout.{max_items}
 
@@ -19,8 +21,8 @@ pub record PagesFine (v : View) (firsts lasts : List ℕ) (k : ℕ) : Type 0 whe
   pub last : (q : ℕ) → q < k → Reached v q → get_or lasts q 0 ≡ last_no (ranks_in v.d (v.page q))
 
 -- page p judged by itself, its ends kept where it is fine
-abbrev pub PageKept : View → ℕ → List ℕ → List ℕ → Bool → Type 0
-PageKept v p firsts lasts = Judges (PagesFine v firsts lasts (p + 1)) (FailsAt v p)
+abbrev pub PageKept : View → ℕ → List ℕ → List ℕ → Result (Unit {0}) Fault → Type 0
+PageKept v p firsts lasts r = MatchResult r (λ _. PagesFine v firsts lasts (p + 1)) (λ f. (f.page ≡ p) × FailsAt v p)
 
 -- ---- ENTRIES
 
@@ -35,6 +37,9 @@ pub record Known (v : View) (m f firsts lasts : List ℕ) : Type 0 where
   pub freed : FreedMarks v f
   pub pages : PagesFine v firsts lasts v.count
   pub fresh : v.fresh ≤ v.count
+
+abbrev pub Surveyed : Survey → Type 0
+Surveyed s = Known (view_of s.index.now) s.marks.now s.freed.now s.firsts.now s.lasts.now
 
 -- an entry gives the first and the last key that are kept of its child
 pub record EndsKept (e : Entry) (firsts lasts : List ℕ) : Type 0 where
@@ -53,8 +58,8 @@ pub record Named (v : View) (m : List ℕ) (k : ℕ) : Type 0 where
 abbrev pub EntriesJudged : View → ℕ → List ℕ → Bool → Type 0
 EntriesJudged v p named = Judges (Named v named (max_items * (p + 1))) (EntryFault v p)
 
-abbrev pub ParentsJudged : View → List ℕ → ℕ → Type 0
-ParentsJudged v named = Found (Named v named (max_items * v.count)) (FailsAt v)
+abbrev pub ParentsJudged : View → List ℕ → Result (Unit {0}) Fault → Type 0
+ParentsJudged v named r = MatchResult r (λ _. Named v named (max_items * v.count)) (λ f. (0 < f.page) × FailsAt v f.page)
 
 -- ---- STATES
 
@@ -69,5 +74,5 @@ pub record Lost (v : View) (p : ℕ) : Type 0 where
 abbrev pub StateJudged : List ℕ → List ℕ → ℕ → Bool → Type 0
 StateJudged marks freed at = Judges (Seen marks at ⊎ Marked freed at) ((¬ Seen marks at) × (¬ Marked freed at))
 
-abbrev pub StatesJudged : View → ℕ → Type 0
-StatesJudged v = Found ((q : ℕ) → IsPage v q → InState v q) (Lost v)
+abbrev pub StatesJudged : View → Result (Unit {0}) Fault → Type 0
+StatesJudged v r = MatchResult r (λ _. (q : ℕ) → IsPage v q → InState v q) (λ f. Lost v f.page)

@@ -7,15 +7,15 @@ ghost use Rattle.sound_faults.specs.Faults.{Reached, EntryFault};
 ghost use Rattle.sound_faults.specs.Linked.{EntryFine};
 ghost use Rattle.lists.specs.Judges.{Decides, Judges};
 ghost use Rattle.sound_links.specs.Marks.{Clear, MarksAre, FreedMarks};
-ghost use Rattle.sound_pages.specs.Pages.{PagesFine, Known, HasEntry, EndsKept, Named};
+ghost use Rattle.sound_pages.specs.Pages.{PagesFine, HasEntry, EndsKept, Surveyed, Named};
 ghost use Rattle.sound_pages.specs.Pages.{PageKept, EntriesJudged, ParentsJudged, StateJudged, StatesJudged};
 ghost use Rattle.pagestore_page.specs.Layout.{max_items};
 
 use pagestore::{Entry, entry_at, fresh_page, level_at, page_count, root_page};
+use sound_faults::Fault;
 use sound_keys::{item_count, judge_page, rank};
-use sound_links::place;
 
-// Is page p, where it is followed, fine by itself? Keeps its first and last key.
+// Judges page p by itself, where it is followed, and keeps its first and last key.
 pub fn keep_page(
     index: &[u8],
     p: u32,
@@ -23,19 +23,19 @@ pub fn keep_page(
     marks: &[u16],
     firsts: &mut [u64],
     lasts: &mut [u64],
-) -> bool
+) -> Result<(), Fault>
     requires { (p < (view_of index.now).count) × (d ≡ (view_of index.now).d) × MarksAre (view_of index.now) marks.now
         × PagesFine (view_of index.now) firsts.old lasts.old p }
     ensures { PageKept (view_of index.now) p firsts.new lasts.new result }
 {
-    let at = place(p);
+    let at = p as usize;
     if marks[at] == 0 {
-        return true;
+        return Ok(());
     }
-    let span = judge_page(index, p, d);
-    firsts[at] = span.first;
-    lasts[at] = span.last;
-    span.fine
+    let ends = judge_page(index, p, d).ok_or(Fault { page: p })?;
+    firsts[at] = ends.first;
+    lasts[at] = ends.last;
+    Ok(())
 }
 
 // Does an entry give the first and last key that are kept of its child?
@@ -43,120 +43,98 @@ fn gives_ends(e: Entry, firsts: &[u64], lasts: &[u64]) -> bool
     requires { (e.child < length firsts.now) × (e.child < length lasts.now) }
     ensures { Decides (EndsKept e firsts.now lasts.now) result }
 {
-    let at = place(e.child);
+    let at = e.child as usize;
     if rank(e.first) != firsts[at] {
         return false;
     }
     rank(e.last) == lasts[at]
 }
 
-// Does an entry of page p have no fault, but for other entries that name its child? The child's mark tells its level, and that it is
-// rightly filled.
-fn judge_entry(
-    index: &[u8],
-    p: u32,
-    e: Entry,
-    marks: &[u16],
-    freed: &[u8],
-    firsts: &[u64],
-    lasts: &[u64],
-) -> bool
-    requires { HasEntry (view_of index.now) p e × Known (view_of index.now) marks.now freed.now firsts.now lasts.now }
-    ensures { Judges (EntryFine (view_of index.now) p e) (EntryFault (view_of index.now) p) result }
-{
-    let c = e.child;
-    if fresh_page(index) <= c {
-        return false;
-    }
-    let at = place(c);
-    if marks[at] != level_at(index, p) as u16 {
-        return false;
-    }
-    if c == root_page(index) {
-        return false;
-    }
-    if freed[at] == 1 {
-        return false;
-    }
-    gives_ends(e, firsts, lasts)
+// All pages, each judged by itself: the marks of the followed and of the freed ones, and the first and last keys that are kept.
+#[derive(Clone, Copy)]
+pub struct Survey<'a> {
+    pub index: &'a [u8],
+    pub marks: &'a [u16],
+    pub freed: &'a [u8],
+    pub firsts: &'a [u64],
+    pub lasts: &'a [u64],
 }
 
-// Do the entries of the inner page p have no fault? Marks the pages that they name.
-fn judge_entries(
-    index: &[u8],
-    p: u32,
-    marks: &[u16],
-    freed: &[u8],
-    firsts: &[u64],
-    lasts: &[u64],
-    named: &mut [u8],
-) -> bool
-    requires { Reached (view_of index.now) p × (¬ (level_at index.now p ≡ 0))
-        × Known (view_of index.now) marks.now freed.now firsts.now lasts.now
-        × Named (view_of index.now) named.old (max_items * p) }
-    ensures { EntriesJudged (view_of index.now) p named.new result }
-{
-    let n = item_count(index, p);
-    let mut i = 0;
-    while i < n {
-        let e = entry_at(index, p, i);
-        if !judge_entry(index, p, e, marks, freed, firsts, lasts) {
+impl Survey<'_> {
+    // Does an entry of page p have no fault, but for other entries that name its child? The child's mark tells its level, and that it is
+    // rightly filled.
+    fn judge_entry(&self, p: u32, e: Entry) -> bool
+        requires known { Surveyed self.now }
+        requires entry { HasEntry (view_of self.now.index.now) p e }
+        ensures { Judges (EntryFine (view_of self.now.index.now) p e) (EntryFault (view_of self.now.index.now) p) result }
+    {
+        let c = e.child;
+        if fresh_page(self.index) <= c {
             return false;
         }
-        let at = place(e.child);
-        if named[at] == 1 {
+        let at = c as usize;
+        if self.marks[at] != u16::from(level_at(self.index, p)) {
             return false;
         }
-        named[at] = 1;
-        i += 1;
-    }
-    true
-}
-
-// The same of page p, where it is a followed inner page.
-fn judge_parent(
-    index: &[u8],
-    p: u32,
-    marks: &[u16],
-    freed: &[u8],
-    firsts: &[u64],
-    lasts: &[u64],
-    named: &mut [u8],
-) -> bool
-    requires { (p < (view_of index.now).count)
-        × Known (view_of index.now) marks.now freed.now firsts.now lasts.now
-        × Named (view_of index.now) named.old (max_items * p) }
-    ensures { EntriesJudged (view_of index.now) p named.new result }
-{
-    let at = place(p);
-    if marks[at] <= 1 {
-        return true;
-    }
-    judge_entries(index, p, marks, freed, firsts, lasts, named)
-}
-
-// A followed page that has a faulty entry, or 0.
-pub fn judge_parents(
-    index: &[u8],
-    marks: &[u16],
-    freed: &[u8],
-    firsts: &[u64],
-    lasts: &[u64],
-    named: &mut [u8],
-) -> u32
-    requires { (1 ≤ (view_of index.now).count)
-        × Known (view_of index.now) marks.now freed.now firsts.now lasts.now × Clear (view_of index.now) named.old }
-    ensures { ParentsJudged (view_of index.now) named.new result }
-{
-    let pages = page_count(index);
-    let mut p = 1;
-    while p < pages {
-        if !judge_parent(index, p, marks, freed, firsts, lasts, named) {
-            return p;
+        if c == root_page(self.index) {
+            return false;
         }
-        p += 1;
+        if self.freed[at] == 1 {
+            return false;
+        }
+        gives_ends(e, self.firsts, self.lasts)
     }
-    0
+
+    // Do the entries of the inner page p have no fault? Marks the pages that they name.
+    fn judge_entries(&self, p: u32, named: &mut [u8]) -> bool
+        requires known { Surveyed self.now }
+        requires page { Reached (view_of self.now.index.now) p × (¬ (level_at self.now.index.now p ≡ 0)) }
+        requires named { Named (view_of self.now.index.now) named.old (max_items * p) }
+        ensures { EntriesJudged (view_of self.now.index.now) p named.new result }
+    {
+        let n = item_count(self.index, p);
+        for i in 0..n {
+            let e = entry_at(self.index, p, i);
+            if !self.judge_entry(p, e) {
+                return false;
+            }
+            let at = e.child as usize;
+            if named[at] == 1 {
+                return false;
+            }
+            named[at] = 1;
+        }
+        true
+    }
+
+    // The same of page p, where it is a followed inner page.
+    fn judge_parent(&self, p: u32, named: &mut [u8]) -> bool
+        requires known { Surveyed self.now }
+        requires page { p < (view_of self.now.index.now).count }
+        requires named { Named (view_of self.now.index.now) named.old (max_items * p) }
+        ensures { EntriesJudged (view_of self.now.index.now) p named.new result }
+    {
+        let at = p as usize;
+        if self.marks[at] <= 1 {
+            return true;
+        }
+        self.judge_entries(p, named)
+    }
+
+    // Judges the entries of all followed pages.
+    pub fn judge_parents(&self, named: &mut [u8]) -> Result<(), Fault>
+        requires known { Surveyed self.now }
+        requires some { 1 ≤ (view_of self.now.index.now).count }
+        requires clear { Clear (view_of self.now.index.now) named.old }
+        ensures { ParentsJudged (view_of self.now.index.now) named.new result }
+    {
+        for p in 1..page_count(self.index) {
+            if !self.judge_parent(p, named) {
+                return Err(Fault { page: p });
+            }
+        }
+        Ok(())
+    }
 }
 
 fn in_state(at: usize, marks: &[u16], freed: &[u8]) -> bool
@@ -169,19 +147,16 @@ fn in_state(at: usize, marks: &[u16], freed: &[u8]) -> bool
     freed[at] == 1
 }
 
-// A page in no state, or 0.
-pub fn find_lost(index: &[u8], marks: &[u16], freed: &[u8]) -> u32
+// Looks for a page in no state.
+pub fn find_lost(index: &[u8], marks: &[u16], freed: &[u8]) -> Result<(), Fault>
     requires { MarksAre (view_of index.now) marks.now × FreedMarks (view_of index.now) freed.now
         × (1 ≤ (view_of index.now).fresh) × ((view_of index.now).fresh ≤ (view_of index.now).count) }
     ensures { StatesJudged (view_of index.now) result }
 {
-    let fresh = fresh_page(index);
-    let mut p = 1;
-    while p < fresh {
-        if !in_state(place(p), marks, freed) {
-            return p;
+    for p in 1..fresh_page(index) {
+        if !in_state(p as usize, marks, freed) {
+            return Err(Fault { page: p });
         }
-        p += 1;
     }
-    0
+    Ok(())
 }

@@ -1,12 +1,6 @@
 -- Steps of the collection of identifiers. Assumes nothing.
-use mathlib.Core.Path.{◌≡◌, refl, sym, ap, ◌∙◌, subst}
-use mathlib.Core.List.{List, [], ◌∷◌, ◌++◌, map, append_assoc, append-nil}
-use Prim.Native.Nat.{ℕ, zero, suc, ◌+◌, ◌≤◌, ◌<◌}
-use native.Mathlib.Omega.{arith}
-use native.Mathlib.Numerals.{add-one}
-use lib.ListN.{length, get_or, take, set, length-append, length-map, length-take}
-use lib.Seq.{take-suc-set}
-use borrow.Author.Tests.{eq-eqb, ne_eqb}
+use Rattle.std.proofs.Common.{◌≡◌, refl, sym, ap, ◌∙◌, subst, List, [], ◌∷◌, ◌++◌, map, append_assoc, append-nil, ℕ, zero, suc, ◌+◌, ◌≤◌, ◌<◌, arith, add-one, length, get_or, take, set, length-append, length-take, take-suc-set, eq-eqb, ne_eqb}
+use lib.ListN.{length-map}
 use Rattle.lists.specs.Basics.{All, none, all_append}
 use Rattle.lists.specs.ConcatMapLaws.{map_append}
 use Rattle.lists.specs.Members.{At, map_spot, spots_all}
@@ -23,7 +17,7 @@ use Rattle.sound_faults.proofs.Assembled.{reached_page}
 use Rattle.sound_links.specs.Marks.{Seen, MarksAre, marked_to}
 use Rattle.sound_visit.specs.Collect.{ident_on, holder_of, pairs_on, pairs_if, pairs_to, Joined, Collected, Gathered}
 use Rattle.sound_faults.specs.Prefixes.{take_more}
-use Rattle.sound_faults.proofs.ViewLaws.{leaf_is, view_level, inner_points}
+use Rattle.sound_faults.proofs.ViewLaws.{leaf_few, leaf_is, view_level, inner_points}
 use Rattle.sound_links.proofs.MarkedLaws.{marked_yes, marked_no, marked_none}
 
 -- ---- ONE LEAF
@@ -97,6 +91,21 @@ module _ (b m : List ℕ) (p : ℕ) (x : Leaf) (e : x ≡ leaf_at b p) (h : leve
   leaf_joined {q} {n} {r} {ids} {holders} {ids'} {holders'} s j =
       let hs : map (λ y. q) (records_in x) ≡ map holder_of (pairs_if (view_of b) m p) = ap (λ (k : ℕ). map (λ y. k) (records_in x)) s ∙ sym leaf_holders in
       record { count = j.count ∙ ap (λ (l : List ℕ). n + length l) (sym leaf_idents); idents = j.idents ∙ ap (λ (l : List ℕ). take n ids ++ l) (sym leaf_idents); pages = j.pages ∙ ap (λ (l : List ℕ). take n holders ++ l) hs }
+
+-- a page whose mark is that of a leaf
+pub record Leafy (b m : List ℕ) (p : ℕ) : Type 0 where
+  pub level : level_at b p ≡ 0
+  pub on : ¬ (get_or m p 0 ≡ 0)
+  pub few : (leaf_at b p).count ≤ 16
+  pub many : length (pairs_if (view_of b) m p) ≡ (leaf_at b p).count
+
+pub leafy : (b m : List ℕ) (p : ℕ) → MarksAre (view_of b) m → get_or m p 0 ≡ 1 → Leafy b m p
+leafy b m p s h =
+    let r = s.reached p (omega (arith, h)) in
+    let z : level_at b p ≡ 0 = omega (arith, h, s.all p r, view_level b p) in
+    let on : ¬ (get_or m p 0 ≡ 0) = λ w. absurd (omega (arith, h, w)) in
+    let f = leaf_few b p (leaf_at b p) r refl in
+    record { level = z; on = on; few = f; many = leaf_count_law b m p (leaf_at b p) refl z on f }
 
 -- ---- ALL PAGES
 

@@ -1,11 +1,10 @@
 -- The identifiers of the followed leaves, each with the page that holds it, and what the visit of the followed pages gives.
-use Rattle.std.specs.Prelude.{◌≡◌, List, [], ◌++◌, map, ℕ, zero, suc, ◌+◌, ◌*◌, ◌≤◌, eqb, length, get_or, take}
+use Rattle.std.specs.Prelude.{◌≡◌, List, [], ◌++◌, map, ℕ, zero, suc, ◌+◌, ◌*◌, ◌≤◌, ◌<◌, eqb, length, get_or, take, Result, MatchResult}
 use Rattle.lists.specs.Basics.{if}
 use Rattle.pagestore.specs.Store.{records_of, View}
+use Rattle.sound_faults.specs.declared.Fault.{Fault}
 use Rattle.sound_faults.specs.Faults.{FailsAt}
-use Rattle.lists.specs.Judges.{Found}
 use Rattle.sound_pages.specs.Pages.{PagesFine}
-use Rattle.sound_visit.specs.declared.Findings.{Findings}
 use Rattle.pagestore_page.specs.Layout.{max_items}
 
 abbrev pub ident_on : ℕ × ℕ → ℕ
@@ -46,6 +45,6 @@ pub record Gathered (v : View) (m : List ℕ) (p n : ℕ) (ids holders : List �
   pub held : n ≤ length ids → Collected (pairs_to v m p) n ids holders
 
 -- the answer of the visit: where each followed page is fine by itself, their ends are kept and their records counted
-abbrev pub Visited : View → List ℕ → List ℕ → List ℕ → List ℕ → List ℕ → Findings → Type 0
+abbrev pub Visited : View → List ℕ → List ℕ → List ℕ → List ℕ → List ℕ → Result ℕ Fault → Type 0
 Visited v m firsts lasts ids holders r =
-    Found (PagesFine v firsts lasts v.count × Gathered v m v.count r.points ids holders) (FailsAt v) r.page
+    MatchResult r (λ n. PagesFine v firsts lasts v.count × Gathered v m v.count n ids holders) (λ f. (0 < f.page) × FailsAt v f.page)

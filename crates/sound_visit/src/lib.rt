@@ -10,24 +10,9 @@ ghost use Rattle.sound_visit.specs.Collect.{Joined, Gathered, Visited};
 ghost use Rattle.pagestore_page.specs.Layout.{max_items};
 
 use pagestore::{ident_at, page_count};
+use sound_faults::Fault;
 use sound_keys::item_count;
-use sound_links::place;
 use sound_pages::keep_page;
-
-// What the visit gives: a page that is not fine by itself, or 0, and the number of records.
-#[derive(Clone, Copy)]
-pub struct Findings {
-    pub page: u32,
-    pub points: usize,
-}
-
-// A page number as it is kept beside an identifier.
-fn narrow(page: u32) -> u16
-    requires { page < 65536 }
-    ensures { result ≡ page }
-{
-    page as u16
-}
 
 // Puts the identifiers of a leaf behind the first n of `ids`, and its page as often into `holders`: how many there are then.
 fn collect_leaf(
@@ -45,12 +30,10 @@ fn collect_leaf(
         (map (λ x. holder) (records_in (leaf_at index.now page)))
         n ids.old holders.old result ids.new holders.new }
 {
-    let mut i = 0;
-    while i < count {
+    for i in 0..count {
         let at = n + i;
         ids[at] = ident_at(index, page, i);
         holders[at] = holder;
-        i += 1;
     }
     n + count
 }
@@ -68,7 +51,7 @@ fn collect_page(
         × Gathered (view_of index.now) marks.now p n ids.old holders.old }
     ensures { Gathered (view_of index.now) marks.now (p + 1) result ids.new holders.new }
 {
-    let at = place(p);
+    let at = p as usize;
     if marks[at] != 1 {
         return n;
     }
@@ -76,11 +59,11 @@ fn collect_page(
     if ids.len() < n + count {
         return n + count;
     }
-    let holder = narrow(p);
+    let holder = p as u16;
     collect_leaf(index, p, count, holder, ids, holders, n)
 }
 
-// The whole visit, up to a page that is not fine by itself.
+// The whole visit, up to a page that is not fine by itself: the number of records.
 pub fn visit(
     index: &[u8],
     d: usize,
@@ -89,22 +72,17 @@ pub fn visit(
     lasts: &mut [u64],
     ids: &mut [u32],
     holders: &mut [u16],
-) -> Findings
+) -> Result<usize, Fault>
     requires { (1 ≤ (view_of index.now).count) × (d ≡ (view_of index.now).d) × MarksAre (view_of index.now) marks.now
         × ((view_of index.now).count ≤ length firsts.old) × ((view_of index.now).count ≤ length lasts.old)
         × (length holders.old ≡ length ids.old) }
     ensures { Visited (view_of index.now) marks.now firsts.new lasts.new
         ids.new holders.new result }
 {
-    let pages = page_count(index);
     let mut n = 0;
-    let mut p = 1;
-    while p < pages {
-        if !keep_page(index, p, d, marks, firsts, lasts) {
-            return Findings { page: p, points: n };
-        }
+    for p in 1..page_count(index) {
+        keep_page(index, p, d, marks, firsts, lasts)?;
         n = collect_page(index, p, marks, ids, holders, n);
-        p += 1;
     }
-    Findings { page: 0, points: n }
+    Ok(n)
 }

@@ -1,4 +1,3 @@
-use Rattle.std.proofs.Common.{◌-◌, ◌≤◌}
 use Rattle.pagestore.specs.Store.{view_of}
 use Rattle.sound_links.specs.Marks.{Going}
 use Rattle.sound_links.proofs.+reach.Given as goal
@@ -7,7 +6,4 @@ abbrev pub decreases-reach : goal.decreases-reach
 decreases-reach l = l.level
 
 abbrev pub invariant-loop-i : goal.invariant-loop-i
-invariant-loop-i l = Going (view_of l.index) l.initial.marks l.marks l.page l.i × (l.i ≤ l.n)
-
-abbrev pub decreases-loop-i : goal.decreases-loop-i
-decreases-loop-i l = l.n - l.i
+invariant-loop-i l = Going (view_of l.index) l.initial.marks l.marks l.page l.i

@@ -1,6 +1,4 @@
-use mathlib.Core.Path.{◌≡◌, sym, ap, ◌∙◌}
-use Prim.Native.Nat.{ℕ, ◌*◌}
-use native.Mathlib.Omega.{arith}
+use Rattle.std.proofs.Common.{◌≡◌, sym, ap, ◌∙◌, ℕ, ◌*◌, arith}
 use Rattle.lists.specs.Judges.{judge_eq}
 use Rattle.lists.specs.Judges.{Judges}
 use Rattle.pagestore.specs.Store.{view_of, level_of}
@@ -9,9 +7,9 @@ use Rattle.sound_faults.specs.Faults.{FailsAt}
 use Rattle.sound_links.proofs.MarkLaws.{root_fails}
 use Rattle.sound_links.proofs.header_fine.Goals as goal
 
-pub returns-then-size-index : goal.returns-then-size-index
+pub returns-then-index_size-index : goal.returns-then-index_size-index
 unfolding view_of
-returns-then-size-index c = Judges.fault (FailsAt.size (λ e. c.if-size-index.true (ap (λ (n : ℕ). n * 1024) (c.place-size.ensures ∙ c.index_size.ensures) ∙ e)))
+returns-then-index_size-index c = Judges.fault (FailsAt.size (λ e. c.if-index_size-index.true (ap (λ (n : ℕ). n * 1024) (c.index_size.ensures) ∙ e)))
 
 pub returns-then-d-lt1 : goal.returns-then-d-lt1
 unfolding view_of
@@ -45,7 +43,7 @@ returns c = let b = c.args.index.now in
     let real = c.if-root-eq0.false in
     judge_eq c.level_at.result c.root_level.result
     (λ h. record {
-      size = sym (ap (λ (n : ℕ). n * 1024) (c.place-size.ensures ∙ c.index_size.ensures)) ∙ c.if-size-index.false;
+      size = sym (ap (λ (n : ℕ). n * 1024) (c.index_size.ensures)) ∙ c.if-index_size-index.false;
       features = (omega (arith, c.features_of-d.ensures, c.if-d-lt1.false), omega (arith, c.features_of-d.ensures));
       fresh = (omega (arith, R.ensures, F, low), omega (arith, F, N, fits));
       root = (omega (arith, R.ensures, real), omega (arith, R.ensures, F, N, low, fits));

@@ -1,5 +1,4 @@
-use mathlib.Core.Path.{sym, ◌∙◌}
-use native.Mathlib.Omega.{arith}
+use Rattle.std.proofs.Common.{sym, ◌∙◌, arith}
 use Rattle.lists.specs.Judges.{judge_le}
 use Rattle.lists.specs.Judges.{Judges}
 use Rattle.sound_faults.proofs.ViewLaws.{page_of_law, page_out, view_level, view_fill}

@@ -1,8 +1,6 @@
 use Rattle.lists.specs.Judges.{judge_eq}
 use Rattle.lists.specs.Judges.{Judges}
-use lib.ListN.{get_or}
-use mathlib.Core.Logic.{inl, inr}
-use native.Mathlib.Omega.{arith}
+use Rattle.std.proofs.Common.{get_or, inl, inr, arith}
 use Rattle.sound_pages.proofs.in_state.Goals as goal
 
 pub returns-then-marks-at-ne0 : goal.returns-then-marks-at-ne0

@@ -1,14 +1,9 @@
-use mathlib.Core.Path.{◌≡◌}
-use mathlib.Core.List.{map}
-use Prim.Native.Nat.{◌+◌, ◌-◌, ◌≤◌}
-use lib.ListN.{length, take}
+use Rattle.std.proofs.Common.{◌≡◌, map, ◌+◌, take, ◌++◌}
 use Rattle.tree_model.specs.Trees.{ident_of}
-use mathlib.Core.List.{◌++◌}
 use Rattle.pagestore.specs.Store.{leaf_at}
 use Rattle.sound_visit.proofs.collect_leaf.Given as goal
 
 abbrev pub invariant-loop-i : goal.invariant-loop-i
-invariant-loop-i l = (take (l.n + l.i) l.ids ≡ take l.n l.initial.ids ++ map ident_of (take l.i (leaf_at l.index l.page).records)) × (take (l.n + l.i) l.holders ≡ take l.n l.initial.holders ++ map (λ r. l.holder) (take l.i (leaf_at l.index l.page).records)) × (length l.ids ≡ length l.initial.ids) × (length l.holders ≡ length l.initial.holders) × (l.i ≤ l.count)
-
-abbrev pub decreases-loop-i : goal.decreases-loop-i
-decreases-loop-i l = l.count - l.i
+invariant-loop-i l =
+    (take (l.n + l.i) l.ids ≡ take l.n l.initial.ids ++ map ident_of (take l.i (leaf_at l.index l.page).records))
+    × (take (l.n + l.i) l.holders ≡ take l.n l.initial.holders ++ map (λ r. l.holder) (take l.i (leaf_at l.index l.page).records))

@@ -1,8 +1,5 @@
 use Rattle.lists.specs.Basics.{if}
-use borrow.Author.Tests.{eq-eqb, ne_eqb}
-use mathlib.Core.Bool.{Bool}
-use mathlib.Core.Path.{ap, sym}
-use native.Mathlib.Omega.{arith}
+use Rattle.std.proofs.Common.{eq-eqb, ne_eqb, Bool, ap, sym, arith}
 use Rattle.sound_keys.proofs.keys.first_of.Goals as goal
 
 pub returns-then-i-eq0 : goal.returns-then-i-eq0

@@ -1,12 +1,10 @@
-use Prim.Native.Nat.{◌*◌, ◌+◌, ◌-◌}
+use Rattle.std.proofs.Common.{◌*◌, ◌+◌, ◌-◌, ◌∙◌, ap, subst, sym, arith}
 use Rattle.pagestore.specs.Store.{records_in}
 use Rattle.pagestore.specs.Store.PageLaws.{leaf_part}
 use Rattle.pagestore.specs.Store.RangeLaws.{range_whole}
 use Rattle.pagestore_page.specs.declared.Leaf.{Leaf}
 use Rattle.sound_faults.proofs.ViewLaws.{part_length}
 use Rattle.sound_keys.specs.Judged.{LeafJudged}
-use mathlib.Core.Path.{◌∙◌, ap, subst, sym}
-use native.Mathlib.Omega.{arith}
 use Rattle.sound_keys.proofs.keys.judge_leaf.Goals as goal
 
 pub slice_bounds-judge_part-end : goal.slice_bounds-judge_part-end

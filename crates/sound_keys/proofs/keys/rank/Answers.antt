@@ -1,4 +1,4 @@
-use native.Mathlib.Omega.{arith}
+use Rattle.std.proofs.Common.{arith}
 use Rattle.geometry.specs.Keys.{key_number}
 use Rattle.sound_keys.proofs.keys.rank.Goals as goal
 

@@ -1,4 +1,4 @@
-use native.Mathlib.Omega.{arith}
+use Rattle.std.proofs.Common.{arith}
 use Rattle.lists.specs.Judges.{judge_le}
 use Rattle.lists.specs.Judges.{Judges}
 use Rattle.sound_keys.proofs.keys.record_fine.Goals as goal

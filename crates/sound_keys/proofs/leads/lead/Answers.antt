@@ -1,8 +1,7 @@
 use Rattle.geometry.proofs.StoredLaws.{coord_magnitude}
 use Rattle.pagestore_page.specs.Layout.{leaf_of, no_record}
 use Rattle.sound_keys.proofs.LeadLaws.{lead_reads}
-use lib.ListN.{get_or}
-use native.Mathlib.Omega.{arith}
+use Rattle.std.proofs.Common.{get_or, arith}
 use Rattle.sound_keys.proofs.leads.lead.Goals as goal
 
 pub overflow_mul-result : goal.overflow_mul-result

@@ -1,10 +1,7 @@
-use Prim.Native.Nat.{◌≤◌}
+use Rattle.std.proofs.Common.{◌≤◌, get_or, length, ◌∙◌, arith}
 use Rattle.pagestore_page.specs.Layout.{leaf_of, no_record}
 use Rattle.pagestore_page.specs.declared.Record.{Record}
 use Rattle.sound_keys.proofs.LeadLaws.{coords_length, lead_height, lead_inside, lead_key, lead_pyramid}
-use lib.ListN.{get_or, length}
-use mathlib.Core.Path.{◌∙◌}
-use native.Mathlib.Omega.{arith}
 use Rattle.sound_keys.proofs.leads.lead_key.Goals.{Start}
 use Rattle.sound_keys.proofs.leads.lead_key.Goals as goal
 
