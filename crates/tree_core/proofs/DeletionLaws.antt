@@ -7,21 +7,18 @@ use Prim.Native.Nat.{ℕ, zero, suc, ◌+◌, ◌-◌, ◌≤◌, ◌<◌}
 use native.Mathlib.Omega.{arith}
 use native.Mathlib.Numerals.{add-one, sub-one}
 use lib.Dec.{leb, eqb}
-use lib.ListN.{length, take, drop, set, length-append, length-take, length-drop}
-use lib.Seq.{slice, take-nil, drop-nil, take_all, take-set-le, take-set-lt, set_out}
+use lib.ListN.{length, take, drop, set, length-append, length-take}
+use lib.Seq.{take_all, take-set-le, take-set-lt, set_out}
 use borrow.Author.Tests.{leb-true, leb-false, lt-ltb, le-ltb, le-leb, lt-leb, eq-eqb, ne_eqb}
 use Rattle.lists.specs.Leading.{leading}
 use Rattle.lists.specs.Tests.{by_cases}
 use Rattle.pagestore_page.specs.declared.Record.{Record}
 use Rattle.pagestore_page.specs.declared.Entry.{Entry}
-use Rattle.pagestore_page.specs.declared.Leaf.{Leaf}
-use Rattle.pagestore_page.specs.declared.Inner.{Inner}
 use Rattle.pagestore.specs.Store.{features, root, level, total, leaf_at, inner_at, records_in, entries_in, set_leaf, set_inner, field_at, set_field, free_page}
 use Rattle.tree_model.specs.Trees.{rank_of}
 use Rattle.tree_model.specs.Inserting.{choose}
 use Rattle.tree_model.specs.Deleting.{delete_record, rebalanced_items, left_of, other_ident, left_count}
 use Rattle.tree_core.specs.Entries.{child_at, leaf_entry, inner_entry}
-use Rattle.tree_core.specs.Insertion.{write_inner}
 use Rattle.tree_core.specs.Deletion.{put_rebalanced, rebalanced_pages, leave, fix_underflow, delete_at, collapse_root, take_from_total, delete_from, rebalanced_below}
 use Rattle.tree_core.specs.CodeTerms.{grown_list, LeftDone, deleted_of, RewriteDone}
 use Rattle.tree_core.specs.declared.Grown.{Grown}
@@ -35,33 +32,12 @@ unfolding delete_record leading
 delete_leading i [] = refl
 delete_leading i (r ∷ rs) = by_cases (eqb r.id i) (λ e. rw e) (λ e. rw e (ap (λ (l : List Record). r ∷ l) (delete_leading i rs)))
 
-pub delete_is : (i k : ℕ) (rs : List Record) → i ≡ leading (other_ident k) rs → length rs ≤ 16 → slice 0 i rs ++ slice (i + 1) 16 rs ≡ delete_record k rs
-delete_is i k rs e h = rw (take_all 16 rs h, add-one i, e) (delete_leading k rs)
+pub delete_is : (i k : ℕ) (rs : List Record) → i ≡ leading (other_ident k) rs → take i rs ++ ([] ++ drop (i + 1) rs) ≡ delete_record k rs
+delete_is i k rs e = rw (add-one i, e) (delete_leading k rs)
 
 -- ---- two neighbours
 
 module _ {A : Type 0} where
-  pub take_both : (k : ℕ) (xs ys : List A) → take k xs ++ take (k - length xs) ys ≡ take k (xs ++ ys)
-  take_both k [] ys = let z : k - 0 ≡ k = omega arith in rw (take-nil {A = A} k, z)
-  take_both zero (x ∷ xs) ys = let z : 0 - suc (length xs) ≡ 0 = omega arith in rw z
-  take_both (suc k) (x ∷ xs) ys = let z : suc k - suc (length xs) ≡ k - length xs = omega arith in rw z (ap (λ (l : List A). x ∷ l) (take_both k xs ys))
-
-  pub drop_both : (k : ℕ) (xs ys : List A) → drop k xs ++ drop (k - length xs) ys ≡ drop k (xs ++ ys)
-  drop_both k [] ys = let z : k - 0 ≡ k = omega arith in rw (drop-nil {A = A} k, z)
-  drop_both zero (x ∷ xs) ys = let z : 0 - suc (length xs) ≡ 0 = omega arith in rw z
-  drop_both (suc k) (x ∷ xs) ys = let z : suc k - suc (length xs) ≡ k - length xs = omega arith in rw z (drop_both k xs ys)
-
-  pub first_both : (k m : ℕ) (xs ys : List A) → m ≡ length (take k xs) → take k xs ++ take (k - m) ys ≡ take k (xs ++ ys)
-  first_both k m xs ys e =
-      let f : k - m ≡ k - length xs = omega (arith, length-take k xs) in
-      ap (λ (n : ℕ). take k xs ++ take n ys) f ∙ take_both k xs ys
-
-  pub last_both : (k n : ℕ) (xs ys : List A) → n ≡ length xs → length xs ≤ 16 → length ys ≤ 16 → slice k 16 xs ++ slice (k - n) 16 ys ≡ drop k (xs ++ ys)
-  last_both k n xs ys e f g = rw (take_all 16 xs f, take_all 16 ys g, e) (drop_both k xs ys)
-
-  pub last_few : (k n : ℕ) (xs ys : List A) → n ≡ length xs → length xs ≤ 16 → length ys ≤ 16 → length xs + length ys ≤ 16 + k → length (slice k 16 xs ++ slice (k - n) 16 ys) ≤ 16
-  last_few k n xs ys e f g h = rw (last_both k n xs ys e f g) (omega (arith, length-drop k (xs ++ ys), length-append xs ys))
-
   -- (n and m are the numbers of their items)
   module _ (xs ys : List A) (n m k : ℕ) (x : n ≡ length xs) (y : m ≡ length ys) (e : k ≡ left_count n m) where
     cut_is : k ≡ left_count (length xs) (length ys)
@@ -87,20 +63,6 @@ module _ {A : Type 0} where
         → RewriteDone (put_rebalanced write entry b p q (us ∷ vs ∷ [])) y (Two e f)
     unfolding put_rebalanced
     put_redistributed {us} {vs} {b1} {y} {e} {f} h k i j = record { bytes = cc; entries = cc }
-
-pub rebalance_leaves : (d : ℕ) (b : List ℕ) (p q : ℕ) {a c : Leaf} {zs : List (List Record)} {y : List ℕ} {g : Grown} → a ≡ leaf_at b p → c ≡ leaf_at b q
-    → zs ≡ rebalanced_items (records_in a) (records_in c) → RewriteDone (put_rebalanced set_leaf (leaf_entry d) b p q zs) y g → RewriteDone (rebalanced_pages d 0 b p q) y g
-unfolding rebalanced_pages
-rebalance_leaves d b p q a= c= e h = rw (e, a=, c=) at h
-
-pub rebalance_inners : (d l v : ℕ) (b : List ℕ) (p q : ℕ) {a c : Inner} {zs : List (List Entry)} {y : List ℕ} {g : Grown} → 0 < l → v ≡ l → a ≡ inner_at b p → c ≡ inner_at b q
-    → zs ≡ rebalanced_items (entries_in a) (entries_in c) → RewriteDone (put_rebalanced (write_inner v) inner_entry b p q zs) y g → RewriteDone (rebalanced_pages d l b p q) y g
-unfolding rebalanced_pages
-rebalance_inners d zero v b p q z f a= c= e h = absurd (omega arith)
-rebalance_inners d (suc l) v b p q z f a= c= e h = rw (f, e, a=, c=) at h
-
-pub rebalance_level : (d l : ℕ) (b : List ℕ) (p q : ℕ) {y : List ℕ} {g : Grown} → l ≡ 0 → RewriteDone (rebalanced_pages d 0 b p q) y g → RewriteDone (rebalanced_pages d l b p q) y g
-rebalance_level d l b p q e h = rw e h
 
 -- ---- the page above
 

@@ -7,7 +7,7 @@ use native.Mathlib.Omega.{arith}
 use native.Mathlib.Numerals.{add-one, sub-one}
 use lib.Dec.{leb}
 use lib.ListN.{length, set, take, drop, length-take, length-set, take-append-drop, drop_of_length-le}
-use lib.Seq.{slice, take-take, take_all, take-suc-set, take-set-lt, drop-set-lt, length-take-le}
+use lib.Seq.{slice, take-take, take-suc-set, take-set-lt, drop-set-lt, length-take-le}
 use borrow.Author.Tests.{le-leb, lt-leb, leb-true, leb-false}
 use Rattle.lists.specs.Shift as shift
 use Rattle.lists.specs.Leading.{leading, ins_leading}
@@ -28,14 +28,7 @@ use Rattle.tree_core.proofs.EntryLaws.{filled_is}
 -- ---- items in their places
 
 module _ {A : Type 0} (slots : List A) (n c i : ℕ) (l : length slots ≡ 16) (f : n ≡ min 16 c) (h : i ≤ c) where
-  -- the items before place i, others, and those from place i on
-  pub inserted_is : (ys : List A) → (slice 0 i slots ++ ys) ++ slice i n slots ≡ take i (take c slots) ++ (ys ++ drop i (take c slots))
-  inserted_is ys =
-      append_assoc (take i slots) ys (slice i n slots)
-      ∙ ap (λ (x : List A). x ++ (ys ++ drop i (take n slots))) (sym (take-take i c slots h))
-      ∙ ap (λ (x : List A). take i (take c slots) ++ (ys ++ drop i x)) (sym (filled_is slots n c l f))
-
-  -- and those behind place i
+  -- the items before place i, others, and those behind place i
   pub replaced_is : (ys : List A) → (slice 0 i slots ++ ys) ++ slice (i + 1) n slots ≡ replaced i ys (take c slots)
   replaced_is ys =
       append_assoc (take i slots) ys (slice (i + 1) n slots)
@@ -74,26 +67,23 @@ fill_is d x k i rs ys e f g = g ∙ insert_is d x k i rs e f
 -- ---- items put to a page
 
 module _ {A : Type 0} (write : List ℕ → ℕ → List A → List ℕ) (entry : ℕ → List A → Entry) (b : List ℕ) (p : ℕ) (xs : List A) where
-  pub put_one : (n : ℕ) {ys : List A} {x : List ℕ} {e : Entry} → length xs ≡ n → n ≤ 16 → ys ≡ slice 0 n xs → x ≡ write b p ys → e ≡ entry p ys → RewriteDone (put write entry b p xs) x (One e)
+  pub put_one : {x : List ℕ} {e : Entry} → length xs ≤ 16 → x ≡ write b p xs → e ≡ entry p xs → RewriteDone (put write entry b p xs) x (One e)
   unfolding put
-  put_one n {ys} {x} {e} l h i f g =
-      let w : ys ≡ xs = i ∙ take_all n xs (omega arith) in
-      rw (le-leb (length xs) 16 (omega arith)) (record { bytes = rw w at f; entries = ap (λ (z : Entry). z ∷ []) (rw w at g) })
+  put_one h f g = rw (le-leb (length xs) 16 h) (record { bytes = f; entries = ap (λ (z : Entry). z ∷ []) g })
 
   -- the items as they are held
   pub put_held : {n : ℕ} {slots : List A} {x : List ℕ} {e : Entry} → Held n slots xs → n ≤ 16 → x ≡ write b p (take n slots) → e ≡ entry p (take n slots) → RewriteDone (put write entry b p xs) x (One e)
-  put_held {n} {slots} {x} {e} h k f g = put_one n (sym h.count) k (h.items ∙ sym (take_all n xs (omega (arith, h.count)))) f g
+  put_held {n} {slots} {x} {e} h k f g = put_one (omega (arith, h.count)) (rw h.items at f) (rw h.items at g)
 
   -- as many as a page's count takes in
   pub put_filled : (n : ℕ) (slots : List A) {x : List ℕ} {e : Entry} → length slots ≡ 16 → n ≤ 16 → take n slots ≡ xs → x ≡ write b p (take n slots) → e ≡ entry p (take n slots) → RewriteDone (put write entry b p xs) x (One e)
   put_filled n slots {x} {e} l k h f g = put_held (record { count = sym (length-take-le n slots (omega arith)) ∙ ap length h; items = h }) k f g
 
-  pub put_two : {n : ℕ} {b1 b2 x : List ℕ} {lo hi : List A} {e f : Entry} → length xs ≡ 17 → n ≡ page_taken b → b1 ≡ take_page b → lo ≡ slice 0 9 xs → hi ≡ slice 9 17 xs
+  pub put_two : {n : ℕ} {b1 b2 x : List ℕ} {lo hi : List A} {e f : Entry} → 16 < length xs → n ≡ page_taken b → b1 ≡ take_page b → lo ≡ take 9 xs → hi ≡ drop 9 xs
       → b2 ≡ write b1 p lo → x ≡ write b2 n hi → e ≡ entry p lo → f ≡ entry n hi → RewriteDone (put write entry b p xs) x (Two e f)
   unfolding put
   put_two {n} {b1} {b2} {x} {lo} {hi} {e} {f} l n= b1= lo= hi= b2= x= e= f= =
-      let w : hi ≡ drop 9 xs = hi= ∙ ap (λ (z : List A). drop 9 z) (take_all 17 xs (omega arith)) in
-      rw (lt-leb (length xs) 16 (omega arith)) (record { bytes = cc; entries = cc })
+      rw (lt-leb (length xs) 16 l) (record { bytes = cc; entries = cc })
 
 -- an inner page, of which a field may say its level
 pub level_is : (b : List ℕ) (p v l : ℕ) (es : List Entry) {x : List ℕ} → v ≡ l → x ≡ set_inner b p v es → x ≡ write_inner l b p es

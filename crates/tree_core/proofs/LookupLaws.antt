@@ -26,7 +26,7 @@ use Rattle.pagestore_page.specs.Layout.{no_entry}
 
 -- ---- in a leaf
 
-first_is : (k : ℕ) (rs : List Record) (d : Record) → get_or rs (leading (other_ident k) rs) d ≡ head_or d (with_ident k rs)
+pub first_is : (k : ℕ) (rs : List Record) (d : Record) → get_or rs (leading (other_ident k) rs) d ≡ head_or d (with_ident k rs)
 unfolding leading filter head_or
 first_is k [] d = refl
 first_is k (r ∷ rs) d = by_cases (eqb r.id k) (λ e. rw e) (λ e. rw e (first_is k rs d))
@@ -41,12 +41,6 @@ found_is k slots c i d h g e =
     any_default [] j d e h = absurd (omega arith)
     any_default (r ∷ rs) zero d e h = refl
     any_default (r ∷ rs) (suc j) d e h = any_default rs j d e (omega arith)
-
-pub absent_is : (k : ℕ) (slots : List Record) (n c i : ℕ) → length slots ≡ 16 → n ≡ min 16 c → n ≤ i → i ≡ leading (other_ident k) (take c slots)
-    → blank ≡ head_or blank (with_ident k (take c slots))
-absent_is k slots n c i l f h e =
-    sym (get_or-eq_default (take c slots) blank {n = i} (omega (arith, length-take c slots)))
-    ∙ ap (λ (j : ℕ). get_or (take c slots) j blank) e ∙ first_is k (take c slots) blank
 
 -- ---- below a page
 

@@ -18,12 +18,6 @@ use Rattle.tree_core.specs.Insertion.{insert_at, grow_root, add_to_total, insert
 use Rattle.tree_core.specs.CodeTerms.{grown_list, RewriteDone}
 use Rattle.tree_core.specs.declared.Grown.{Grown}
 
-pub indicator_one : (a n : ℕ) → a ≤ n → 1 ≡ indicator (leb a n)
-indicator_one a n h = rw (le-leb a n h)
-
-pub indicator_none : (a n : ℕ) → n < a → 0 ≡ indicator (leb a n)
-indicator_none a n h = rw (lt-leb a n h)
-
 pub grow_one : (l : ℕ) (b : List ℕ) (e : Entry) → b ≡ grow_root l b (e ∷ [])
 unfolding grow_root
 grow_one l b e = refl
@@ -67,9 +61,3 @@ pub wanted_is : (b : List ℕ) (x : Record) {d l p k n r : ℕ} → d ≡ field_
     → r ≡ n + indicator (eqb n (l + 1)) → r ≡ pages_wanted b x
 unfolding pages_wanted
 wanted_is b x d= l= p= k= n= r= = r= ∙ rw (n=, k=, d=, l=, p=)
-
-pub one_more : (n l : ℕ) → n ≡ l + 1 → n + 1 ≡ n + indicator (eqb n (l + 1))
-one_more n l e = rw (eq-eqb n (l + 1) e)
-
-pub no_more : (n l : ℕ) → n ≢ l + 1 → n ≡ n + indicator (eqb n (l + 1))
-no_more n l e = rw (ne_eqb n (l + 1) e) (omega arith)

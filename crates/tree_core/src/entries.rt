@@ -15,41 +15,37 @@ pub fn choose_at(index: &[u8], page: u32, rank: u64) -> usize
         × (result ≤ 15) × (result ≤ (inner_at index.now page).count) }
 {
     let n = filled_at(index, page);
-    let mut at = 0;
-    let mut i = 1;
-    while i < n {
+    for i in 1..n {
         let e = entry_at(index, page, i);
         if rank < key_number(e.first) {
-            return at;
+            return i - 1;
         }
-        at = i;
-        i += 1;
     }
-    at
+    n.saturating_sub(1)
 }
 
 // The child at a place of that page; no page where there is none.
+// Kept: 0 in this and the next function, since the number 0 is no page's (docs/LAYOUT.md), and what reads a page takes it so: with an option
+// each caller would say `unwrap_or(0)`.
 pub fn child_of(index: &[u8], page: u32, i: usize) -> u32
     ensures { result ≡ child_at (entries_in (inner_at index.now page)) i }
 {
-    let n = filled_at(index, page);
-    if i < n {
-        let e = entry_at(index, page, i);
-        return e.child;
+    if i < filled_at(index, page) {
+        entry_at(index, page, i).child
+    } else {
+        0
     }
-    0
 }
 
 // The same of a page held by value.
 pub fn child_at(inner: Inner, i: usize) -> u32
     ensures { result ≡ child_at (entries_in inner) i }
 {
-    let n = filled(inner.count);
-    if i < n {
-        let e = inner.entries[i];
-        return e.child;
+    if i < filled(inner.count) {
+        inner.entries[i].child
+    } else {
+        0
     }
-    0
 }
 
 // The entry of a page with no items.
@@ -76,12 +72,10 @@ pub fn leaf_entry(page: u32, leaf: Leaf, d: u8) -> Entry
     if n == 0 {
         return bare_entry(page);
     }
-    let first = record_key(leaf.records[0], d);
-    let last = record_key(leaf.records[n - 1], d);
     Entry {
         child: page,
-        first: first,
-        last: last,
+        first: record_key(leaf.records[0], d),
+        last: record_key(leaf.records[n - 1], d),
     }
 }
 
@@ -95,11 +89,10 @@ pub fn inner_entry(page: u32, inner: Inner) -> Entry
     }
     let a = inner.entries[0];
     let z = inner.entries[n - 1];
-    let first = a.first;
     let last = z.last;
     Entry {
         child: page,
-        first: first,
-        last: last,
+        first: a.first,
+        last,
     }
 }

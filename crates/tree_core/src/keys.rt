@@ -27,9 +27,7 @@ pub fn record_key(x: Record, d: u8) -> Key
             id: x.id,
         };
     }
-    let coords = x.coords;
-    let pair = pair_of(&coords[..n]);
-    key_of(pair, x.id)
+    key_of(pair_of(&x.coords[..n]), x.id)
 }
 
 // Its place in the order of keys, as a number.

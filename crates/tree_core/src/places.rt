@@ -1,5 +1,5 @@
 // The place of a record in its leaf.
-ghost use Rattle.std.specs.Prelude.{◌≡◌, ◌≤◌};
+ghost use Rattle.std.specs.Prelude.{◌≡◌, ◌<◌, length, MatchOption};
 ghost use Rattle.lists.specs.Leading.{leading};
 ghost use Rattle.pagestore.specs.Store.{leaf_at, records_in};
 ghost use Rattle.tree_model.specs.Deleting.{other_ident};
@@ -7,17 +7,17 @@ ghost use Rattle.tree_model.specs.Deleting.{other_ident};
 use crate::keys::filled_at;
 use pagestore::ident_at;
 
-// How many records of the leaf at a page stand before the one of an identifier.
-pub fn ident_place(index: &[u8], page: u32, id: u32) -> usize
-    ensures { (result ≡ leading (other_ident id) (records_in (leaf_at index.now page))) × (result ≤ 16) }
+// The place of the first record of an identifier in the leaf at a page.
+pub fn ident_place(index: &[u8], page: u32, id: u32) -> Option<usize>
+    ensures { MatchOption result
+        (leading (other_ident id) (records_in (leaf_at index.now page)) ≡ length (records_in (leaf_at index.now page)))
+        (λ i. (i ≡ leading (other_ident id) (records_in (leaf_at index.now page)))
+        × (i < length (records_in (leaf_at index.now page))) × (i < 16)) }
 {
-    let n = filled_at(index, page);
-    let mut i = 0;
-    while i < n {
+    for i in 0..filled_at(index, page) {
         if ident_at(index, page, i) == id {
-            return i;
+            return Some(i);
         }
-        i += 1;
     }
-    i
+    None
 }

@@ -5,11 +5,11 @@ use borrow.Author.Rules.{rules}
 use Rattle.lists.specs.Lengths.{unmapped}
 use Rattle.tree_core.proofs.entries.child_at.Goals as goal
 
-pub returns-then-i-n : goal.returns-then-i-n
-returns-then-i-n c = let S = c in let F = c.filled-n in child_in S.args.inner.entries F.result S.args.inner.count S.args.i F.ensures c.if-i-n.true
+pub returns-then-i-filled : goal.returns-then-i-filled
+returns-then-i-filled c = let S = c in let F = c.filled in child_in S.args.inner.entries F.result S.args.inner.count S.args.i F.ensures c.if-i-filled.true
 
-pub returns : goal.returns
-returns c = let S = c in
-    let F = c.filled-n in
+pub returns-else-i-filled : goal.returns-else-i-filled
+returns-else-i-filled c = let S = c in
+    let F = c.filled in
     let slots : length S.args.inner.entries ≡ 16 = search (unmapped, rules) in
-    child_out S.args.inner.entries F.result S.args.inner.count S.args.i slots F.ensures c.if-i-n.false
+    child_out S.args.inner.entries F.result S.args.inner.count S.args.i slots F.ensures c.if-i-filled.false

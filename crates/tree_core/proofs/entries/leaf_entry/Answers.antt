@@ -20,4 +20,4 @@ returns c = let S = c in
     leaf_some S.args.d S.args.page F.result S.args.leaf.count S.args.leaf.records _ _ _ _
     (head_filled no_record _ S.args.leaf.records F.result S.args.leaf.count slots F.ensures z)
     (last_filled no_record _ S.args.leaf.records F.result S.args.leaf.count slots F.ensures z)
-    c.record_key-first.ensures c.record_key-last.ensures
+    c.record_key.ensures c.record_key-2.ensures

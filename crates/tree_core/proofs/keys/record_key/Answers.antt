@@ -1,7 +1,6 @@
-use mathlib.Core.Path.{◌≡◌, sym}
+use mathlib.Core.Path.{◌≡◌}
 use native.Mathlib.Omega.{arith}
 use lib.ListN.{length, length-take}
-use lib.Seq.{length-take-le}
 use Rattle.tree_core.proofs.EntryLaws.{key_none, key_some}
 use borrow.Author.Rules.{rules}
 use Rattle.lists.specs.Lengths.{unmapped}
@@ -10,14 +9,8 @@ use Rattle.tree_core.proofs.keys.record_key.Goals as goal
 pub returns-then-n-eq0 : goal.returns-then-n-eq0
 returns-then-n-eq0 c = let S = c in key_none S.args.x c.filled-n.result S.args.d c.filled-n.ensures c.if-n-eq0.true
 
-pub slice_bounds-coords-end : goal.slice_bounds-coords-end
-slice_bounds-coords-end c = let slots : length c.args.x.coords ≡ 16 = search (unmapped, rules) in omega (arith, c.filled-n.ensures)
-
-pub slice_bounds-pair_of-end : goal.slice_bounds-pair_of-end
-slice_bounds-pair_of-end c = let slots : length c.args.x.coords ≡ 16 = search (unmapped, rules) in sym (length-take-le c.filled-n.result c.args.x.coords (omega (arith, c.filled-n.ensures)))
-
-pub pair_of-pair-requires : goal.pair_of-pair-requires
-pair_of-pair-requires c = let S = c in
+pub pair_of-requires : goal.pair_of-requires
+pair_of-requires c = let S = c in
     let F = c.filled-n in
     let slots : length S.args.x.coords ≡ 16 = search (unmapped, rules) in
     let n = length-take F.result S.args.x.coords in
@@ -28,6 +21,6 @@ pair_of-pair-requires c = let S = c in
 pub returns : goal.returns
 returns c = let S = c in
     let F = c.filled-n in
-    let P = c.pair_of-pair in
+    let P = c.pair_of in
     let slots : length S.args.x.coords ≡ 16 = search (unmapped, rules) in
     key_some S.args.x F.result S.args.d P.result c.key_of.result slots F.ensures P.ensures.0 P.ensures.1 c.key_of.ensures

@@ -1,25 +1,26 @@
-use mathlib.Core.Path.{sym, ◌∙◌}
-use mathlib.Core.List.{[]}
-use native.Mathlib.Omega.{arith}
+use Rattle.std.proofs.Common.{sym, ◌∙◌, arith}
 use Rattle.lists.specs.Leading.{leading_step, leading_stop, leading_end}
 use Rattle.pagestore.specs.Store.{leaf_at}
 use Rattle.pagestore.specs.Store.PageLaws.{leaf_counts, records_slots}
+use Rattle.pagestore_page.specs.Layout.{no_record}
 use Rattle.tree_model.specs.Deleting.{other_ident}
 use Rattle.tree_core.proofs.EntryLaws.{length_filled}
 use Rattle.tree_core.proofs.DeletionLaws.{other_no, other_yes}
 use Rattle.tree_core.proofs.places.ident_place.Goals as goal
 
 pub loop-i-init : goal.loop-i-init
-loop-i-init c = let a = c.args in (omega (arith, c.filled_at-n.ensures, leaf_counts a.index.now a.page), omega arith, omega arith)
+loop-i-init c = let a = c.args in (omega (arith, c.filled_at-i-end.ensures, leaf_counts a.index.now a.page), omega arith)
 
 pub returns-then-ident_at-id : goal.returns-then-ident_at-id
 returns-then-ident_at-id c = let a = c.args in
     let L = c.loop-i in
     let T = c.loop-i-test.true in
     let M = leaf_at a.index.now a.page in
-    let slots = records_slots a.index.now a.page in (
-      leading_stop (other_ident a.id) (record { id = 0; stage = 0; stamp = 0; coords = [] }) M.records M.count _ L.i L.i L.invariant.2 (omega arith) (omega arith)
+    let slots = records_slots a.index.now a.page in
+    let all = length_filled M.records _ M.count slots L.invariant.0 in (
+      leading_stop (other_ident a.id) no_record M.records M.count _ L.i L.i L.invariant.1 (omega arith) (omega arith)
           (other_no _ a.id (sym c.ident_at.ensures ∙ c.if-ident_at-id.true)),
+      omega arith,
       omega arith,
     )
 
@@ -30,8 +31,7 @@ loop-i-preserved c = let a = c.args in
     let M = leaf_at a.index.now a.page in
     let slots = records_slots a.index.now a.page in (
       L.invariant.0,
-      omega arith,
-      leading_step (other_ident a.id) (record { id = 0; stage = 0; stamp = 0; coords = [] }) M.records M.count _ L.i L.i L.invariant.2 (omega arith) (omega arith)
+      leading_step (other_ident a.id) no_record M.records M.count _ L.i L.i L.invariant.1 (omega arith) (omega arith)
           (other_yes _ a.id (λ e. c.if-ident_at-id.false (c.ident_at.ensures ∙ e))),
     )
 
@@ -40,4 +40,4 @@ returns c = let a = c.args in
     let L = c.loop-i in
     let M = leaf_at a.index.now a.page in
     let all = length_filled M.records _ M.count (records_slots a.index.now a.page) L.invariant.0 in
-    (leading_end (other_ident a.id) (record { id = 0; stage = 0; stamp = 0; coords = [] }) M.records M.count _ L.i L.i L.invariant.2 (omega arith), omega arith)
+    let i = leading_end (other_ident a.id) no_record M.records M.count _ L.i L.i L.invariant.1 (omega arith) in omega arith
