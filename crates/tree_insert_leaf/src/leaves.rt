@@ -1,94 +1,53 @@
-// Insertion of a record into a leaf: a leaf that would hold one too many is split.
-ghost use Rattle.std.specs.Prelude.{◌≡◌, ◌+◌, ◌<◌, ◌≤◌};
+// Insertion of a record into a leaf.
+ghost use Rattle.std.specs.Prelude.{◌≡◌, ◌≤◌, ◌<◌, length};
 ghost use Rattle.lists.specs.Leading.{leading};
 ghost use Rattle.pagestore.specs.Store.{records_in, set_leaf};
-ghost use Rattle.tree_model.specs.Trees.{rank_of};
 ghost use Rattle.tree_model.specs.Inserting.{insert_record, rank_below};
 ghost use Rattle.tree_core.specs.Entries.{leaf_entry};
-ghost use Rattle.tree_core.specs.Held.{Held};
-ghost use Rattle.tree_items.specs.Items.{held_records};
 ghost use Rattle.tree_core.specs.Insertion.{put, insert_at};
 ghost use Rattle.tree_core.specs.CodeTerms.{RewriteDone};
 
+use crate::put::put_items;
 use pagestore::{Leaf, MAX_ITEMS, Record, filled, leaf_at, set_leaf};
-use pagestore_free::take_page;
-use tree_core::{Grown, leaf_entry, record_rank};
-use tree_items::{
-    KEPT_ITEMS, MAX_GATHERED, RecordList, append_records, leaf_of, no_records, push_record,
-};
+use tree_core::{Grown, Ranked, leaf_entry, record_rank};
+use tree_items::{Leaves, MAX_GATHERED, splice};
 
-// How many records of a leaf come before a rank: the place of a record of that rank.
-fn place_of(leaf: Leaf, rank: u64, d: u8) -> usize
-    ensures { (result ≡ leading (rank_below d rank) (records_in leaf)) × (result ≤ 16) × (result ≤ leaf.count) }
+// How many records come before a rank: the place of a record of that rank.
+fn place_of(records: &[Record], rank: u64, d: u8) -> usize
+    ensures { (result ≡ leading (rank_below d rank) records.now) × (result ≤ length records.now) }
 {
-    let n = filled(leaf.count);
-    let mut i = 0;
-    while i < n {
-        if rank <= record_rank(leaf.records[i], d) {
+    for (i, x) in records.iter().enumerate() {
+        if rank <= record_rank(*x, d) {
             return i;
         }
-        i += 1;
     }
-    i
+    records.len()
 }
 
-// The records of a leaf with one more, in key order.
-fn insert_record(leaf: Leaf, x: Record, rank: u64, d: u8) -> RecordList
-    requires { rank ≡ rank_of d x }
-    ensures { Held result.count result.items (insert_record d x (records_in leaf)) }
-{
-    let n = filled(leaf.count);
-    let i = place_of(leaf, rank, d);
-    let before = append_records(no_records(x), leaf, 0, i);
-    append_records(push_record(before, x), leaf, i, n)
-}
-
-// A leaf of one record too many: the first 9 stay, the last 8 go to a new page on the right.
-fn split_leaf(index: &mut [u8], page: u32, all: RecordList, d: u8) -> Grown
-    requires { all.count ≡ 17 }
-    ensures { RewriteDone (put set_leaf (leaf_entry d) index.old page (held_records all)) index.new result }
-{
-    let low = leaf_of(all, 0, KEPT_ITEMS);
-    let high = leaf_of(all, KEPT_ITEMS, MAX_GATHERED);
-    let right = take_page(index);
-    set_leaf(index, page, low);
-    set_leaf(index, right, high);
-    Grown::Two(leaf_entry(page, low, d), leaf_entry(right, high, d))
-}
-
-fn put_records(index: &mut [u8], page: u32, all: RecordList, d: u8) -> Grown
-    requires { all.count ≤ 17 }
-    ensures { RewriteDone (put set_leaf (leaf_entry d) index.old page (held_records all)) index.new result }
-{
-    let n = all.count;
-    if n == MAX_GATHERED {
-        return split_leaf(index, page, all, d);
-    }
-    let leaf = leaf_of(all, 0, n);
-    set_leaf(index, page, leaf);
-    Grown::One(leaf_entry(page, leaf, d))
-}
-
-// A leaf with room for one record more.
-fn fill_leaf(index: &mut [u8], page: u32, leaf: Leaf, x: Record, rank: u64, d: u8) -> Grown
-    requires { (leaf.count < 16) × (rank ≡ rank_of d x) }
-    ensures { RewriteDone (put set_leaf (leaf_entry d) index.old page (insert_record d x (records_in leaf)))
+// A leaf with room for one record more, which is to stand at a place.
+fn fill_leaf(index: &mut [u8], page: u32, leaf: Leaf, i: usize, x: Ranked) -> Grown
+    requires { (leaf.count < 16) × (i ≡ leading (rank_below x.features x.rank) (records_in leaf)) }
+    ensures { RewriteDone (put set_leaf (leaf_entry x.features) index.old page (insert_record x.features x.stored (records_in leaf)))
         index.new result }
 {
-    let i = place_of(leaf, rank, d);
-    let next = pagestore::insert_record(leaf, i, x);
+    let next = pagestore::insert_record(leaf, i, x.stored);
     set_leaf(index, page, next);
-    Grown::One(leaf_entry(page, next, d))
+    Grown::One(leaf_entry(page, next, x.features))
 }
 
-pub fn insert_leaf(index: &mut [u8], page: u32, x: Record, rank: u64, d: u8) -> Grown
-    requires { rank ≡ rank_of d x }
-    ensures { RewriteDone (insert_at d 0 index.old page x) index.new result }
+pub fn insert_leaf(index: &mut [u8], page: u32, x: Ranked) -> Grown
+    ensures { RewriteDone (insert_at x.features 0 index.old page x.stored) index.new result }
 {
     let leaf = leaf_at(index, page);
+    let records = &leaf.records[..filled(leaf.count)];
+    let i = place_of(records, x.rank, x.features);
     if leaf.count < MAX_ITEMS {
-        return fill_leaf(index, page, leaf, x, rank, d);
+        return fill_leaf(index, page, leaf, i, x);
     }
-    let all = insert_record(leaf, x, rank, d);
-    put_records(index, page, all, d)
+    let mut all = [x.stored; MAX_GATHERED];
+    let n = splice(&mut all, records, i, i, &[x.stored]);
+    let kind = Leaves {
+        features: x.features,
+    };
+    put_items(kind, index, page, &all[..n])
 }

@@ -7,7 +7,7 @@ use Rattle.tree_delete.proofs.deletion.+delete_at.Goals as goal
 
 pub returns-then-level-eq0 : goal.returns-then-level-eq0
 returns-then-level-eq0 t c = let a = c.args in
-    delete_zero a.d a.level a.index.now a.page a.x c.if-level-eq0.true c.delete_leaf.ensures
+    delete_zero a.x.features a.level a.index.now a.page a.x.stored c.if-level-eq0.true c.delete_leaf.ensures
 
 pub overflow_sub-level : goal.overflow_sub-level
 overflow_sub-level t c = omega (arith, pos_of_ne-zero c.if-level-eq0.false)
@@ -17,5 +17,5 @@ fix_underflow-requires t c = (c.choose_at-i.ensures.1, pos_of_ne-zero c.if-level
 
 pub returns : goal.returns
 returns t c = let a = c.args in
-    delete_inner a.d a.level a.index.now a.page a.x c.if-level-eq0.false c.requires (ap entries_in c.inner_at-inner.ensures)
+    delete_inner a.x.features a.level a.index.now a.page a.x.stored c.if-level-eq0.false a.x.ranked (ap entries_in c.inner_at-inner.ensures)
     c.choose_at-i.ensures.0 c.child_of-child.ensures c.delete_at-left.ensures c.fix_underflow.ensures

@@ -1,23 +1,24 @@
-use mathlib.Core.Path.{sym, ap, ◌∙◌}
-use mathlib.Core.List.{List, ◌++◌}
-use Prim.Native.Nat.{◌+◌, ◌≤◌}
-use native.Mathlib.Omega.{arith}
-use lib.ListN.{length, length-take}
-use lib.Seq.{slice}
+use Rattle.std.proofs.Common.{◌≡◌, sym, ap, ◌∙◌, List, [], ◌++◌, ◌+◌, arith, rules, length, take, drop, length-take}
+use Rattle.lists.specs.Lengths.{unmapped}
 use Rattle.pagestore.specs.Store.{leaf_at, records_in}
-use Rattle.pagestore.specs.Store.PageLaws.{records_slots}
 use Rattle.pagestore_page.specs.declared.Leaf.{Leaf}
 use Rattle.pagestore_page.specs.declared.Record.{Record}
+use Rattle.tree_core.proofs.EntryLaws.{filled_is}
 use Rattle.tree_core.proofs.DeletionLaws.{delete_is, delete_leaf}
+use Rattle.tree_delete.proofs.PlaceLaws.{place_is}
 use Rattle.tree_delete.proofs.deletion.delete_leaf.Goals as goal
 
 pub returns : goal.returns
 returns c = let a = c.args in
-    let W = c.without_record-leaf.ensures in
-    let I = c.ident_place-i in
-    let M = leaf_at a.index.now a.page in
-    let few : length (records_in M) ≤ 16 = omega (arith, length-take M.count M.records, records_slots a.index.now a.page) in
+    let L = c.leaf_at-leaf in
+    let g = L.type_inv in
+    let F = c.filled in
+    let slots : length L.result.records ≡ 16 = search (unmapped, rules) in
+    let all : take F.result L.result.records ≡ records_in (leaf_at a.index.now a.page) =
+    sym (filled_is L.result.records F.result L.result.count slots F.ensures) ∙ ap (λ (l : Leaf). records_in l) L.ensures in
+    let I = c.unwrap_or-i in
+    let i = I.ensures ∙ place_is a.x.id _ (records_in (leaf_at a.index.now a.page)) c.ident_place.result c.ident_place.ensures (ap (λ (l : List Record). length l) all) in
+    let H = c.splice-count.ensures.held in
     delete_leaf a.d a.index.now a.page a.x
-    (W.items ∙ ap (λ (l : Leaf). slice 0 I.result (records_in l) ++ slice (I.result + 1) 16 (records_in l)) c.leaf_at-old.ensures
-    ∙ delete_is I.result a.x.id (records_in M) I.ensures.0 few)
-    c.set_leaf.ensures c.leaf_entry-entry.ensures (W.count ∙ ap (λ (l : List Record). length l) (sym W.items))
+    (H.items ∙ ap (λ (l : List Record). take I.result l ++ ([] ++ drop (I.result + 1) l)) all ∙ delete_is I.result a.x.id (records_in (leaf_at a.index.now a.page)) i)
+    c.write-entry.ensures.bytes c.write-entry.ensures.entry (H.count ∙ ap (λ (l : List Record). length l) (sym H.items))

@@ -9,5 +9,5 @@ use Rattle.tree_delete.proofs.deletion.leave_page.Goals as goal
 pub returns : goal.returns
 returns c = let a = c.args in
     let slots : length a.inner.entries ≡ 16 = search (unmapped, rules) in
-    leave_is a.inner.level a.index.now a.page (take a.inner.count a.inner.entries) c.set_inner.ensures c.inner_entry-entry.ensures
-    (sym (length_filled a.inner.entries c.filled-count.result a.inner.count slots c.filled-count.ensures))
+    leave_is a.inner.level a.index.now a.page (take a.inner.count a.inner.entries) c.set_inner.ensures c.inner_entry.ensures
+    (sym (length_filled a.inner.entries c.filled.result a.inner.count slots c.filled.ensures))

@@ -1,20 +1,12 @@
-use mathlib.Core.Path.{◌≡◌}
-use native.Mathlib.Omega.{arith}
-use lib.ListN.{length}
-use Rattle.tree_core.proofs.HeldLaws.{held_most}
-use borrow.Author.Rules.{rules}
+use Rattle.std.proofs.Common.{◌≡◌, rules, length, add-one}
 use Rattle.lists.specs.Lengths.{unmapped}
+use Rattle.tree_core.proofs.EntryLaws.{filled_is}
 use Rattle.tree_insert.proofs.insertion.put_inner.Goals as goal
 
 pub returns-in-One : goal.returns-in-One
 returns-in-One c = rw c.in-One.is c.put_entry.ensures
 
-pub put_entries-requires : goal.put_entries-requires
-put_entries-requires c =
-    let I = c.replace_grown-all in
-    let g = I.type_inv in
-    let slots : length I.result.items ≡ 17 = search (unmapped, rules) in
-    omega (arith, held_most I.ensures)
-
 pub returns : goal.returns
-returns c = rw c.replace_grown-all.ensures.items at c.put_entries.ensures
+returns c = let x = c.args.inner in
+    let slots : length x.entries ≡ 16 = search (unmapped, rules) in
+    rw (c.splice_grown-n.ensures.held.items, ← filled_is x.entries c.filled.result x.count slots c.filled.ensures, add-one c.args.i) at c.put_items.ensures
