@@ -12,13 +12,8 @@ fn find_in_leaf(index: &[u8], page: u32, id: u32) -> Option<Record>
     ensures { MatchOption result (head_or blank (with_ident id (records_in (leaf_at index.now page))) ≡ blank)
         (λ x. (x ≡ head_or blank (with_ident id (records_in (leaf_at index.now page)))) × (x.id ≡ id)) }
 {
-    let n = filled_at(index, page);
-    let i = ident_place(index, page, id);
-    if i < n {
-        Some(record_at(index, page, i))
-    } else {
-        None
-    }
+    let i = ident_place(index, page, id)?;
+    Some(record_at(index, page, i))
 }
 
 // The record of an identifier below a page; the level falls at each call.

@@ -1,16 +1,16 @@
 -- The steps of a look at the leaf to which a key leads. Assumes nothing.
 use mathlib.Core.Path.{◌≡◌, refl, sym, ap, ◌∙◌}
 use mathlib.Core.Logic.{◌≢◌}
-use mathlib.Core.Bool.{Bool, true, false}
+use mathlib.Core.Bool.{Bool, false}
 use mathlib.Core.List.{List, [], ◌∷◌}
-use Prim.Native.Nat.{ℕ, zero, suc, ◌+◌, ◌-◌, ◌≤◌, ◌<◌, min}
+use Prim.Native.Nat.{ℕ, zero, suc, ◌-◌, ◌≤◌, ◌<◌, min}
 use native.Mathlib.Omega.{arith}
-use native.Mathlib.Numerals.{add-one, sub-one}
+use native.Mathlib.Numerals.{sub-one}
 use lib.Dec.{eqb}
-use lib.ListN.{length, get_or, take, drop, length-take, drop_of_length-le}
-use lib.Seq.{drop-cons, get_or-take}
-use borrow.Author.Tests.{eq-eqb, ne_eqb}
-use Rattle.lists.specs.Basics.{if}
+use lib.Pointwise.{pointwise}
+use Rattle.tree_core.proofs.EntryLaws.{filled_is}
+use lib.ListN.{length, get_or, take, length-take}
+use lib.Seq.{get_or-take}
 use Rattle.lists.specs.Leading.{leading}
 use Rattle.lists.specs.Tests.{by_cases}
 use Rattle.lists.specs.Equal.{same}
@@ -37,32 +37,19 @@ for_inner zero b p k z es= i= c= r= = absurd (z refl)
 for_inner (suc l) b p k {es} {i} {child} {r} z es= i= c= r= =
     let m : r ≡ leaf_for l b child k = rw sub-one at r= in m ∙ rw (c=, i=, es=)
 
--- ---- equal points: those from place m on are compared
+-- ---- equal points
 
-abbrev pub Rests : ℕ → List ℕ → List ℕ → ℕ → Type 0
-Rests d xs ys m = same (take d xs) (take d ys) ≡ same (drop m (take d xs)) (drop m (take d ys))
+pointwise_same : (xs ys : List ℕ) → pointwise eqb xs ys ≡ same xs ys
+unfolding same
+pointwise_same [] [] = refl
+pointwise_same [] (y ∷ ys) = refl
+pointwise_same (x ∷ xs) [] = refl
+pointwise_same (x ∷ xs) (y ∷ ys) = by_cases (eqb x y) (λ e. rw e (pointwise_same xs ys)) (λ e. rw e)
 
-module _ (d n : ℕ) (xs ys : List ℕ) (m : ℕ) (n= : n ≡ min 16 d) (long : length xs ≡ 16) (wide : length ys ≡ 16) (h : Rests d xs ys m) where
-  module _ (g : m < n) where
-    here : same (drop m (take d xs)) (drop m (take d ys)) ≡ if (eqb (get_or xs m 0) (get_or ys m 0)) (same (drop (suc m) (take d xs)) (drop (suc m) (take d ys))) false
-    unfolding same
-    here =
-        rw (drop-cons (take d xs) m 0 (omega (arith, length-take d xs)), drop-cons (take d ys) m 0 (omega (arith, length-take d ys)), get_or-take d xs m 0 (omega arith), get_or-take d ys m 0 (omega arith))
-
-    pub rests_next : get_or xs m 0 ≡ get_or ys m 0 → Rests d xs ys (m + 1)
-    rests_next e = h ∙ here ∙ rw (eq-eqb (get_or xs m 0) (get_or ys m 0) e, add-one m)
-
-    pub rests_differ : get_or xs m 0 ≢ get_or ys m 0 → false ≡ same (take d xs) (take d ys)
-    rests_differ e = sym (h ∙ here ∙ rw (ne_eqb (get_or xs m 0) (get_or ys m 0) e))
-
-  pub rests_end : n ≤ m → true ≡ same (take d xs) (take d ys)
-  unfolding same
-  rests_end g =
-      sym (h ∙ rw (drop_of_length-le (take d xs) {i = m} (omega (arith, length-take d xs)), drop_of_length-le (take d ys) {i = m} (omega (arith, length-take d ys))))
-
-pub point_is : (d : ℕ) (x y : Record) {r : Bool} → r ≡ same (take d x.coords) (take d y.coords) → r ≡ same_point d x y
+pub point_is : (d n : ℕ) (x y : Record) {r : Bool} → length x.coords ≡ 16 → length y.coords ≡ 16 → n ≡ min 16 d
+    → r ≡ pointwise eqb (take n x.coords) (take n y.coords) → r ≡ same_point d x y
 unfolding same_point
-point_is d x y e = e
+point_is d n x y l m n= e = e ∙ pointwise_same (take n x.coords) (take n y.coords) ∙ rw (filled_is x.coords n d l n=, filled_is y.coords n d m n=)
 
 -- ---- in a leaf
 
@@ -78,14 +65,16 @@ none_held d x (r ∷ rs) h =
     by_cases (eqb r.id x.id) (λ t. let g : suc (length rs) ≤ 0 = rw t at h in absurd (omega arith))
     (λ t. let g : suc (length rs) ≤ suc (leading (other_ident x.id) rs) = rw t at h in rw t (none_held d x rs (omega arith)))
 
-module _ (d : ℕ) (x : Record) (slots : List Record) (n c i : ℕ) (long : length slots ≡ 16) (n= : n ≡ min 16 c) (i= : i ≡ leading (other_ident x.id) (take c slots)) where
-  pub among_here : (e : Record) {r : Bool} → i < n → r ≡ same_point d (get_or slots i e) x → r ≡ held_among d x (take c slots)
-  among_here e {r} h g =
-      g ∙ ap (λ (y : Record). same_point d y x) (sym (get_or-take c slots i e (omega arith)) ∙ ap (λ (j : ℕ). get_or (take c slots) j e) i=)
-      ∙ sym (some_held d x (take c slots) e (omega (arith, length-take c slots, i=)))
+-- (the records are the first c of some slots)
+module _ (d : ℕ) (x : Record) (slots : List Record) (c : ℕ) where
+  pub among_here : (i : ℕ) → i ≡ leading (other_ident x.id) (take c slots) → i < length (take c slots) → (e : Record) {r : Bool} → r ≡ same_point d (get_or slots i e) x
+      → r ≡ held_among d x (take c slots)
+  among_here i i= h e {r} g =
+      g ∙ ap (λ (y : Record). same_point d y x) (sym (get_or-take c slots i e (omega (arith, length-take c slots))) ∙ ap (λ (j : ℕ). get_or (take c slots) j e) i=)
+      ∙ sym (some_held d x (take c slots) e (omega (arith, i=)))
 
-  pub among_none : n ≤ i → false ≡ held_among d x (take c slots)
-  among_none h = sym (none_held d x (take c slots) (omega (arith, length-take c slots, i=)))
+  pub among_none : leading (other_ident x.id) (take c slots) ≡ length (take c slots) → false ≡ held_among d x (take c slots)
+  among_none h = sym (none_held d x (take c slots) (omega (arith, h)))
 
 -- ---- in an index
 

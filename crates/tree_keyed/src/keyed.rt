@@ -4,7 +4,7 @@ ghost use Rattle.pagestore.specs.Store.{leaf_at, records_in};
 ghost use Rattle.tree_core.specs.Keyed.{leaf_for, same_point, held_among, holds_at};
 
 use pagestore::{Record, features_of, filled, record_at, root_level, root_page};
-use tree_core::{child_of, choose_at, filled_at, ident_place, record_rank};
+use tree_core::{child_of, choose_at, ident_place, record_rank};
 
 // The leaf to which a rank leads from a page; the level falls at each call.
 fn leaf_for(index: &[u8], page: u32, level: u8, rank: u64) -> u32
@@ -25,26 +25,17 @@ fn same_point(x: Record, y: Record, d: u8) -> bool
     let n = filled(d as usize);
     let xs = x.coords;
     let ys = y.coords;
-    let mut m = 0;
-    while m < n {
-        if xs[m] != ys[m] {
-            return false;
-        }
-        m += 1;
-    }
-    true
+    xs[..n] == ys[..n]
 }
 
 // Whether the leaf at a page has, as its first record of an identifier, one with the point of the record asked for.
 fn held_among(index: &[u8], page: u32, x: Record, d: u8) -> bool
     ensures { result ≡ held_among d x (records_in (leaf_at index.now page)) }
 {
-    let n = filled_at(index, page);
-    let i = ident_place(index, page, x.id);
-    if i < n {
-        return same_point(record_at(index, page, i), x, d);
+    match ident_place(index, page, x.id) {
+        Some(i) => same_point(record_at(index, page, i), x, d),
+        None => false,
     }
-    false
 }
 
 // Whether the index holds a record, by identifier and point, in the leaf to which its key leads.

@@ -1,6 +1,6 @@
 // The pages that an insertion wants.
-ghost use Rattle.std.specs.Prelude.{◌≡◌, ◌+◌, ◌≤◌, leb, eqb};
-ghost use Rattle.lists.specs.Basics.{if, indicator};
+ghost use Rattle.std.specs.Prelude.{◌≡◌, ◌+◌, ◌≤◌, leb};
+ghost use Rattle.lists.specs.Basics.{indicator};
 ghost use Rattle.pagestore.specs.Store.{count_at};
 ghost use Rattle.tree_core.specs.Insertion.{full_run, pages_wanted};
 
@@ -11,19 +11,7 @@ use tree_core::{child_of, choose_at, record_rank};
 fn full_page(index: &[u8], page: u32) -> u32
     ensures { (result ≡ indicator (leb 16 (count_at index.now page))) × (result ≤ 1) }
 {
-    if MAX_ITEMS as u8 <= count_at(index, page) {
-        1
-    } else {
-        0
-    }
-}
-
-// A run of n full pages that reaches up to the level below goes on with a page if that is full.
-fn run_on(n: u32, level: u8, full: u32) -> u32
-    requires { (n ≤ level) × (full ≤ 1) }
-    ensures { (result ≡ if (eqb n level) (n + full) n) × (result ≤ level + 1) }
-{
-    if n == level as u32 { n + full } else { n }
+    u32::from(MAX_ITEMS as u8 <= count_at(index, page))
 }
 
 // The full pages in an unbroken run upward from the leaf that an insertion of the rank comes to.
@@ -37,7 +25,7 @@ fn full_run(index: &[u8], page: u32, level: u8, rank: u64) -> u32
     let i = choose_at(index, page, rank);
     let child = child_of(index, page, i);
     let n = full_run(index, child, level - 1, rank);
-    run_on(n, level, full)
+    if n == u32::from(level) { n + full } else { n }
 }
 
 // Pages wanted by an insertion: that run, plus one if it takes in the root.
@@ -49,5 +37,5 @@ pub fn pages_wanted(index: &[u8], x: Record) -> u32
     let root = root_page(index);
     let rank = record_rank(x, d);
     let n = full_run(index, root, level, rank);
-    if n == level as u32 + 1 { n + 1 } else { n }
+    n + u32::from(n == u32::from(level) + 1)
 }

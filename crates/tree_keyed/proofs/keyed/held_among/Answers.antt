@@ -1,26 +1,17 @@
-use mathlib.Core.Path.{◌≡◌, ap, ◌∙◌}
-use Prim.Native.Nat.{min}
-use native.Mathlib.Omega.{arith}
+use Rattle.std.proofs.Common.{ap, ◌∙◌}
 use Rattle.pagestore_page.specs.declared.Record.{Record}
 use Rattle.pagestore.specs.Store.{leaf_at}
-use Rattle.pagestore.specs.Store.PageLaws.{leaf_counts, records_slots}
 use Rattle.tree_core.specs.Keyed.{same_point}
 use Rattle.tree_keyed.proofs.KeyedLaws.{among_here, among_none}
 use Rattle.tree_keyed.proofs.keyed.held_among.Goals as goal
 
-pub returns-then-i-n : goal.returns-then-i-n
-returns-then-i-n c = let a = c.args in
-    let F = c.filled_at-n in
-    let P = c.ident_place-i in
+pub returns-in-Some : goal.returns-in-Some
+returns-in-Some c = let a = c.args in
     let M = leaf_at a.index.now a.page in
-    let n : F.result ≡ min 16 M.count = omega (arith, F.ensures, leaf_counts a.index.now a.page) in
-    among_here a.d a.x M.records F.result M.count P.result (records_slots a.index.now a.page) n P.ensures.0 _ c.if-i-n.true
-    (c.same_point.ensures ∙ ap (λ (y : Record). same_point a.d y a.x) c.record_at.ensures)
+    let I = c.in-Some.ensures in
+    among_here a.d a.x M.records M.count c.in-Some.i I.0 I.1 _ (c.same_point.ensures ∙ ap (λ (y : Record). same_point a.d y a.x) c.record_at.ensures)
 
-pub returns : goal.returns
-returns c = let a = c.args in
-    let F = c.filled_at-n in
-    let P = c.ident_place-i in
+pub returns-in-None : goal.returns-in-None
+returns-in-None c = let a = c.args in
     let M = leaf_at a.index.now a.page in
-    let n : F.result ≡ min 16 M.count = omega (arith, F.ensures, leaf_counts a.index.now a.page) in
-    among_none a.d a.x M.records F.result M.count P.result (records_slots a.index.now a.page) n P.ensures.0 c.if-i-n.false
+    among_none a.d a.x M.records M.count c.in-None.ensures
