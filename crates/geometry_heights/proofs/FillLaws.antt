@@ -1,5 +1,8 @@
 -- The tables of the lanes, filled row by row.
-use Rattle.std.proofs.Common.{◌≡◌, refl, sym, ap, ◌∙◌, Bool, true, false, List, ◌≢◌, ℕ, ◌+◌, ◌*◌, ◌-◌, ◌≤◌, ◌<◌, arith, eq-eqb, ne_eqb, lt-ltb, le-ltb, ltb-false, ltb, length, get_or, set, length-set, get_or-set_same, get_or-set_other}
+use Rattle.std.proofs.Common.{◌≡◌, refl, sym, ap, ◌∙◌, Bool, true, false, List, ◌≢◌, ℕ, ◌+◌, ◌*◌, ◌-◌, ◌≤◌, ◌<◌, arith, eq-eqb, ne_eqb, lt-ltb, le-ltb, ltb-false, ltb, length, get_or, set, length-set, get_or-set_same, get_or-set_other, ◌++◌, take, drop, replicate, length-append, length-take, length-drop, length-take-le, get_or-take, get_or-append-add}
+use Rattle.std.proofs.Math.ListN.{get_or-append}
+use Rattle.std.proofs.lemmas.List.{length-replicate, get_or-replicate}
+use borrow.Rule.Slice.PartMut.{put_mid, Post-is}
 use native.Mathlib.Decide.{ℕ_discrete, dec_lt}
 use Rattle.lists.specs.Basics.{if, indicator}
 use Rattle.geometry_slices.proofs.PackedLaws.{asked_few, axis_low, axis_high}
@@ -7,7 +10,7 @@ use Rattle.geometry_slices.proofs.TableLaws.{reach_in}
 use Rattle.geometry_lanes.proofs.SlopeLaws.{low_le}
 use Rattle.geometry.specs.Slices.{axis_no}
 use Rattle.geometry_slices.specs.Questions.{size_of, row_at, Filled}
-use Rattle.geometry_lanes.specs.Lanes.{own_from, from_at, odd_of, Bounded, Axes, Falls, side_in, Blank}
+use Rattle.geometry_lanes.specs.Lanes.{own_from, from_at, odd_of, Bounded, Axes, Falls, Weights, Sides, side_in, Blank}
 
 -- the row of coordinate m
 pub falls_none : (a xs : List ℕ) → Blank 512 xs → Falls a xs 0
@@ -113,3 +116,51 @@ module _ (a axes xs ys : List ℕ) (m n u v : ℕ) (p : Bounded a) (few : n ≤ 
       by k i s h (no e) =
           let o : i + 32 * k < 32 * m = omega arith in
           other (i + 32 * k) (omega arith) (omega arith) ∙ (g.before (i + 32 * k) o ∙ f.each k i (omega arith) h)
+
+-- n places of the row of coordinate m, filled with its weight
+module _ (a xs : List ℕ) (n m : ℕ) (few : n ≤ 32) (l : m < 16) (s : Weights a xs n m) where
+  abbrev w : ℕ
+  w = get_or a (32 + m) 0
+
+  filled_row : List ℕ
+  filled_row = take (32 * m) xs ++ (replicate n w ++ drop (32 * m + n) xs)
+
+  before : length (take (32 * m) xs) ≡ 32 * m
+  before = length-take-le (32 * m) xs (omega (arith, s.long))
+
+  lane_each : (k i : ℕ) → k < m + 1 → i < n → Dec (k ≡ m) → get_or filled_row (i + 32 * k) 0 ≡ get_or a (32 + k) 0
+  unfolding filled_row
+  lane_each k i h o (yes e) =
+      let j : i + 32 * m ≡ length (take (32 * m) xs) + i = omega (arith, before) in
+      let r = replicate n w ++ drop (32 * m + n) xs in
+      rw e
+      (ap (λ (x : ℕ). get_or (take (32 * m) xs ++ r) x 0) j ∙ get_or-append-add (take (32 * m) xs) r i 0
+      ∙ get_or-append (replicate n w) (drop (32 * m + n) xs) 0 i (omega (arith, length-replicate {A = ℕ} n w)) ∙ get_or-replicate n i w 0 o)
+  lane_each k i h o (no e) =
+      get_or-append (take (32 * m) xs) (replicate n w ++ drop (32 * m + n) xs) 0 (i + 32 * k) (omega (arith, before))
+      ∙ get_or-take (32 * m) xs (i + 32 * k) 0 (omega arith) ∙ s.each k i (omega arith) o
+
+  pub weights_more : (ys : List ℕ) → ys ≡ replicate (length (take (32 * m + n - 32 * m) (drop (32 * m) xs))) w → Weights a (put_mid (32 * m) (32 * m + n - 32 * m) xs ys) n (m + 1)
+  unfolding filled_row
+  weights_more ys e =
+      let part : length (take (32 * m + n - 32 * m) (drop (32 * m) xs)) ≡ n = simp (length-take, length-drop) (omega (arith, s.long)) in
+      let filled : ys ≡ replicate n w = e ∙ ap (λ (k : ℕ). replicate k w) part in
+      let all : length filled_row ≡ 512 = simp (length-append, length-replicate, length-drop) (omega (arith, before, s.long)) in
+      rw (Post-is (32 * m) (32 * m + n) xs (omega arith), filled) (record { long = all; each = λ k i h o. lane_each k i h o (ℕ_discrete k m) })
+
+-- two sides
+pub sides_more : (p q : ℕ → ℕ) (d m : ℕ) (xs : List ℕ) (u v : ℕ) → m < d → d ≤ 16 → u ≡ p m → v ≡ q m → Sides p q d m xs → Sides p q d (m + 1) (set (set xs m u) (m + d) v)
+sides_more p q d m xs u v l few eu ev s =
+    record {
+      long = length-set (set xs m u) (m + d) v ∙ (length-set xs m u ∙ s.long);
+      below = λ k h. low k h (ℕ_discrete k m);
+      above = λ k h. high k h (ℕ_discrete k m);
+    }
+  where
+    low : (k : ℕ) → k < m + 1 → Dec (k ≡ m) → get_or (set (set xs m u) (m + d) v) k 0 ≡ p k
+    low k h (yes e) = rw e (get_or-set_other (set xs m u) (m + d) m v 0 (omega arith) ∙ (get_or-set_same xs m u 0 (omega (arith, s.long)) ∙ eu))
+    low k h (no e) = get_or-set_other (set xs m u) (m + d) k v 0 (omega arith) ∙ (get_or-set_other xs m k u 0 e ∙ s.below k (omega arith))
+
+    high : (k : ℕ) → k < m + 1 → Dec (k ≡ m) → get_or (set (set xs m u) (m + d) v) (k + d) 0 ≡ q k
+    high k h (yes e) = rw e (get_or-set_same (set xs m u) (m + d) v 0 (omega (arith, length-set xs m u, s.long)) ∙ ev)
+    high k h (no e) = get_or-set_other (set xs m u) (m + d) (k + d) v 0 (omega arith) ∙ (get_or-set_other xs m (k + d) u 0 (omega arith) ∙ s.above k (omega arith))
