@@ -59,7 +59,6 @@ impl Number for u16 {
         u16::from_le_bytes([s[at], s[at + 1]])
     }
 
-    #[tactic(auto, unfolding(crate::specs::Bytes::put, crate::specs::Bytes::le_bytes))]
     fn write(self, s: &mut [u8], at: usize) {
         s[at..at + 2].copy_from_slice(&self.to_le_bytes());
     }
@@ -79,7 +78,6 @@ impl Number for u32 {
         u32::from_le_bytes([s[at], s[at + 1], s[at + 2], s[at + 3]])
     }
 
-    #[tactic(auto, unfolding(crate::specs::Bytes::put, crate::specs::Bytes::le_bytes))]
     fn write(self, s: &mut [u8], at: usize) {
         s[at..at + 4].copy_from_slice(&self.to_le_bytes());
     }
