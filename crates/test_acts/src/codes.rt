@@ -1,261 +1,260 @@
 // The refusals of 01, through the acts: lengths, features, coordinates, identifiers, k, rows lent and a damaged byte.
 // An index of 16,777,216 bytes is larger than a program's stack: of the two greatest lengths `index_refusals::permitted` is asked, which every act
-// asks first; the lengths 2,047 and 2,048 are lent. The index of 2,048 bytes goes from act to act by value.
-ghost use Rattle.std.specs.Prelude.{◌≡◌, length};
-
-use crate::common::{SHORTEST, answer_to};
-use index_answer::Answer;
-use index_query::nearest_of;
-use index_refusals::Epoch;
+// asks first; the lengths 2,047 and 2,048 are lent.
+use crate::common::{
+    CASE, Case, INSERT, Insert, NEAREST, Question, SHORTEST, ask_cases, checked, delete,
+    insert_all, make,
+};
 use pagestore::PAGE_SIZE;
-use test_parts::FULL_SET;
-use test_parts::answers::show_answer;
-use test_parts::show::{line, text};
+use test_parts::show::{Document, title};
 
-// 1 if a length is not permitted.
-fn refused_length(bytes: usize) -> u64 {
-    if index_refusals::permitted(bytes) {
-        0
-    } else {
-        1
-    }
-}
+// Lengths, and 1 for those that are not permitted.
+const LENGTHS: [(usize, u64); 4] = [(2047, 1), (2048, 0), (16777216, 0), (16778240, 1)];
+
+// The features: 0 and 17 are refused. The index left has two.
+const FEATURES: [(&str, u8, u64); 4] = [
+    ("make in 2048 bytes, d 0", 0, 3),
+    ("make in 2048 bytes, d 17", 17, 3),
+    ("make in 2048 bytes, d 16", 16, 0),
+    ("make in 2048 bytes, d 2", 2, 0),
+];
+
+const SHORT_INSERT: [Insert; 1] = [Insert {
+    what: "insert in 2047 bytes",
+    said: 1,
+    ..INSERT
+}];
+
+// The ends of the ranges.
+const ENDS: [Insert; 3] = [
+    Insert {
+        what: "insert at 1000",
+        point: &[1000, 0],
+        ..INSERT
+    },
+    Insert {
+        what: "insert at -1000",
+        id: 2,
+        point: &[-1000, 0],
+        ..INSERT
+    },
+    Insert {
+        what: "insert of 4294967295",
+        id: 4294967295,
+        point: &[1000, 0],
+        ..INSERT
+    },
+];
+
+const REFUSED_INSERTS: [Insert; 8] = [
+    Insert {
+        what: "insert at 1001",
+        id: 3,
+        point: &[1001, 0],
+        said: 4,
+        ..INSERT
+    },
+    Insert {
+        what: "insert at -1001",
+        id: 3,
+        point: &[-1001, 0],
+        said: 4,
+        ..INSERT
+    },
+    Insert {
+        what: "insert of 0 at 1001",
+        id: 0,
+        point: &[1001, 0],
+        said: 4,
+        ..INSERT
+    },
+    Insert {
+        what: "insert of 0",
+        id: 0,
+        point: &[5, 0],
+        said: 5,
+        ..INSERT
+    },
+    Insert {
+        what: "insert of 1 again",
+        point: &[5, 0],
+        said: 6,
+        ..INSERT
+    },
+    Insert {
+        what: "insert of 4294967295 again",
+        id: 4294967295,
+        point: &[5, 0],
+        said: 6,
+        ..INSERT
+    },
+    Insert {
+        what: "insert of 3 coordinates",
+        id: 3,
+        point: &[0, 0, 0],
+        said: 3,
+        ..INSERT
+    },
+    Insert {
+        what: "insert of 1 coordinate",
+        id: 3,
+        point: &[0],
+        said: 3,
+        ..INSERT
+    },
+];
+
+const DAMAGED_INSERT: [Insert; 1] = [Insert {
+    what: "insert on a damaged index",
+    id: 9,
+    said: 2,
+    ..INSERT
+}];
+
+const SHORT_QUESTION: [Case; 1] = [Case {
+    what: "question in 2047 bytes",
+    said: 1,
+    ..CASE
+}];
+
+const REFUSED_QUESTIONS: [Case; 7] = [
+    Case {
+        what: "question with k 0",
+        question: Question { k: 0, ..NEAREST },
+        said: 10,
+        ..CASE
+    },
+    Case {
+        what: "question with k 65",
+        question: Question { k: 65, ..NEAREST },
+        lent: 100,
+        said: 10,
+    },
+    Case {
+        what: "question with k 65, no row lent",
+        question: Question { k: 65, ..NEAREST },
+        lent: 0,
+        said: 10,
+    },
+    Case {
+        what: "question with k 3, 2 rows lent",
+        question: Question { k: 3, ..NEAREST },
+        lent: 2,
+        said: 11,
+    },
+    Case {
+        what: "question from 1001, k 0",
+        question: Question {
+            point: &[1001, 0],
+            k: 0,
+            ..NEAREST
+        },
+        lent: 0,
+        said: 4,
+    },
+    Case {
+        what: "question from -1001",
+        question: Question {
+            point: &[-1001, 0],
+            ..NEAREST
+        },
+        said: 4,
+        ..CASE
+    },
+    Case {
+        what: "question of 1 coordinate",
+        question: Question {
+            point: &[0],
+            k: 0,
+            ..NEAREST
+        },
+        lent: 0,
+        said: 3,
+    },
+];
+
+const DAMAGED_QUESTION: [Case; 1] = [Case {
+    what: "question on a damaged index",
+    said: 2,
+    ..CASE
+}];
 
 fn show_permitted(rt: &impl Print) {
-    line(rt, b"length 2047", refused_length(2047), 1);
-    line(rt, b"length 2048", refused_length(2048), 0);
-    line(rt, b"length 16777216", refused_length(16777216), 0);
-    line(rt, b"length 16778240", refused_length(16778240), 1);
-}
-
-// A question of two coordinates with some rows lent.
-fn ask(index: &[u8], x: i16, k: usize, lent: usize) -> Answer {
-    let point = [x, 0];
-    let none = [0u16; 0];
-    answer_to(index, &point, &none, nearest_of(k, FULL_SET), lent)
-}
-
-fn try_question(
-    rt: &impl Print,
-    what: &[u8],
-    index: &[u8],
-    x: i16,
-    k: usize,
-    lent: usize,
-    said: u64,
-) {
-    let answer = ask(index, x, k, lent);
-    line(rt, what, answer.code as u64, said);
-}
-
-// A question of one coordinate, in an index of two.
-fn try_short_question(rt: &impl Print, what: &[u8], index: &[u8], said: u64) {
-    let point = [0i16];
-    let none = [0u16; 0];
-    let answer = answer_to(index, &point, &none, nearest_of(0, FULL_SET), 0);
-    line(rt, what, answer.code as u64, said);
-}
-
-fn try_check(rt: &impl Print, what: &[u8], index: &[u8], said: u64) {
-    let checked = index::check(index);
-    line(rt, what, checked.code as u64, said);
-}
-
-fn try_make(
-    rt: &impl Print,
-    what: &[u8],
-    index: [u8; SHORTEST],
-    d: u8,
-    said: u64,
-) -> [u8; SHORTEST] {
-    let mut bytes = index;
-    line(rt, what, index::make(&mut bytes, d) as u64, said);
-    bytes
-}
-
-fn insert(
-    rt: &impl Print,
-    index: [u8; SHORTEST],
-    id: u32,
-    point: &[i16],
-    what: &[u8],
-    said: u64,
-) -> [u8; SHORTEST] {
-    let epoch = Epoch {
-        id: id,
-        stage: 0,
-        stamp: 0,
-    };
-    let mut bytes = index;
-    line(
-        rt,
-        what,
-        index::insert(&mut bytes, epoch, point) as u64,
-        said,
-    );
-    bytes
-}
-
-fn try_insert(
-    rt: &impl Print,
-    what: &[u8],
-    index: [u8; SHORTEST],
-    id: u32,
-    x: i16,
-    said: u64,
-) -> [u8; SHORTEST] {
-    let point = [x, 0];
-    insert(rt, index, id, &point, what, said)
-}
-
-fn try_delete(
-    rt: &impl Print,
-    what: &[u8],
-    index: [u8; SHORTEST],
-    id: u32,
-    said: u64,
-) -> [u8; SHORTEST] {
-    let mut bytes = index;
-    line(rt, what, index::delete(&mut bytes, id) as u64, said);
-    bytes
+    for (bytes, said) in &LENGTHS {
+        let refused = !index_refusals::permitted(*bytes);
+        let _ = print!(rt; "length {bytes}");
+        Document::Book.line(rt, "", u64::from(refused), *said);
+    }
 }
 
 // The five acts in bytes of a length that is not permitted.
-fn short_acts(rt: &impl Print, index: &mut [u8]) {
-    let point = [0i16, 0];
-    let epoch = Epoch {
-        id: 1,
-        stage: 0,
-        stamp: 0,
-    };
-    line(rt, b"make in 2047 bytes", index::make(index, 2) as u64, 1);
-    line(
-        rt,
-        b"insert in 2047 bytes",
-        index::insert(index, epoch, &point) as u64,
-        1,
-    );
-    line(
-        rt,
-        b"delete in 2047 bytes",
-        index::delete(index, 1) as u64,
-        1,
-    );
-}
-
 fn short(rt: &impl Print) {
     let mut index = [0u8; SHORTEST - 1];
-    short_acts(rt, &mut index);
-    try_question(rt, b"question in 2047 bytes", &index, 0, 1, 64, 1);
-    try_check(rt, b"check in 2047 bytes", &index, 1);
+    make(rt, &mut index, "make in 2047 bytes", 2, 1);
+    insert_all(rt, Document::Book, &mut index, &SHORT_INSERT);
+    delete(rt, &mut index, "delete in 2047 bytes", 1, 1);
+    ask_cases(rt, Document::Book, &index, &SHORT_QUESTION, None);
+    Document::Book.line(rt, "check in 2047 bytes", checked(&index).0, 1);
 }
 
-// The features: 0 and 17 are refused. The index left has two.
-fn make_all(rt: &impl Print, index: [u8; SHORTEST]) -> [u8; SHORTEST] {
-    let a = try_make(rt, b"make in 2048 bytes, d 0", index, 0, 3);
-    let b = try_make(rt, b"make in 2048 bytes, d 17", a, 17, 3);
-    let c = try_make(rt, b"make in 2048 bytes, d 16", b, 16, 0);
-    try_make(rt, b"make in 2048 bytes, d 2", c, 2, 0)
-}
-
-fn look_empty(rt: &impl Print, index: &[u8]) {
-    try_check(rt, b"check", index, 0);
-    text(rt, b"question on the empty index, k 64\n");
-    show_answer(rt, ask(index, 0, 64, 64), 0, 0, 0);
-}
-
-// The ends of the ranges.
-fn insert_ends(rt: &impl Print, index: [u8; SHORTEST]) -> [u8; SHORTEST] {
-    let a = try_insert(rt, b"insert at 1000", index, 1, 1000, 0);
-    let b = try_insert(rt, b"insert at -1000", a, 2, -1000, 0);
-    try_insert(rt, b"insert of 4294967295", b, 4294967295, 1000, 0)
-}
-
-fn refused_inserts(rt: &impl Print, index: [u8; SHORTEST]) -> [u8; SHORTEST] {
-    let a = try_insert(rt, b"insert at 1001", index, 3, 1001, 4);
-    let b = try_insert(rt, b"insert at -1001", a, 3, -1001, 4);
-    let c = try_insert(rt, b"insert of 0 at 1001", b, 0, 1001, 4);
-    let e = try_insert(rt, b"insert of 0", c, 0, 5, 5);
-    let f = try_insert(rt, b"insert of 1 again", e, 1, 5, 6);
-    try_insert(rt, b"insert of 4294967295 again", f, 4294967295, 5, 6)
-}
-
-fn refused_points(rt: &impl Print, index: [u8; SHORTEST]) -> [u8; SHORTEST] {
-    let three = [0i16, 0, 0];
-    let one = [0i16];
-    let a = insert(rt, index, 3, &three, b"insert of 3 coordinates", 3);
-    insert(rt, a, 3, &one, b"insert of 1 coordinate", 3)
-}
-
-fn refused_changes(rt: &impl Print, index: [u8; SHORTEST]) -> [u8; SHORTEST] {
-    let a = refused_points(rt, refused_inserts(rt, index));
-    let b = try_delete(rt, b"delete of 0", a, 0, 5);
-    try_delete(rt, b"delete of 3", b, 3, 7)
-}
-
-fn refused_questions(rt: &impl Print, index: &[u8]) {
-    try_question(rt, b"question with k 0", index, 0, 0, 64, 10);
-    try_question(rt, b"question with k 65", index, 0, 65, 100, 10);
-    try_question(rt, b"question with k 65, no row lent", index, 0, 65, 0, 10);
-    try_question(rt, b"question with k 3, 2 rows lent", index, 0, 3, 2, 11);
-    try_question(rt, b"question from 1001, k 0", index, 1001, 0, 0, 4);
-    try_question(rt, b"question from -1001", index, -1001, 1, 64, 4);
-    try_short_question(rt, b"question of 1 coordinate", index, 3);
-    text(rt, b"question from (1000, 0), k 2, 2 rows lent\n");
-    show_answer(rt, ask(index, 1000, 2, 2), 0, 2, 1);
+// A question with as many rows lent as it asks for.
+fn show_question(rt: &impl Print, index: &[u8], x: i16, k: usize, rows: u64, leaves: u64) {
+    let question = Question {
+        point: &[x, 0],
+        k,
+        ..NEAREST
+    };
+    Document::Book.answer(rt, question.reply(index, k).answer, 0, rows, leaves);
 }
 
 // How many bytes of two runs differ.
-pub fn changed(a: &[u8], b: &[u8]) -> u64
-    requires { length a.now ≡ length b.now }
-{
-    let mut n: u64 = 0;
-    let mut i = 0;
-    while i < a.len() {
-        if a[i] != b[i] {
-            n += 1;
-        }
-        i += 1;
-    }
-    n
+pub fn changed(a: &[u8; SHORTEST], b: &[u8; SHORTEST]) -> u64 {
+    a.iter().zip(b).filter(|(x, y)| x != y).count() as u64
 }
 
 // The index with the count of its root leaf set to 17.
-pub fn damage(index: [u8; SHORTEST]) -> [u8; SHORTEST] {
-    let mut bytes = index;
-    bytes[PAGE_SIZE + 1] = 17;
-    bytes
+pub fn damage(index: &[u8; SHORTEST]) -> [u8; SHORTEST] {
+    let mut damaged = *index;
+    damaged[PAGE_SIZE + 1] = 17;
+    damaged
 }
 
-fn damaged_looks(rt: &impl Print, index: &[u8]) {
-    try_question(rt, b"question on a damaged index", index, 0, 1, 64, 2);
-    let checked = index::check(index);
-    line(rt, b"check of a damaged index", checked.code as u64, 2);
-    line(rt, b"  page", checked.page as u64, 1);
-}
-
-fn damaged(rt: &impl Print, index: [u8; SHORTEST]) {
-    let a = try_insert(rt, b"insert on a damaged index", index, 9, 0, 2);
-    let b = try_delete(rt, b"delete on a damaged index", a, 1, 2);
-    damaged_looks(rt, &b);
+fn damaged(rt: &impl Print, index: &[u8; SHORTEST]) {
+    let mut index = damage(index);
+    insert_all(rt, Document::Book, &mut index, &DAMAGED_INSERT);
+    delete(rt, &mut index, "delete on a damaged index", 1, 2);
+    ask_cases(rt, Document::Book, &index, &DAMAGED_QUESTION, None);
+    let (number, page) = checked(&index);
+    Document::Book.line(rt, "check of a damaged index", number, 2);
+    Document::Book.line(rt, "  page", page, 1);
 }
 
 // The index left has the three points at the ends of the ranges.
 pub fn run(rt: &impl Print) -> [u8; SHORTEST] {
-    text(rt, b"lengths and refusals\n");
+    title(rt, "lengths and refusals");
     show_permitted(rt);
     short(rt);
-    let empty = make_all(rt, [0u8; SHORTEST]);
-    look_empty(rt, &empty);
-    let before = insert_ends(rt, empty);
-    let after = refused_changes(rt, before);
-    refused_questions(rt, &after);
-    line(
+    let mut index = [0; SHORTEST];
+    for (what, d, said) in &FEATURES {
+        make(rt, &mut index, what, *d, *said);
+    }
+    Document::Book.line(rt, "check", checked(&index).0, 0);
+    title(rt, "question on the empty index, k 64");
+    show_question(rt, &index, 0, 64, 0, 0);
+    insert_all(rt, Document::Book, &mut index, &ENDS);
+    let before = index;
+    insert_all(rt, Document::Book, &mut index, &REFUSED_INSERTS);
+    delete(rt, &mut index, "delete of 0", 0, 5);
+    delete(rt, &mut index, "delete of 3", 3, 7);
+    ask_cases(rt, Document::Book, &index, &REFUSED_QUESTIONS, None);
+    title(rt, "question from (1000, 0), k 2, 2 rows lent");
+    show_question(rt, &index, 1000, 2, 2, 1);
+    Document::Book.line(
         rt,
-        b"bytes changed by these refusals",
-        changed(&before, &after),
+        "bytes changed by these refusals",
+        changed(&before, &index),
         0,
     );
-    damaged(rt, damage(after));
-    after
+    damaged(rt, &index);
+    index
 }

@@ -15,9 +15,9 @@ mod weights;
 fn main(rt: HostRuntime) {
     upward::run(&rt);
     let index = codes::run(&rt);
-    stages::run(&rt, index);
+    stages::run(&rt, &index);
     newest::run(&rt);
-    weights::run(&rt, index);
-    dates::run(&rt, index);
+    weights::run(&rt, &index);
+    dates::run(&rt, &index);
     days::run(&rt);
 }

@@ -11,6 +11,5 @@ const CENTRE: i16 = MAX_COORDINATE as i16;
 
 // The coordinate of a place.
 pub fn coordinate(place: u16) -> i16 {
-    let x = place % PLACES;
-    x as i16 - CENTRE
+    (place % PLACES) as i16 - CENTRE
 }

@@ -1,57 +1,42 @@
-// Lines of output. A write that fails is passed over.
+// Lines of output. A write that fails is passed over, since what was printed is compared as a whole.
+use std::fmt;
 
-pub fn text(rt: &impl Print, s: &[u8]) {
-    let _ = rt.write_all(s);
+// What a line says a result beside.
+#[derive(Clone, Copy)]
+pub enum Document {
+    // 01.
+    Book,
+    // The change request on weights.
+    Weights,
+    // On stages.
+    Stages,
+    // On recording days.
+    Days,
+    // On the order of rows.
+    Order,
 }
 
-pub fn number(rt: &impl Print, n: u64) {
-    let _ = rt.print(n);
-}
-
-// A name and a number, as in ` d 8`.
-pub fn field(rt: &impl Print, name: &[u8], n: u64) {
-    text(rt, b" ");
-    text(rt, name);
-    text(rt, b" ");
-    number(rt, n);
-}
-
-// What was done, what came of it, and what a document says.
-fn compared(rt: &impl Print, what: &[u8], document: &[u8], came: u64, said: u64) {
-    text(rt, what);
-    text(rt, b": ");
-    number(rt, came);
-    text(rt, b", ");
-    text(rt, document);
-    text(rt, b" says ");
-    number(rt, said);
-    if came != said {
-        text(rt, b" DIFFERS");
+impl fmt::Display for Document {
+    fn fmt<W: fmt::Write>(&self, f: &mut fmt::Formatter<W>) -> fmt::Result {
+        f.write_str(match self {
+            Document::Book => "01",
+            Document::Weights => "Q-1",
+            Document::Stages => "Q-2",
+            Document::Days => "Q-4",
+            Document::Order => "Q-9",
+        })
     }
-    text(rt, b"\n");
 }
 
-// Beside what 01 says.
-pub fn line(rt: &impl Print, what: &[u8], came: u64, said: u64) {
-    compared(rt, what, b"01", came, said);
+impl Document {
+    // What was done, what came of it, and what the document says.
+    pub fn line(self, rt: &impl Print, what: &str, came: u64, said: u64) {
+        let differs = if came == said { "" } else { " DIFFERS" };
+        let _ = println!(rt; "{what}: {came}, {self} says {said}{differs}");
+    }
 }
 
-// Beside what the change request on weights says.
-pub fn weighed(rt: &impl Print, what: &[u8], came: u64, said: u64) {
-    compared(rt, what, b"Q-1", came, said);
-}
-
-// Beside what the change request on stages says.
-pub fn staged(rt: &impl Print, what: &[u8], came: u64, said: u64) {
-    compared(rt, what, b"Q-2", came, said);
-}
-
-// Beside what the change request on recording days says.
-pub fn dated(rt: &impl Print, what: &[u8], came: u64, said: u64) {
-    compared(rt, what, b"Q-4", came, said);
-}
-
-// Beside what the change request on the order of rows says.
-pub fn ordered(rt: &impl Print, what: &[u8], came: u64, said: u64) {
-    compared(rt, what, b"Q-9", came, said);
+// A line without a result.
+pub fn title(rt: &impl Print, s: &str) {
+    let _ = println!(rt; "{s}");
 }

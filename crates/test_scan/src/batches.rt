@@ -1,6 +1,5 @@
 // Batches of points with many questions each, compared with the full scan.
-ghost use Rattle.std.specs.Prelude.{◌≡◌, ◌≤◌, ◌<◌, length};
-ghost use Rattle.test_model.specs.Comparing.{Arrays, Counts, Fits};
+ghost use Rattle.std.specs.Prelude.{◌≤◌};
 
 use crate::asking::ask_from;
 use crate::filling::{delete_points, insert_points};
@@ -8,270 +7,119 @@ use crate::ones::ones_and_none;
 use geometry::MAX_FEATURES;
 use pagestore::PAGE_SIZE;
 use test_model::batches::{
-    DATED, PLAIN, WEIGHTED, asked_k, asked_kind, asked_points, batch_seed, both, report,
-    report_dated, report_weighted,
+    Way, asked_k, asked_kind, asked_points, batch_seed, report, report_dated, report_weighted,
 };
-use test_model::numbers::{CLUSTERED, TIED, WIDE, draw, leap};
-use test_model::scan::{candidate_count, live_count};
-use test_model::weights::{NONE, asked_pattern, draw_weights};
-use test_model::{Asked, Batch, PAIRS, POINTS, Seen};
-use test_parts::listing::{MAX_LEAVES, list_leaves};
+use test_model::numbers::leap;
+use test_model::origin::Origin;
+use test_model::points::{Kind, Point};
+use test_model::scan::live_count;
+use test_model::seen::Seen;
+use test_model::weights::{Pattern, asked_pattern};
+use test_model::{Asked, Batch, POINTS, Scene};
+use test_parts::listing::leaves;
 
-// The weights of a question, by their pattern.
-fn weights_by(pattern: u32, d: usize, seed: u64) -> [u16; MAX_FEATURES]
+// The weights of a question, ones if it carries none.
+fn weights_by(pattern: Option<Pattern>, d: usize, seed: u64) -> [u16; MAX_FEATURES]
     requires { 1 ≤ d }
-    ensures { length result ≡ 16 }
 {
-    let mut weights = [0u16; MAX_FEATURES];
     let only = (seed / 16 % d as u64) as usize;
-    draw_weights(&mut weights, pattern, only, leap(seed / 2 + 1));
-    weights
-}
-
-// What a question asks for.
-fn asked_of(marks: &[u64], b: Batch, leaves: usize, way: u32, weighted: bool, seed: u64) -> Asked
-    ensures { (result.d ≡ b.d) × (result.leaves ≡ leaves) }
-{
-    let wanted = asked_points(way, seed);
-    Asked {
-        d: b.d,
-        k: asked_k(seed),
-        wanted: wanted,
-        weighted: weighted,
-        candidates: candidate_count(marks, wanted),
-        leaves: leaves,
+    match pattern {
+        Some(pattern) => pattern.draw(only, leap(seed / 2 + 1)),
+        None => [1; MAX_FEATURES],
     }
-}
-
-// Asks one question, with arrays of its own.
-fn ask_drawn(
-    index: &[u8],
-    places: &[u16],
-    marks: &[u64],
-    pages: &[u32],
-    asked: Asked,
-    kind: u32,
-    pattern: u32,
-    seed: u64,
-) -> Seen
-    requires { Counts asked pages.now × Arrays places.now marks.now }
-{
-    let mut q = [0u16; MAX_FEATURES];
-    let mut distances = [0u64; POINTS];
-    let mut table = [0u64; PAIRS];
-    draw(&mut q, kind, (seed % 5) as usize, seed);
-    let weights = weights_by(pattern, asked.d, seed);
-    ask_from(
-        index,
-        places,
-        marks,
-        pages,
-        &mut distances,
-        &mut table,
-        &q,
-        &weights,
-        asked,
-    )
 }
 
 // Asks question i of a batch in one of three ways.
-fn ask_one(
-    index: &[u8],
-    places: &[u16],
-    marks: &[u64],
-    pages: &[u32],
-    b: Batch,
-    leaves: usize,
-    way: u32,
-    i: u64,
-    seed: u64,
-) -> Seen
-    requires { Fits b × (leaves ≤ length pages.now) × Arrays places.now marks.now }
-{
-    let kind = asked_kind(b.kind, seed);
+fn ask_one(scene: &Scene, b: &Batch, way: Way, i: u64, seed: u64) -> Seen {
+    let (places, _) = asked_kind(b.kind, seed).draw((seed % 5) as usize, seed);
     let pattern = asked_pattern(way, i);
-    let asked = asked_of(marks, b, leaves, way, pattern != NONE, seed);
-    ask_drawn(index, places, marks, pages, asked, kind, pattern, seed)
+    let origin = Origin {
+        places,
+        weights: weights_by(pattern, b.d, seed),
+        d: b.d,
+    };
+    let asked = Asked {
+        k: asked_k(seed),
+        wanted: asked_points(way, seed),
+        weighted: pattern.is_some(),
+    };
+    ask_from(scene, &origin, &asked)
 }
 
 // Asks the questions of a batch in one way.
-fn ask_all(
-    index: &[u8],
-    places: &[u16],
-    marks: &[u64],
-    pages: &[u32],
-    b: Batch,
-    leaves: usize,
-    way: u32,
-    seed: u64,
-) -> Seen
-    requires { Fits b × (leaves ≤ length pages.now) × Arrays places.now marks.now }
-{
-    let n = b.questions as u64;
-    let mut s = batch_seed(b, seed);
-    let mut seen = Seen {
-        rows: 0,
-        leaves: 0,
-        differences: 0,
-    };
-    let mut i = 0;
-    while i < n {
-        s = leap(s);
-        seen = both(
-            seen,
-            ask_one(index, places, marks, pages, b, leaves, way, i, s),
-        );
-        i += 1;
+fn ask_all(scene: &Scene, b: &Batch, way: Way, seed: u64) -> Seen {
+    let mut n = batch_seed(b, seed);
+    let mut seen = Seen::default();
+    for i in 0..u64::from(b.questions) {
+        n = leap(n);
+        seen.add(ask_one(scene, b, way, i, n));
     }
     seen
-}
-
-fn ask_weighted(
-    rt: &impl Print,
-    index: &[u8],
-    places: &[u16],
-    marks: &[u64],
-    pages: &[u32],
-    b: Batch,
-    leaves: usize,
-    seed: u64,
-)
-    requires { Fits b × (leaves ≤ length pages.now) × Arrays places.now marks.now }
-{
-    let seen = ask_all(index, places, marks, pages, b, leaves, WEIGHTED, seed);
-    let n = b.questions / 4;
-    report_weighted(rt, b, seen, n, ones_and_none(index, b, n, seed));
-}
-
-fn ask_dated(
-    rt: &impl Print,
-    index: &[u8],
-    places: &[u16],
-    marks: &[u64],
-    pages: &[u32],
-    b: Batch,
-    leaves: usize,
-    seed: u64,
-)
-    requires { Fits b × (leaves ≤ length pages.now) × Arrays places.now marks.now }
-{
-    let seen = ask_all(index, places, marks, pages, b, leaves, DATED, seed);
-    report_dated(rt, b, seen);
 }
 
 // Questions on an index as it is, after acts of which some were refused.
 fn round(
     rt: &impl Print,
     index: &[u8],
-    places: &[u16],
-    marks: &[u64],
-    b: Batch,
+    points: &[Point; POINTS],
+    b: &Batch,
     refused: u64,
     seed: u64,
-)
-    requires { Fits b × Arrays places.now marks.now }
-{
-    let mut pages = [0u32; MAX_LEAVES];
-    let leaves = list_leaves(index, &mut pages);
-    let seen = ask_all(index, places, marks, &pages, b, leaves, PLAIN, seed);
-    report(rt, b, live_count(marks), refused, seen);
-    ask_weighted(rt, index, places, marks, &pages, b, leaves, seed);
-    ask_dated(rt, index, places, marks, &pages, b, leaves, seed);
+) {
+    let pages = leaves(index);
+    let scene = Scene {
+        index,
+        leaves: pages.as_slice(),
+        points,
+    };
+    let plain = ask_all(&scene, b, Way::Plain, seed);
+    report(rt, b, live_count(points), refused, &plain);
+    let weighted = ask_all(&scene, b, Way::Weighted, seed);
+    let n = b.questions / 4;
+    report_weighted(rt, b, &weighted, n, ones_and_none(index, b, n, seed));
+    report_dated(rt, b, &ask_all(&scene, b, Way::Dated, seed));
 }
 
-// All points are inserted.
-fn fill(
-    rt: &impl Print,
-    index: &mut [u8],
-    places: &mut [u16],
-    marks: &mut [u64],
-    b: Batch,
-    seed: u64,
-)
-    requires { Fits b × Arrays places.old marks.old }
-    ensures { Arrays places.new marks.new }
-{
-    index::make(index, b.d as u8);
-    draw(places, b.kind, 0, seed);
-    let refused = insert_points(index, places, marks, b.points, b.d, seed);
-    round(rt, index, places, marks, b, refused, seed);
-}
-
-// Every third point is deleted.
-fn thin_out(
-    rt: &impl Print,
-    index: &mut [u8],
-    places: &[u16],
-    marks: &mut [u64],
-    b: Batch,
-    first: usize,
-    seed: u64,
-)
-    requires { Fits b × (first ≤ 3) × Arrays places.now marks.old }
-    ensures { length marks.new ≡ 1024 }
-{
-    let refused = delete_points(index, marks, first);
-    round(rt, index, places, marks, b, refused, seed);
-}
-
-// Those deleted are inserted again.
-fn refill(rt: &impl Print, index: &mut [u8], places: &[u16], marks: &mut [u64], b: Batch, seed: u64)
-    requires { Fits b × Arrays places.now marks.old }
-{
-    let refused = insert_points(index, places, marks, b.points, b.d, seed);
-    round(rt, index, places, marks, b, refused, seed);
-}
-
-fn run_on(rt: &impl Print, index: &mut [u8], places: &mut [u16], marks: &mut [u64], b: Batch)
-    requires { Fits b × Arrays places.old marks.old }
-{
-    fill(rt, index, places, marks, b, 12345);
-    thin_out(rt, index, places, marks, b, 1, 777);
-    thin_out(rt, index, places, marks, b, 0, 4242);
-    refill(rt, index, places, marks, b, 99);
-}
-
-// A batch in an index of 256 pages.
-fn run_batch(rt: &impl Print, b: Batch)
-    requires { Fits b }
-{
+// A batch in an index of 256 pages: all points are inserted, every third one is deleted, twice, and those deleted are inserted again.
+fn run_batch(rt: &impl Print, b: &Batch) {
     let mut index = [0u8; 256 * PAGE_SIZE];
-    let mut places = [0u16; MAX_FEATURES * POINTS];
-    let mut marks = [0u64; POINTS];
-    run_on(rt, &mut index, &mut places, &mut marks, b);
+    let mut points = b.kind.draw_all(12345);
+    let _ = index::make(&mut index, b.d as u8);
+    let refused = insert_points(&mut index, &mut points[..b.points], b.d, 12345);
+    round(rt, &index, &points, b, refused, 12345);
+    for (first, seed) in [(1, 777), (0, 4242)] {
+        let refused = delete_points(&mut index, &mut points, first);
+        round(rt, &index, &points, b, refused, seed);
+    }
+    let refused = insert_points(&mut index, &mut points[..b.points], b.d, 99);
+    round(rt, &index, &points, b, refused, 99);
 }
 
 // Batches of d features, for each way in which points lie.
 fn run_features(rt: &impl Print, d: usize, questions: u32)
     requires { (1 ≤ d) × (d ≤ 16) }
 {
-    run_batch(
-        rt,
-        Batch {
-            d: d,
-            points: 900,
-            kind: WIDE,
-            questions: questions,
-        },
-    );
-    run_batch(
-        rt,
-        Batch {
-            d: d,
-            points: 700,
-            kind: CLUSTERED,
-            questions: questions,
-        },
-    );
-    run_batch(
-        rt,
-        Batch {
-            d: d,
-            points: 500,
-            kind: TIED,
-            questions: questions,
-        },
-    );
+    let wide = Batch {
+        d,
+        points: 900,
+        kind: Kind::Wide,
+        questions,
+    };
+    run_batch(rt, &wide);
+    let clustered = Batch {
+        d,
+        points: 700,
+        kind: Kind::Clustered,
+        questions,
+    };
+    run_batch(rt, &clustered);
+    let tied = Batch {
+        d,
+        points: 500,
+        kind: Kind::Tied,
+        questions,
+    };
+    run_batch(rt, &tied);
 }
 
 pub fn run(rt: &impl Print) {

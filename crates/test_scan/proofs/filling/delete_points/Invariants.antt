@@ -1,10 +1,5 @@
-use mathlib.Core.Path.{◌≡◌}
-use Prim.Native.Nat.{◌+◌, ◌-◌, ◌≤◌}
-use lib.ListN.{length}
+use Rattle.std.proofs.Common.{◌≤◌}
 use Rattle.test_scan.proofs.filling.delete_points.Given as goal
 
 abbrev pub invariant-loop-p : goal.invariant-loop-p
-invariant-loop-p l = (l.p ≤ length l.initial.marks + 3) × (l.refused ≤ l.p) × (length l.index ≡ length l.initial.index) × (length l.marks ≡ length l.initial.marks)
-
-abbrev pub decreases-loop-p : goal.decreases-loop-p
-decreases-loop-p l = length l.initial.marks + 3 - l.p
+invariant-loop-p l = l.refused ≤ l.p

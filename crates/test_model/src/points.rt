@@ -1,0 +1,87 @@
+// Points drawn by numbers. A place is a coordinate with 1,000 added: 0 to 2,000.
+ghost use Rattle.std.specs.Prelude.{◌≤◌};
+
+use crate::POINTS;
+use crate::marks::Mark;
+use crate::numbers::next;
+use geometry::MAX_FEATURES;
+use std::fmt;
+use test_parts::places::coordinate;
+
+// A point of a batch: its identifier, its places, of which the first d count, and its mark while it is live.
+#[derive(Clone, Copy)]
+pub struct Point {
+    pub id: u32,
+    pub places: [u16; MAX_FEATURES],
+    pub mark: Option<Mark>,
+}
+
+// The identifier of point p: the first 10,007 are distinct, and they are not in the order of p.
+fn id_of(p: usize) -> u32 {
+    let turn = (p % 10007) * 7919 % 10007;
+    turn as u32 * 429000 + 1
+}
+
+// How the points of a batch lie: anywhere, in five clusters, or all tied on -1, 0 and 1.
+#[derive(Clone, Copy)]
+pub enum Kind {
+    Wide,
+    Clustered,
+    Tied,
+}
+
+impl Kind {
+    // A place of point p at coordinate m.
+    fn place(self, p: usize, m: usize, n: u64) -> u16
+        ensures { result ≤ 2000 }
+    {
+        match self {
+            Kind::Wide => (n % 2001) as u16,
+            Kind::Clustered => {
+                let centre = (p % 5 + m % 5) % 5;
+                centre as u16 * 450 + (n % 101) as u16
+            }
+            Kind::Tied => 999 + (n % 3) as u16,
+        }
+    }
+
+    // The places of point p, and the last number drawn for them.
+    pub fn draw(self, p: usize, seed: u64) -> ([u16; MAX_FEATURES], u64) {
+        let mut places = [0; MAX_FEATURES];
+        let mut n = seed;
+        for (m, place) in places.iter_mut().enumerate() {
+            n = next(n);
+            *place = self.place(p, m, n);
+        }
+        (places, n)
+    }
+
+    // Points that are not live.
+    pub fn draw_all(self, seed: u64) -> [Point; POINTS] {
+        let mut points = [Point {
+            id: 0,
+            places: [0; MAX_FEATURES],
+            mark: None,
+        }; POINTS];
+        let mut n = seed;
+        for (p, point) in points.iter_mut().enumerate() {
+            (point.places, n) = self.draw(p, n);
+            point.id = id_of(p);
+        }
+        points
+    }
+}
+
+impl fmt::Display for Kind {
+    fn fmt<W: fmt::Write>(&self, f: &mut fmt::Formatter<W>) -> fmt::Result {
+        f.write_str(match self {
+            Kind::Wide => "wide",
+            Kind::Clustered => "clustered",
+            Kind::Tied => "tied",
+        })
+    }
+}
+
+pub fn coordinates(places: &[u16; MAX_FEATURES]) -> [i16; MAX_FEATURES] {
+    places.map(coordinate)
+}
