@@ -10,7 +10,8 @@ use Rattle.sound_faults.specs.Linked.{HeaderFine, InState}
 use Rattle.sound_faults.specs.Stored.{view_stored}
 use Rattle.sound_faults.proofs.Assembled.{reached_page, live_count}
 use Rattle.sound_links.specs.Marks.{Marked, Seen, Clear, Ready, Grown, MarksAre, FreedOk, marked_to}
-use Rattle.sound_pages.specs.Pages.{PagesFine, Named, Lost}
+use Rattle.sound_pages.specs.Pages.{PagesFine, Named, Lost, no_ends}
+use Rattle.sound_keys.specs.declared.Ends.{Ends}
 use Rattle.sound_visit.specs.Collect.{pairs_to, Collected, Gathered}
 use Rattle.sound_check.specs.Outcome.{Start, Counted, Lent, Whole}
 use Rattle.sound_links.proofs.MarkLaws.{clear_marks, marks_are}
@@ -43,8 +44,8 @@ grown_marks v {m' = m'} e g = marks_are v m' g.marks (subst (Seen m') e g.done)
 
 -- ---- ALL PAGES JUDGED
 
-pub whole : (b : List ℕ) {m f firsts lasts named i h : List ℕ} {n : ℕ} → Start (view_of b) f → MarksAre (view_of b) m
-    → PagesFine (view_of b) firsts lasts (view_of b).count × Gathered (view_of b) m (view_of b).count n i h → Named (view_of b) named (16 * (view_of b).count)
+pub whole : (b : List ℕ) {m f named i h : List ℕ} {ends : List Ends} {n : ℕ} → Start (view_of b) f → MarksAre (view_of b) m
+    → PagesFine (view_of b) ends (view_of b).count × Gathered (view_of b) m (view_of b).count n i h → Named (view_of b) named (16 * (view_of b).count)
     → ((view_of b).total ≤ 65535 → (view_of b).total ≤ length i) → length h ≡ length i → Whole (view_of b) m f n i h
 whole b s a g w r e =
     let low : (p i : ℕ) (e : Entry) → EntryAt (view_of b) p i e → 16 * p + i < 16 * (view_of b).count =
@@ -111,6 +112,6 @@ module _ (b : List ℕ) {m f i h : List ℕ} {n : ℕ} (w : Whole (view_of b) m 
 pub clear_zeros : (v : View) (n : ℕ) → v.count ≤ n → Clear v (replicate n 0)
 clear_zeros v n h = record { size = omega (arith, length-replicate {A = ℕ} n 0); none = zero_at n }
 
-pub lent_zeros : (v : View) (k n : ℕ) → v.count ≤ k → (v.total ≤ 65535 → v.total ≤ n) → Lent v (replicate k 0) (replicate k 0) (replicate k 0) (replicate n 0) (replicate n 0)
+pub lent_zeros : (v : View) (k n : ℕ) → v.count ≤ k → (v.total ≤ 65535 → v.total ≤ n) → Lent v (replicate k 0) (replicate k no_ends) (replicate n 0) (replicate n 0)
 lent_zeros v k n h f =
-    record { named = clear_zeros v k h; firsts = omega (arith, length-replicate {A = ℕ} k 0); lasts = omega (arith, length-replicate {A = ℕ} k 0); ids = λ l. omega (arith, length-replicate {A = ℕ} n 0, f l); holders = refl }
+    record { named = clear_zeros v k h; ends = omega (arith, length-replicate {A = Ends} k no_ends); ids = λ l. omega (arith, length-replicate {A = ℕ} n 0, f l); holders = refl }

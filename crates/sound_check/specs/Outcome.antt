@@ -7,6 +7,7 @@ use Rattle.sound_faults.specs.declared.Fault.{Fault}
 use Rattle.sound_faults.specs.Faults.{IsPage, RootFill, Reached, FailsAt}
 use Rattle.sound_faults.specs.Linked.{HeaderFine, Linked, PageFine, InState}
 use Rattle.sound_links.specs.Marks.{Marked, Clear, MarksAre, FreedOk}
+use Rattle.sound_keys.specs.declared.Ends.{Ends}
 use Rattle.sound_visit.specs.Collect.{Gathered}
 
 -- the header, the freed pages and the root have no fault
@@ -30,10 +31,9 @@ pub record Counted (v : View) (m : List ℕ) : Type 0 where
   pub most : v.total ≤ max_points
 
 -- room for what is kept of the followed pages, and for the identifiers; nothing is marked as named
-pub record Lent (v : View) (n f l i h : List ℕ) : Type 0 where
+pub record Lent (v : View) (n : List ℕ) (e : List Ends) (i h : List ℕ) : Type 0 where
   pub named : Clear v n
-  pub firsts : v.count ≤ length f
-  pub lasts : v.count ≤ length l
+  pub ends : v.count ≤ length e
   pub ids : v.total ≤ max_points → v.total ≤ length i
   pub holders : length h ≡ length i
 

@@ -14,6 +14,7 @@ ghost use Rattle.sound_check.specs.Outcome.{Start, Lent, Whole, GroundJudged, Ve
 use pagestore::{features_of, page_count, root_level, root_page, total_records};
 use pagestore_page::{MAX_PAGES, MAX_POINTS};
 pub use sound_faults::Fault;
+use sound_keys::Ends;
 use sound_links::{header_fine, reach, root_filled, walk_freed};
 use sound_pages::{Survey, find_lost};
 use sound_repeats::lowest_repeat_of;
@@ -66,23 +67,21 @@ fn check_tree(
     marks: &[u16],
     freed: &[u8],
     named: &mut [u8],
-    firsts: &mut [u64],
-    lasts: &mut [u64],
+    ends: &mut [Ends],
     ids: &mut [u32],
     holders: &mut [u16],
 ) -> Result<(), Fault>
     requires { Start (view_of index.now) freed.now × MarksAre (view_of index.now) marks.now
-        × Lent (view_of index.now) named.old firsts.old lasts.old ids.old holders.old }
+        × Lent (view_of index.now) named.old ends.old ids.old holders.old }
     ensures { Verdict index.now result }
 {
     let d = features_of(index) as usize;
-    let n = visit(index, d, marks, firsts, lasts, ids, holders)?;
+    let n = visit(index, d, marks, ends, ids, holders)?;
     let survey = Survey {
         index: index,
         marks: marks,
         freed: freed,
-        firsts: firsts,
-        lasts: lasts,
+        ends: ends,
     };
     survey.judge_parents(named)?;
     check_whole(index, n, marks, freed, ids, holders)
@@ -121,8 +120,7 @@ fn check_with<const PAGES: usize, const POINTS: usize>(index: &[u8]) -> Result<(
     let mut freed = [0u8; PAGES];
     check_ground(index, &mut marks, &mut freed)?;
     let mut named = [0u8; PAGES];
-    let mut firsts = [0u64; PAGES];
-    let mut lasts = [0u64; PAGES];
+    let mut ends = [Ends { first: 0, last: 0 }; PAGES];
     let mut ids = [0u32; POINTS];
     let mut holders = [0u16; POINTS];
     check_tree(
@@ -130,8 +128,7 @@ fn check_with<const PAGES: usize, const POINTS: usize>(index: &[u8]) -> Result<(
         &marks,
         &freed,
         &mut named,
-        &mut firsts,
-        &mut lasts,
+        &mut ends,
         &mut ids,
         &mut holders,
     )

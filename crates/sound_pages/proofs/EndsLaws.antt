@@ -1,5 +1,5 @@
 -- The first and the last key of a page by the numbers that are kept of them. Assumes nothing.
-use Rattle.std.proofs.Common.{◌≡◌, refl, sym, ap, ◌∙◌, List, [], ◌∷◌, ℕ, ◌≤◌, ◌<◌, arith, length, get_or}
+use Rattle.std.proofs.Common.{◌≡◌, refl, sym, ap, ◌∙◌, List, [], ◌∷◌, ℕ, ◌≤◌, ◌<◌, arith, length}
 use Rattle.lists.specs.Basics.{All, none, also, concat_map}
 use Rattle.lists.specs.Ascending.{head_or, last_or}
 use Rattle.lists.specs.AscendingLaws.{head_no, last_no}
@@ -21,6 +21,7 @@ use Rattle.sound_faults.specs.Faults.{ends, first_key_in, last_key_in, ranks_in,
 use Rattle.sound_faults.specs.Linked.{PageFine}
 use Rattle.sound_faults.specs.Shapes.{first_rank_law, last_rank}
 use Rattle.sound_faults.proofs.Assembled.{fill_most}
+use Rattle.sound_keys.specs.declared.Ends.{Ends}
 use Rattle.sound_pages.specs.Pages.{EndsKept}
 use Rattle.sound_keys.proofs.KeyLaws.{key_same, key_fits}
 use Rattle.sound_faults.proofs.ViewLaws.{view_fill}
@@ -88,10 +89,10 @@ entry_fits (inner_fits v n a) s = all_spot a s
 
 -- ---- AN ENTRY AND WHAT IS KEPT OF ITS CHILD
 
-module _ (b firsts lasts : List ℕ) (p i : ℕ) (e : Entry) (a : EntryAt (view_of b) p i e) (fill : NodeFill ((view_of b).page e.child))
+module _ (b : List ℕ) (kept : Ends) (p i : ℕ) (e : Entry) (a : EntryAt (view_of b) p i e) (fill : NodeFill ((view_of b).page e.child))
     (fine : PageFine (view_of b) e.child)
-    (low : get_or firsts e.child 0 ≡ head_no (ranks_in (view_of b).d ((view_of b).page e.child)))
-    (high : get_or lasts e.child 0 ≡ last_no (ranks_in (view_of b).d ((view_of b).page e.child))) where
+    (low : kept.first ≡ head_no (ranks_in (view_of b).d ((view_of b).page e.child)))
+    (high : kept.last ≡ last_no (ranks_in (view_of b).d ((view_of b).page e.child))) where
   fits : (q : ℕ) → fill_of ((view_of b).page q) ≤ 16 → PageFits ((view_of b).page q)
   unfolding view_of
   fits q h = page_fits b q (omega (arith, view_fill b q))
@@ -105,26 +106,26 @@ module _ (b firsts lasts : List ℕ) (p i : ℕ) (e : Entry) (a : EntryAt (view_
   some : 0 < fill_of ((view_of b).page e.child)
   some = omega (arith, fill.0)
 
-  first_is : get_or firsts e.child 0 ≡ key_number (first_key_in (view_of b).d ((view_of b).page e.child))
+  first_is : kept.first ≡ key_number (first_key_in (view_of b).d ((view_of b).page e.child))
   first_is = low ∙ page_first (view_of b).d child_fits some
 
-  last_is : get_or lasts e.child 0 ≡ key_number (last_key_in (view_of b).d ((view_of b).page e.child))
+  last_is : kept.last ≡ key_number (last_key_in (view_of b).d ((view_of b).page e.child))
   last_is = high ∙ page_last (view_of b).d child_fits some
 
-  pub first_right : EndsKept e firsts lasts → e.first ≡ first_key_in (view_of b).d ((view_of b).page e.child)
+  pub first_right : EndsKept e kept → e.first ≡ first_key_in (view_of b).d ((view_of b).page e.child)
   first_right k =
       key_same e.first (first_key_in (view_of b).d ((view_of b).page e.child)) (narrow own_fits.first)
       (first_fits (view_of b).d child_fits some fine.records) (k.first ∙ first_is)
 
-  pub last_right : EndsKept e firsts lasts → e.last ≡ last_key_in (view_of b).d ((view_of b).page e.child)
+  pub last_right : EndsKept e kept → e.last ≡ last_key_in (view_of b).d ((view_of b).page e.child)
   last_right k =
       key_same e.last (last_key_in (view_of b).d ((view_of b).page e.child)) (narrow own_fits.last)
       (last_fits (view_of b).d child_fits some fine.records) (k.last ∙ last_is)
 
-  pub ends_fault : ¬ EndsKept e firsts lasts → EntryFault (view_of b) p
+  pub ends_fault : ¬ EndsKept e kept → EntryFault (view_of b) p
   ends_fault n =
-      decide (key_number e.first) (get_or firsts e.child 0)
-      (λ x. decide (key_number e.last) (get_or lasts e.child 0)
+      decide (key_number e.first) kept.first
+      (λ x. decide (key_number e.last) kept.last
       (λ y. absurd (n (record { first = x; last = y })))
       (λ y. EntryFault.last a (λ z. y (ap key_number z ∙ sym last_is))))
       (λ x. EntryFault.first a (λ z. x (ap key_number z ∙ sym first_is)))

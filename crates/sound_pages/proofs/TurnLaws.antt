@@ -6,18 +6,18 @@ use Rattle.sound_faults.specs.Faults.{IsPage, Reached}
 use Rattle.sound_faults.specs.Linked.{InState}
 use Rattle.sound_faults.proofs.Assembled.{reached_page}
 use Rattle.sound_links.specs.Marks.{Marked, Seen, Clear, MarksAre, FreedMarks}
+use Rattle.sound_keys.specs.declared.Ends.{Ends}
 use Rattle.sound_pages.specs.Pages.{Named, PagesFine, Lost}
 
 -- ---- THE PAGES IN TURN
 
 -- page 0 is not followed
-pub pages_start : (v : View) (f l : List ℕ) → v.count ≤ length f → v.count ≤ length l → PagesFine v f l 1
-pages_start v f l h g =
+pub pages_start : (v : View) (ends : List Ends) → v.count ≤ length ends → PagesFine v ends 1
+pages_start v ends h =
     let none : (q : ℕ) → q < 1 → ¬ Reached v q = λ q k r. omega (arith, k, (reached_page r).0) in
     record {
       pages = λ q k r. absurd (none q k r);
-      first_room = h;
-      last_room = g;
+      room = h;
       first = λ q k r. absurd (none q k r);
       last = λ q k r. absurd (none q k r);
     }

@@ -3,6 +3,7 @@ use Rattle.std.specs.Prelude.{◌≡◌, Bool, ◌⊎◌, List, ℕ, ◌+◌, �
 use Rattle.lists.specs.AscendingLaws.{head_no, last_no}
 use Rattle.geometry.specs.Keys.{key_number}
 use Rattle.pagestore_page.specs.declared.Entry.{Entry}
+use Rattle.sound_keys.specs.declared.Ends.{Ends}
 use Rattle.sound_pages.specs.declared.Survey.{Survey}
 use Rattle.pagestore.specs.Store.{View, view_of}
 use Rattle.sound_faults.specs.declared.Fault.{Fault}
@@ -12,17 +13,20 @@ use Rattle.lists.specs.Judges.{Judges}
 use Rattle.sound_links.specs.Marks.{Marked, Seen, MarksAre, FreedMarks}
 use Rattle.pagestore_page.specs.Layout.{max_items}
 
+-- where nothing is kept of a page
+abbrev pub no_ends : Ends
+no_ends = record { first = 0; last = 0 }
+
 -- the followed pages below k are fine, each by itself, and their first and last keys are kept as numbers
-pub record PagesFine (v : View) (firsts lasts : List ℕ) (k : ℕ) : Type 0 where
+pub record PagesFine (v : View) (ends : List Ends) (k : ℕ) : Type 0 where
   pub pages : (q : ℕ) → q < k → Reached v q → PageFine v q
-  pub first_room : v.count ≤ length firsts
-  pub last_room : v.count ≤ length lasts
-  pub first : (q : ℕ) → q < k → Reached v q → get_or firsts q 0 ≡ head_no (ranks_in v.d (v.page q))
-  pub last : (q : ℕ) → q < k → Reached v q → get_or lasts q 0 ≡ last_no (ranks_in v.d (v.page q))
+  pub room : v.count ≤ length ends
+  pub first : (q : ℕ) → q < k → Reached v q → (get_or ends q no_ends).first ≡ head_no (ranks_in v.d (v.page q))
+  pub last : (q : ℕ) → q < k → Reached v q → (get_or ends q no_ends).last ≡ last_no (ranks_in v.d (v.page q))
 
 -- page p judged by itself, its ends kept where it is fine
-abbrev pub PageKept : View → ℕ → List ℕ → List ℕ → Result (Unit {0}) Fault → Type 0
-PageKept v p firsts lasts r = MatchResult r (λ _. PagesFine v firsts lasts (p + 1)) (λ f. (f.page ≡ p) × FailsAt v p)
+abbrev pub PageKept : View → ℕ → List Ends → Result (Unit {0}) Fault → Type 0
+PageKept v p ends r = MatchResult r (λ _. PagesFine v ends (p + 1)) (λ f. (f.page ≡ p) × FailsAt v p)
 
 -- ---- ENTRIES
 
@@ -32,19 +36,19 @@ pub record HasEntry (v : View) (p : ℕ) (e : Entry) : Type 0 where
   pub at : EntryAt v p place e
 
 -- what entries are held to
-pub record Known (v : View) (m f firsts lasts : List ℕ) : Type 0 where
+pub record Known (v : View) (m f : List ℕ) (ends : List Ends) : Type 0 where
   pub marks : MarksAre v m
   pub freed : FreedMarks v f
-  pub pages : PagesFine v firsts lasts v.count
+  pub pages : PagesFine v ends v.count
   pub fresh : v.fresh ≤ v.count
 
 abbrev pub Surveyed : Survey → Type 0
-Surveyed s = Known (view_of s.index.now) s.marks.now s.freed.now s.firsts.now s.lasts.now
+Surveyed s = Known (view_of s.index.now) s.marks.now s.freed.now s.ends.now
 
 -- an entry gives the first and the last key that are kept of its child
-pub record EndsKept (e : Entry) (firsts lasts : List ℕ) : Type 0 where
-  pub first : key_number e.first ≡ get_or firsts e.child 0
-  pub last : key_number e.last ≡ get_or lasts e.child 0
+pub record EndsKept (e : Entry) (kept : Ends) : Type 0 where
+  pub first : key_number e.first ≡ kept.first
+  pub last : key_number e.last ≡ kept.last
 
 -- the entries before place k have no fault and name different pages, which are marked in m; the j-th entry of page q is at place 16 q + j
 pub record Named (v : View) (m : List ℕ) (k : ℕ) : Type 0 where

@@ -13,7 +13,7 @@ ghost use Rattle.pagestore_page.specs.Layout.{max_items};
 
 use pagestore::{Entry, entry_at, fresh_page, level_at, page_count, root_page};
 use sound_faults::Fault;
-use sound_keys::{item_count, judge_page, rank};
+use sound_keys::{Ends, item_count, judge_page, rank};
 
 // Judges page p by itself, where it is followed, and keeps its first and last key.
 pub fn keep_page(
@@ -21,33 +21,29 @@ pub fn keep_page(
     p: u32,
     d: usize,
     marks: &[u16],
-    firsts: &mut [u64],
-    lasts: &mut [u64],
+    ends: &mut [Ends],
 ) -> Result<(), Fault>
     requires { (p < (view_of index.now).count) × (d ≡ (view_of index.now).d) × MarksAre (view_of index.now) marks.now
-        × PagesFine (view_of index.now) firsts.old lasts.old p }
-    ensures { PageKept (view_of index.now) p firsts.new lasts.new result }
+        × PagesFine (view_of index.now) ends.old p }
+    ensures { PageKept (view_of index.now) p ends.new result }
 {
     let at = p as usize;
     if marks[at] == 0 {
         return Ok(());
     }
-    let ends = judge_page(index, p, d).ok_or(Fault { page: p })?;
-    firsts[at] = ends.first;
-    lasts[at] = ends.last;
+    let own = judge_page(index, p, d).ok_or(Fault { page: p })?;
+    ends[at] = own;
     Ok(())
 }
 
 // Does an entry give the first and last key that are kept of its child?
-fn gives_ends(e: Entry, firsts: &[u64], lasts: &[u64]) -> bool
-    requires { (e.child < length firsts.now) × (e.child < length lasts.now) }
-    ensures { Decides (EndsKept e firsts.now lasts.now) result }
+fn gives_ends(e: Entry, kept: Ends) -> bool
+    ensures { Decides (EndsKept e kept) result }
 {
-    let at = e.child as usize;
-    if rank(e.first) != firsts[at] {
+    if rank(e.first) != kept.first {
         return false;
     }
-    rank(e.last) == lasts[at]
+    rank(e.last) == kept.last
 }
 
 // All pages, each judged by itself: the marks of the followed and of the freed ones, and the first and last keys that are kept.
@@ -56,8 +52,7 @@ pub struct Survey<'a> {
     pub index: &'a [u8],
     pub marks: &'a [u16],
     pub freed: &'a [u8],
-    pub firsts: &'a [u64],
-    pub lasts: &'a [u64],
+    pub ends: &'a [Ends],
 }
 
 impl Survey<'_> {
@@ -82,7 +77,7 @@ impl Survey<'_> {
         if self.freed[at] == 1 {
             return false;
         }
-        gives_ends(e, self.firsts, self.lasts)
+        gives_ends(e, self.ends[at])
     }
 
     // Do the entries of the inner page p have no fault? Marks the pages that they name.

@@ -4,6 +4,7 @@ use Rattle.lists.specs.Basics.{if}
 use Rattle.pagestore.specs.Store.{records_of, View}
 use Rattle.sound_faults.specs.declared.Fault.{Fault}
 use Rattle.sound_faults.specs.Faults.{FailsAt}
+use Rattle.sound_keys.specs.declared.Ends.{Ends}
 use Rattle.sound_pages.specs.Pages.{PagesFine}
 use Rattle.pagestore_page.specs.Layout.{max_items}
 
@@ -45,6 +46,6 @@ pub record Gathered (v : View) (m : List ℕ) (p n : ℕ) (ids holders : List �
   pub held : n ≤ length ids → Collected (pairs_to v m p) n ids holders
 
 -- the answer of the visit: where each followed page is fine by itself, their ends are kept and their records counted
-abbrev pub Visited : View → List ℕ → List ℕ → List ℕ → List ℕ → List ℕ → Result ℕ Fault → Type 0
-Visited v m firsts lasts ids holders r =
-    MatchResult r (λ n. PagesFine v firsts lasts v.count × Gathered v m v.count n ids holders) (λ f. (0 < f.page) × FailsAt v f.page)
+abbrev pub Visited : View → List ℕ → List Ends → List ℕ → List ℕ → Result ℕ Fault → Type 0
+Visited v m ends ids holders r =
+    MatchResult r (λ n. PagesFine v ends v.count × Gathered v m v.count n ids holders) (λ f. (0 < f.page) × FailsAt v f.page)

@@ -7,7 +7,7 @@ pub visit-requires : goal.visit-requires
 unfolding view_of
 visit-requires c =
     let t = c.requires.0 in let l = c.requires.2 in
-    (omega (arith, t.header.root.0, t.header.root.1), c.features_of-d.ensures, c.requires.1, l.firsts, l.lasts, l.holders)
+    (omega (arith, t.header.root.0, t.header.root.1), c.features_of-d.ensures, c.requires.1, l.ends, l.holders)
 
 pub judge_parents-requires : goal.judge_parents-requires
 judge_parents-requires c =

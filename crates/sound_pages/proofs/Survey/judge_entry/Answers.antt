@@ -6,6 +6,7 @@ use Rattle.sound_pages.proofs.EndsLaws.{ends_fault, first_right, last_right}
 use Rattle.sound_pages.proofs.EntryLaws.{mark_level, mark_other, mark_reached, past_fresh, reached_fill}
 use Rattle.lists.specs.Judges.{Judges, judge_map}
 use Rattle.sound_faults.proofs.ViewLaws.{view_level}
+use Rattle.sound_pages.specs.Pages.{no_ends}
 use Rattle.sound_pages.proofs.Survey.judge_entry.Goals as goal
 
 pub returns-then-fresh_page-c : goal.returns-then-fresh_page-c
@@ -36,11 +37,9 @@ pub returns-then-self-at-eq1 : goal.returns-then-self-at-eq1
 unfolding view_of
 returns-then-self-at-eq1 c = Judges.fault (EntryFault.freed c.requires.entry.at (c.requires.known.freed.freed c.args.e.child c.if-self-at-eq1.true))
 
-pub gives_ends-requires : goal.gives_ends-requires
+pub bounds-self-at-3 : goal.bounds-self-at-3
 unfolding view_of
-gives_ends-requires c =
-    let k = c.requires.known in
-    (omega (arith, c.if-fresh_page-c.false, c.fresh_page.ensures, k.fresh, k.pages.first_room), omega (arith, c.if-fresh_page-c.false, c.fresh_page.ensures, k.fresh, k.pages.last_room))
+bounds-self-at-3 c = let k = c.requires.known in omega (arith, c.if-fresh_page-c.false, c.fresh_page.ensures, k.fresh, k.pages.room)
 
 pub returns : goal.returns
 unfolding view_of
@@ -52,14 +51,15 @@ returns c =
     let nr : ¬ (e.child ≡ (view_of b).root) = λ z. c.if-c-root_page.false (z ∙ sym c.root_page.ensures) in
     let r = mark_reached (view_of b) k.marks p i e a h in
     let fill = reached_fill r nr in
+    let kept = get_or s.ends.now e.child no_ends in
     let x = k.pages.pages e.child u r in let f = k.pages.first e.child u r in let g = k.pages.last e.child u r in
     judge_map (λ w. record {
       range = reached_page r;
       level = mark_level (view_of b) k.marks p i e a h;
       fill = fill;
-      first = first_right b s.firsts.now s.lasts.now p i e a fill x f g w;
-      last = last_right b s.firsts.now s.lasts.now p i e a fill x f g w;
+      first = first_right b kept p i e a fill x f g w;
+      last = last_right b kept p i e a fill x f g w;
       root = nr;
       freed = k.freed.other e.child c.if-self-at-eq1.false;
       fresh = omega (arith, c.if-fresh_page-c.false, c.fresh_page.ensures);
-    }) (ends_fault b s.firsts.now s.lasts.now p i e a fill x f g) c.gives_ends.ensures
+    }) (ends_fault b kept p i e a fill x f g) c.gives_ends.ensures
