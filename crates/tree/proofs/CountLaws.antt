@@ -1,12 +1,6 @@
 -- The items of a page's 16 slots, and the steps of counting leaves.
-use mathlib.Core.Path.{◌≡◌, refl, sym, ap, ◌∙◌}
-use mathlib.Core.List.{List, [], ◌∷◌}
-use Prim.Native.Nat.{ℕ, zero, suc, ◌+◌, ◌*◌, ◌-◌, ◌^◌, ◌≤◌, ◌<◌, min}
-use native.Mathlib.Omega.{arith}
-use native.Mathlib.Nat.{le_refl, mul-le-mul, suc-mul, pow-succ', pow-le-pow_right}
-use native.Mathlib.Numerals.{add-one}
-use lib.ListN.{length, take, drop, get_or, length-take, drop_of_length-le}
-use lib.Seq.{drop-cons, get_or-take}
+use Rattle.std.proofs.Common.{◌≡◌, refl, sym, ap, ◌∙◌, List, [], ◌∷◌, ℕ, zero, suc, ◌+◌, ◌*◌, ◌-◌, ◌^◌, ◌≤◌, ◌<◌, min, arith, le_refl, mul-le-mul, suc-mul, add-one, length, take, drop, get_or, length-take, drop_of_length-le, drop-cons, get_or-take}
+use Rattle.std.proofs.Math.Nat.{pow-succ', pow-le-pow_right}
 use Rattle.lists.specs.Sorting.{sum}
 use Rattle.pagestore_page.specs.declared.Entry.{Entry}
 use Rattle.pagestore_page.specs.declared.Inner.{Inner}

@@ -1,8 +1,6 @@
 -- The record that a lookup comes to has the identifier asked for.
-use Rattle.std.proofs.Common.{◌≡◌, List, [], ◌∷◌, ℕ, ◌<◌, length, take, get_or, arith, eqb, length-take, ◌∙◌}
-use Rattle.std.proofs.Common.{sym}
-use lib.ListN.{get_or-eq_default}
-use borrow.Author.Tests.{eqb-true}
+use Rattle.std.proofs.Common.{◌≡◌, List, [], ◌∷◌, ℕ, ◌<◌, length, take, get_or, arith, eqb, length-take, ◌∙◌, sym, eqb-true}
+use Rattle.std.proofs.Math.ListN.{get_or-eq_default}
 use Rattle.lists.specs.Ascending.{head_or}
 use Rattle.lists.specs.Leading.{leading}
 use Rattle.lists.specs.Sorting.{filter}

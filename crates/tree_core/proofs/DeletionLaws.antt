@@ -1,15 +1,7 @@
 -- The steps of a deletion. Assumes nothing.
-use mathlib.Core.Path.{◌≡◌, refl, sym, ap, ◌∙◌}
-use mathlib.Core.Logic.{◌≢◌}
-use mathlib.Core.Bool.{true, false, not}
-use mathlib.Core.List.{List, [], ◌∷◌, ◌++◌}
-use Prim.Native.Nat.{ℕ, zero, suc, ◌+◌, ◌-◌, ◌≤◌, ◌<◌}
-use native.Mathlib.Omega.{arith}
-use native.Mathlib.Numerals.{add-one, sub-one}
-use lib.Dec.{leb, eqb}
-use lib.ListN.{length, take, drop, set, length-append, length-take}
-use lib.Seq.{take_all, take-set-le, take-set-lt, set_out}
-use borrow.Author.Tests.{leb-true, leb-false, lt-ltb, le-ltb, le-leb, lt-leb, eq-eqb, ne_eqb}
+use Rattle.std.proofs.Common.{◌≡◌, refl, sym, ap, ◌∙◌, ◌≢◌, true, false, not, List, [], ◌∷◌, ◌++◌, ℕ, zero, suc, ◌+◌, ◌-◌, ◌≤◌, ◌<◌, arith, add-one, sub-one, leb, eqb, length, take, drop, set, length-append, length-take, take_all, leb-true, leb-false, lt-ltb, le-ltb, le-leb, eq-eqb, ne_eqb}
+use Rattle.std.proofs.Math.Seq.{take-set-le, take-set-lt, set_out}
+use borrow.Author.Tests.{lt-leb}
 use Rattle.lists.specs.Leading.{leading}
 use Rattle.lists.specs.Tests.{by_cases}
 use Rattle.pagestore_page.specs.declared.Record.{Record}

@@ -1,14 +1,7 @@
 -- Keys of records, and entries of pages, read from arrays of slots. Assumes nothing.
-use mathlib.Core.Path.{◌≡◌, refl, sym, ap, ◌∙◌}
-use mathlib.Core.Logic.{◌≢◌}
-use mathlib.Core.Bool.{Bool}
-use mathlib.Core.List.{List, [], ◌∷◌, map}
-use Prim.Native.Nat.{ℕ, zero, suc, ◌+◌, ◌-◌, ◌≤◌, ◌<◌, min}
-use native.Mathlib.Omega.{arith}
-use lib.Dec.{leb}
-use lib.ListN.{length, get_or, take, drop, length-take, length-map, get_or-map, get_or-eq_default}
-use lib.Seq.{slice, take-nil, take-take, take_all, get_or-take}
-use borrow.Author.Tests.{leb-true, leb-false}
+use Rattle.std.proofs.Common.{◌≡◌, refl, sym, ap, ◌∙◌, ◌≢◌, Bool, List, [], ◌∷◌, map, ℕ, zero, suc, ◌+◌, ◌-◌, ◌≤◌, ◌<◌, min, arith, leb, length, get_or, take, drop, length-take, take-take, take_all, get_or-take, leb-true, leb-false}
+use Rattle.std.proofs.Math.ListN.{length-map, get_or-map, get_or-eq_default}
+use Rattle.std.proofs.Math.Seq.{slice, take-nil}
 use Rattle.lists.specs.Basics.{if}
 use Rattle.lists.specs.Ascending.{head_or, last_or}
 use Rattle.lists.specs.Leading.{leading}

@@ -1,14 +1,7 @@
 -- The steps of an insertion. Assumes nothing.
-use mathlib.Core.Path.{◌≡◌, refl, sym, ap, ◌∙◌}
-use mathlib.Core.Logic.{◌≢◌}
-use mathlib.Core.List.{List, [], ◌∷◌, ◌++◌, append_assoc}
-use Prim.Native.Nat.{ℕ, zero, suc, ◌+◌, ◌-◌, ◌≤◌, ◌<◌, min, max}
-use native.Mathlib.Omega.{arith}
-use native.Mathlib.Numerals.{add-one, sub-one}
-use lib.Dec.{leb}
-use lib.ListN.{length, set, take, drop, length-take, length-set, take-append-drop, drop_of_length-le}
-use lib.Seq.{slice, take-take, take-suc-set, take-set-lt, drop-set-lt, length-take-le}
-use borrow.Author.Tests.{le-leb, lt-leb, leb-true, leb-false}
+use Rattle.std.proofs.Common.{◌≡◌, refl, sym, ap, ◌∙◌, ◌≢◌, List, [], ◌∷◌, ◌++◌, append_assoc, ℕ, zero, suc, ◌+◌, ◌-◌, ◌≤◌, ◌<◌, min, max, arith, add-one, sub-one, leb, length, set, take, drop, length-take, length-set, take-append-drop, drop_of_length-le, take-take, take-suc-set, drop-set-lt, length-take-le, le-leb, leb-true, leb-false}
+use Rattle.std.proofs.Math.Seq.{slice, take-set-lt}
+use borrow.Author.Tests.{lt-leb}
 use Rattle.lists.specs.Shift as shift
 use Rattle.lists.specs.Leading.{leading, ins_leading}
 use Rattle.lists.specs.Tests.{by_cases}

@@ -1,14 +1,5 @@
 -- The steps of a lookup. Assumes nothing.
-use mathlib.Core.Path.{◌≡◌, refl, sym, ap, ◌∙◌}
-use mathlib.Core.Logic.{◌≢◌}
-use mathlib.Core.List.{List, [], ◌∷◌, ◌++◌}
-use Prim.Native.Nat.{ℕ, zero, suc, ◌+◌, ◌-◌, ◌≤◌, ◌<◌, min}
-use native.Mathlib.Omega.{arith}
-use native.Mathlib.Numerals.{add-one, sub-one}
-use lib.Dec.{eqb}
-use lib.ListN.{length, get_or, take, drop, length-take, drop_of_length-le, get_or-eq_default}
-use lib.Seq.{drop-cons, get_or-take}
-use borrow.Author.Tests.{eqb-true}
+use Rattle.std.proofs.Common.{◌≡◌, refl, sym, ap, ◌∙◌, ◌≢◌, List, [], ◌∷◌, ◌++◌, ℕ, zero, suc, ◌+◌, ◌-◌, ◌≤◌, ◌<◌, arith, add-one, sub-one, eqb, length, get_or, take, drop, length-take, drop_of_length-le, drop-cons, get_or-take, eqb-true}
 use Rattle.lists.specs.Basics.{concat_map}
 use Rattle.lists.specs.Ascending.{head_or, head_append}
 use Rattle.lists.specs.Sorting.{filter}

@@ -1,6 +1,5 @@
 -- The place of a record that is to go, or behind all where there is none. Assumes nothing.
-use Rattle.std.proofs.Common.{◌≡◌, sym, ◌∙◌, List, ℕ, ◌<◌, length, Option, Some, None, MatchOption}
-use Rattle.std.specs.Option.{unwrap_or}
+use Rattle.std.proofs.Common.{◌≡◌, sym, ◌∙◌, List, ℕ, ◌<◌, length, Option, Some, None, MatchOption, unwrap_or}
 use Rattle.lists.specs.Leading.{leading}
 use Rattle.pagestore_page.specs.declared.Record.{Record}
 use Rattle.tree_model.specs.Deleting.{other_ident}

@@ -1,5 +1,5 @@
 -- A loop that has passed i of the elements xs, where c is what is counted: it goes on at one that passes the test, and stops at one that does not, or at the end.
-use Rattle.std.proofs.Common.{◌≡◌, ◌∙◌, ap, Bool, true, false, List, ℕ, suc, ◌+◌, ◌≤◌, ◌<◌, arith, add-one, length, get_or, drop, drop-cons, drop_of_length-le}
+use Rattle.std.proofs.Common.{◌≡◌, ap, Bool, true, false, List, ℕ, suc, ◌+◌, ◌≤◌, ◌<◌, arith, add-one, length, get_or, drop, drop-cons, drop_of_length-le}
 use Rattle.lists.specs.Leading.{leading}
 
 module _ {A : Type 0} (t : A → Bool) (d : A) (xs : List A) (c i : ℕ) (e : c ≡ i + leading t (drop i xs)) where

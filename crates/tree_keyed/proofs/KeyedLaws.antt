@@ -1,16 +1,7 @@
 -- The steps of a look at the leaf to which a key leads. Assumes nothing.
-use mathlib.Core.Path.{◌≡◌, refl, sym, ap, ◌∙◌}
-use mathlib.Core.Logic.{◌≢◌}
-use mathlib.Core.Bool.{Bool, false}
-use mathlib.Core.List.{List, [], ◌∷◌}
-use Prim.Native.Nat.{ℕ, zero, suc, ◌-◌, ◌≤◌, ◌<◌, min}
-use native.Mathlib.Omega.{arith}
-use native.Mathlib.Numerals.{sub-one}
-use lib.Dec.{eqb}
+use Rattle.std.proofs.Common.{◌≡◌, refl, sym, ap, ◌∙◌, ◌≢◌, Bool, false, List, [], ◌∷◌, ℕ, zero, suc, ◌-◌, ◌≤◌, ◌<◌, min, arith, sub-one, eqb, length, get_or, take, length-take, get_or-take}
 use lib.Pointwise.{pointwise}
 use Rattle.tree_core.proofs.EntryLaws.{filled_is}
-use lib.ListN.{length, get_or, take, length-take}
-use lib.Seq.{get_or-take}
 use Rattle.lists.specs.Leading.{leading}
 use Rattle.lists.specs.Tests.{by_cases}
 use Rattle.lists.specs.Equal.{same}

@@ -1,5 +1,4 @@
-use Prim.Native.Nat.{◌+◌, ◌-◌, ◌≤◌, min}
-use mathlib.Core.Path.{◌≡◌}
+use Rattle.std.proofs.Common.{◌+◌, ◌-◌, ◌≤◌, min, ◌≡◌}
 use Rattle.pagestore.specs.Store.{inner_at, entries_in}
 use Rattle.tree_core.specs.Lookup.{leaf_count}
 use Rattle.tree.proofs.CountLaws.{count_from}

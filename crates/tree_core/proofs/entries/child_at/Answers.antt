@@ -1,7 +1,5 @@
-use mathlib.Core.Path.{◌≡◌}
-use lib.ListN.{length}
+use Rattle.std.proofs.Common.{◌≡◌, length, rules}
 use Rattle.tree_core.proofs.EntryLaws.{child_in, child_out}
-use borrow.Author.Rules.{rules}
 use Rattle.lists.specs.Lengths.{unmapped}
 use Rattle.tree_core.proofs.entries.child_at.Goals as goal
 

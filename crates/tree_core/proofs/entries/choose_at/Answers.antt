@@ -1,5 +1,5 @@
-use Rattle.std.proofs.Common.{◌≡◌, ◌+◌, ◌-◌, sym, ap, ◌∙◌, arith, drop}
-use borrow.Author.Tests.{le-leb, lt-leb}
+use Rattle.std.proofs.Common.{◌≡◌, ◌+◌, ◌-◌, sym, ap, ◌∙◌, arith, drop, le-leb}
+use borrow.Author.Tests.{lt-leb}
 use Rattle.lists.specs.Leading.{leading, leading_step, leading_stop, leading_end}
 use Rattle.pagestore.specs.Store.{inner_at, entries_in}
 use Rattle.pagestore.specs.Store.PageLaws.{inner_counts, entries_slots}

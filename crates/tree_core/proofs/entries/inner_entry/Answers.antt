@@ -1,7 +1,5 @@
-use mathlib.Core.Path.{◌≡◌, ◌∙◌}
-use lib.ListN.{length}
+use Rattle.std.proofs.Common.{◌≡◌, ◌∙◌, length, rules}
 use Rattle.tree_core.proofs.EntryLaws.{inner_bare, inner_some, head_filled, last_filled}
-use borrow.Author.Rules.{rules}
 use Rattle.lists.specs.Lengths.{unmapped}
 use Rattle.pagestore_page.specs.Layout.{no_entry}
 use Rattle.tree_core.proofs.entries.inner_entry.Goals as goal

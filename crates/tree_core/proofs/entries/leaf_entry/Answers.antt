@@ -1,8 +1,6 @@
-use mathlib.Core.Path.{◌≡◌, ◌∙◌}
-use lib.ListN.{length}
+use Rattle.std.proofs.Common.{◌≡◌, ◌∙◌, length, rules}
 use Rattle.tree_model.specs.Trees.{no_record}
 use Rattle.tree_core.proofs.EntryLaws.{leaf_bare, leaf_some, head_filled, last_filled}
-use borrow.Author.Rules.{rules}
 use Rattle.lists.specs.Lengths.{unmapped}
 use Rattle.tree_core.proofs.entries.leaf_entry.Goals as goal
 

@@ -1,8 +1,5 @@
-use mathlib.Core.Path.{◌≡◌}
-use native.Mathlib.Omega.{arith}
-use lib.ListN.{length, length-take}
+use Rattle.std.proofs.Common.{◌≡◌, arith, length, length-take, rules}
 use Rattle.tree_core.proofs.EntryLaws.{key_none, key_some}
-use borrow.Author.Rules.{rules}
 use Rattle.lists.specs.Lengths.{unmapped}
 use Rattle.tree_core.proofs.keys.record_key.Goals as goal
 

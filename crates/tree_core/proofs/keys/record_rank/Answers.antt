@@ -1,4 +1,4 @@
-use mathlib.Core.Path.{ap, ◌∙◌}
+use Rattle.std.proofs.Common.{ap, ◌∙◌}
 use Rattle.geometry.specs.Keys.{key_number}
 use Rattle.tree_model.specs.Trees.{rank_of}
 use Rattle.tree_core.proofs.keys.record_rank.Goals as goal

@@ -1,6 +1,4 @@
-use mathlib.Core.Path.{ap}
-use native.Mathlib.Nat.{pos_of_ne-zero}
-use native.Mathlib.Omega.{arith}
+use Rattle.std.proofs.Common.{ap, pos_of_ne-zero, arith}
 use Rattle.pagestore.specs.Store.{entries_in}
 use Rattle.tree_core.proofs.DeletionLaws.{delete_zero, delete_inner}
 use Rattle.tree_delete.proofs.deletion.+delete_at.Goals as goal

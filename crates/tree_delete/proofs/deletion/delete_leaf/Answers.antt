@@ -1,4 +1,4 @@
-use Rattle.std.proofs.Common.{◌≡◌, sym, ap, ◌∙◌, List, [], ◌++◌, ◌+◌, arith, rules, length, take, drop, length-take}
+use Rattle.std.proofs.Common.{◌≡◌, sym, ap, ◌∙◌, List, [], ◌++◌, ◌+◌, rules, length, take, drop}
 use Rattle.lists.specs.Lengths.{unmapped}
 use Rattle.pagestore.specs.Store.{leaf_at, records_in}
 use Rattle.pagestore_page.specs.declared.Leaf.{Leaf}

@@ -1,4 +1,4 @@
-use lib.ListN.{take}
+use Rattle.std.proofs.Common.{take}
 use Rattle.tree_core.proofs.DeletionLaws.{fix_none, fix_rebalanced}
 use Rattle.tree_delete.proofs.deletion.fix_underflow.Goals as goal
 

@@ -1,8 +1,6 @@
-use mathlib.Core.Path.{◌≡◌, sym}
-use lib.ListN.{length, take}
+use Rattle.std.proofs.Common.{◌≡◌, sym, length, take, rules}
 use Rattle.tree_core.proofs.EntryLaws.{length_filled}
 use Rattle.tree_core.proofs.DeletionLaws.{leave_is}
-use borrow.Author.Rules.{rules}
 use Rattle.lists.specs.Lengths.{unmapped}
 use Rattle.tree_delete.proofs.deletion.leave_page.Goals as goal
 

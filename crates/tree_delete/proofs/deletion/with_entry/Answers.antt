@@ -1,4 +1,4 @@
-use mathlib.Core.Path.{refl}
+use Rattle.std.proofs.Common.{refl}
 use Rattle.tree_core.proofs.DeletionLaws.{set_in}
 use Rattle.tree_delete.proofs.deletion.with_entry.Goals as goal
 

@@ -1,6 +1,4 @@
-use mathlib.Core.Path.{ap}
-use native.Mathlib.Nat.{pos_of_ne-zero}
-use native.Mathlib.Omega.{arith}
+use Rattle.std.proofs.Common.{ap, pos_of_ne-zero, arith}
 use Rattle.pagestore_page.specs.declared.Inner.{Inner}
 use Rattle.pagestore.specs.Store.{entries_in}
 use Rattle.tree_core.proofs.InsertionLaws.{level_zero, inner_step}

@@ -1,11 +1,8 @@
-use mathlib.Core.Path.{◌≡◌}
-use native.Mathlib.Omega.{arith}
-use lib.ListN.{length}
+use Rattle.std.proofs.Common.{◌≡◌, arith, length, rules}
 use Rattle.tree_core.specs.Entries.{inner_entry}
 use Rattle.tree_core.specs.Insertion.{write_inner}
 use Rattle.tree_core.proofs.HeldLaws.{held_most}
 use Rattle.tree_core.proofs.InsertionLaws.{put_held, level_is}
-use borrow.Author.Rules.{rules}
 use Rattle.lists.specs.Lengths.{unmapped}
 use Rattle.tree_insert.proofs.insertion.put_entry.Goals as goal
 

@@ -1,4 +1,4 @@
-use Rattle.std.proofs.Common.{◌≡◌, sym, ap, ◌∙◌, List, arith, rules, length, take}
+use Rattle.std.proofs.Common.{◌≡◌, sym, ap, ◌∙◌, List, rules, length, take}
 use Rattle.lists.specs.Leading.{leading}
 use Rattle.lists.specs.Lengths.{unmapped}
 use Rattle.pagestore.specs.Store.{records_in}

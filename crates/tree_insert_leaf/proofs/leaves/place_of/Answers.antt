@@ -1,5 +1,4 @@
-use Rattle.std.proofs.Common.{[], arith}
-use borrow.Author.Tests.{lt-ltb, le-ltb}
+use Rattle.std.proofs.Common.{[], arith, lt-ltb, le-ltb}
 use Rattle.tree_model.specs.Inserting.{rank_below}
 use Rattle.tree_insert_leaf.proofs.PlaceLaws.{place_next, place_here, place_end}
 use Rattle.tree_insert_leaf.proofs.leaves.place_of.Goals as goal

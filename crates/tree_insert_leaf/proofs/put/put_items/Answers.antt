@@ -1,4 +1,3 @@
-use Rattle.std.proofs.Common.{arith}
 use Rattle.tree_core.proofs.InsertionLaws.{put_one, put_two}
 use Rattle.tree_insert_leaf.proofs.put.put_items.Goals as goal
 

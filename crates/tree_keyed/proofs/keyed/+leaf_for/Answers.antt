@@ -1,6 +1,4 @@
-use mathlib.Core.Path.{refl}
-use native.Mathlib.Nat.{pos_of_ne-zero}
-use native.Mathlib.Omega.{arith}
+use Rattle.std.proofs.Common.{refl, pos_of_ne-zero, arith}
 use Rattle.tree_keyed.proofs.KeyedLaws.{for_leaf, for_inner}
 use Rattle.tree_keyed.proofs.keyed.+leaf_for.Goals as goal
 

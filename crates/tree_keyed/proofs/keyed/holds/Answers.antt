@@ -1,4 +1,4 @@
-use mathlib.Core.Path.{refl}
+use Rattle.std.proofs.Common.{refl}
 use Rattle.tree_keyed.proofs.KeyedLaws.{holds_is}
 use Rattle.tree_keyed.proofs.keyed.holds.Goals as goal
 
