@@ -96,7 +96,6 @@ fn between(whole: &[u64], best: u64, i1: usize, i2: usize) -> u64
 }
 
 // The bound of the span from one pair to another.
-// Kept: it takes three slices, and `Ready` of them, as its contract has it.
 pub fn bound(asked: &[u16], near: &[u16], whole: &[u64], first: Pair, last: Pair) -> u64
     requires { Ready asked.now near.now whole.now }
     ensures { result ≡ bound_of (asked_of asked.now)

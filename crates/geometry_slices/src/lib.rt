@@ -8,7 +8,6 @@ pub mod tables;
 use geometry::MAX_FEATURES;
 
 // A question's list has low ends from place 0 on, high ends, weights and reaches from these; the last part ends the list.
-// Kept: one list of numbers and no struct, and `Packed` a fact about it, since the contracts of ask, is_unweighted, bisect and prepare have it so.
 pub const HIGHS_FROM: usize = MAX_FEATURES;
 
 pub const WEIGHTS_FROM: usize = 2 * MAX_FEATURES;
@@ -21,7 +20,7 @@ pub const ASKED_PLACES: usize = 4 * MAX_FEATURES;
 const ROWS_FROM: usize = 2 * MAX_FEATURES;
 
 // Behind the rows stands a flag, 1 only where they may be summed without weights.
-// Kept: a number in near and no bool beside it, since the contracts of slice_in, prepare and bound have it there.
+// Kept: a number in near and no bool beside it, since slice_in, prepare and bound, which the documents name, have it there.
 const UNWEIGHTED_AT: usize = ROWS_FROM + MAX_FEATURES * MAX_FEATURES;
 
 pub const NEAR_PLACES: usize = UNWEIGHTED_AT + 1;

@@ -41,7 +41,8 @@ fn set_number<T: Number>(index: &mut [u8], at: usize, v: T)
     }
 }
 
-// Kept: a getter and a setter for each field. One for all would be told the field by a number, and `field_at` asks for it by name.
+// Kept: a getter and a setter for each field, which the documents name. One for all would be told the field by a number, and `field_at` asks for it by
+// name.
 
 // The length of the index in pages.
 pub fn index_size(index: &[u8]) -> u32

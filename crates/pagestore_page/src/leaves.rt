@@ -21,7 +21,8 @@ const STAMPS: usize = 640;
 // A stored coordinate is below this: the low 11 bits of two bytes.
 const ROOM: u16 = 2048;
 
-// Kept: no `Default`, here and in no_entry. A derived one promises slot by slot what `record_at [] 0` says whole, and an entry's would want one of `Key`.
+// Kept: no `Default`, here and in no_entry. A derived one promises slot by slot what `record_at [] 0` says whole, and one by
+// hand would say no more than these functions.
 pub fn no_record() -> Record
     ensures { result ≡ record_at [] 0 }
 {

@@ -37,6 +37,7 @@ pub use links::{read_link, write_freed};
 
 // A record as it is stored: its identifier, its stage and its stamp, and 16 coordinate slots, each a coordinate with 1,000 added. A page
 // keeps 11 bits of each.
+// Kept: the stage as the byte that is stored, since a reader of any bytes promises `record_at`, whose stage may be none of the six.
 #[derive(Clone, Copy)]
 pub struct Record {
     pub id: u32,
@@ -46,6 +47,8 @@ pub struct Record {
 }
 
 // A leaf page. The count is as stored and may be above 16; there are 16 slots.
+// Kept, here and in Inner: an array with its count beside it. There is no heap, and the count is not the number of items: above 16 it reads as 16
+// (`records_in`, `entries_in`).
 #[derive(Clone, Copy)]
 pub struct Leaf {
     pub count: usize,

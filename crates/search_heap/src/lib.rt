@@ -1,7 +1,5 @@
 // A min-heap with four children a place in the first n numbers of a lent slice: push and pop.
 // A number on its way down or up moves those it passes by one place, and is put down where it ends.
-// Kept: a slice with the number in use beside it: so `push` and `pop` take them, which docs/ARCHITECTURE.md names, and a type that
-// holds a heap would ask more of callers.
 #![tactic(auto)]
 
 ghost use Rattle.std.specs.Prelude.{◌≡◌, ◌+◌, ◌≤◌, ◌<◌, min, length, set};

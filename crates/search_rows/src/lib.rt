@@ -1,5 +1,4 @@
 // The candidates of a question: the best rows so far, in row order, held in two lent arrays.
-// Kept: two arrays side by side, with their number beside: so `offer`, `behind` and `search::search` take them from their callers.
 #![tactic(auto)]
 
 ghost use Rattle.std.specs.Prelude.{◌≡◌, ◌+◌, ◌≤◌, length};
