@@ -1,13 +1,7 @@
 -- Stores one after the other, each in the form of a branch of the code.
-use mathlib.Core.Path.{◌≡◌, refl, sym, ap, ◌∙◌}
-use mathlib.Core.Logic.{◌≢◌}
-use mathlib.Core.List.{List, [], ◌∷◌, ◌++◌}
-use Prim.Native.Nat.{ℕ, zero, suc, ◌+◌, ◌-◌, ◌/◌, ◌≤◌, ◌<◌}
-use native.Mathlib.Numerals.{add-one}
-use native.Mathlib.Omega.{arith}
-use lib.ListN.{length, drop, get_or, set, length-append}
-use lib.Seq.{sets, sets-eq, drop-cons, drop-length}
-use borrow.Author.Tests.{lt-ltb, le-ltb}
+use Rattle.std.proofs.Common.{◌≡◌, refl, sym, ap, ◌∙◌, ◌≢◌, List, [], ◌∷◌, ◌++◌, ℕ, zero, suc, ◌+◌, ◌-◌, ◌/◌, ◌≤◌, ◌<◌, length, take, drop, set, arith, append_assoc, length-append, lt-ltb, le-ltb}
+use Rattle.std.proofs.lemmas.List.Edits.{sets, sets-eq}
+use borrow.Rule.Slice.PartMut.{put_mid, Post-is}
 use Rattle.acts_fields.specs.Decimal.{last_digit, decimal}
 use Rattle.acts_fields.specs.Bytes.{Written, Stored}
 
@@ -38,17 +32,5 @@ then l s t at e r xs ys p q = record {
 pub written : (l t : List ℕ) (at r : ℕ) (w : List ℕ) → r ≤ length l → Stored l t at r w → Written l t at r w
 written l t at r w h p = let a = p.after in record { bytes = p.bytes ∙ sets-eq w l at (omega arith); after = a }
 
-pub bytes_turn : (l m : List ℕ) (at : ℕ) (w : List ℕ) (i : ℕ) → i < length w → sets m (at + i) (drop i w) ≡ sets l at w
-    → sets (set m (at + i) (get_or w i 0)) (at + (i + 1)) (drop (i + 1) w) ≡ sets l at w
-bytes_turn l m at w i h e =
-    let s : at + (i + 1) ≡ suc (at + i) = omega arith in
-    rw (s, add-one i) (ap (λ (x : List ℕ). sets m (at + i) x) (sym (drop-cons w i 0 h)) ∙ e)
-
-pub bytes_done : (l m : List ℕ) (at : ℕ) (w : List ℕ) (i : ℕ) → i ≤ length w → length w ≤ i → sets m (at + i) (drop i w) ≡ sets l at w → Stored l m at (at + i) w
-bytes_done l m at w i h k e =
-    let s : i ≡ length w = omega arith in
-    let n : drop i w ≡ [] = rw s (drop-length w) in
-    record { bytes = ap (λ (x : List ℕ). sets m (at + i) x) (sym n) ∙ e; after = ap (λ (x : ℕ). at + x) s }
-
-pub bytes_start : (l : List ℕ) (at : ℕ) (w : List ℕ) → sets l (at + 0) w ≡ sets l at w
-bytes_start l at w = let e : at + 0 ≡ at = omega arith in rw e
+pub copied : (l w s : List ℕ) (at : ℕ) → at + length w ≤ length l → s ≡ w → Stored l (put_mid at (at + length w - at) l s) at (at + length w) w
+copied l w s at h e = record { bytes = rw (e, Post-is at (at + length w) l (omega arith)) (sym (append_assoc (take at l) w (drop (at + length w) l)) ∙ sym (sets-eq w l at h)); after = refl }

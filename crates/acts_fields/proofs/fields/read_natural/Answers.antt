@@ -1,10 +1,9 @@
-use mathlib.Core.Path.{sym, ◌∙◌}
-use native.Mathlib.Omega.{arith}
+use Rattle.std.proofs.Common.{sym, ◌∙◌}
 use Rattle.acts_fields.proofs.DigitLaws.{natural_bad, natural_value}
 use Rattle.acts_fields.proofs.fields.read_natural.Goals as goal
 
 pub returns-then-ill_formed : goal.returns-then-ill_formed
-returns-then-ill_formed c = let s = c in (natural_bad s.args.cap s.args.f.now (sym c.ill_formed.ensures ∙ c.if-ill_formed.true), omega arith)
+returns-then-ill_formed c = natural_bad _ _ (sym c.ill_formed.ensures ∙ c.if-ill_formed.true)
 
-pub returns-else-ill_formed : goal.returns-else-ill_formed
-returns-else-ill_formed c = let s = c in (natural_value s.args.cap c.value_of.result s.args.f.now (sym c.ill_formed.ensures ∙ c.if-ill_formed.false) c.value_of.ensures.0, omega arith)
+pub returns : goal.returns
+returns c = natural_value _ _ _ (sym c.ill_formed.ensures ∙ c.if-ill_formed.false) c.value_of.ensures
