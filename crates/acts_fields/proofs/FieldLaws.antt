@@ -34,7 +34,8 @@ value cap (suc k) n h r = by_cases (ltb n 10)
     (λ e. let t = ltb-false n 10 e in rw e (value_append cap 0 (n / 10) (decimal k (n / 10)) ((48 + n % 10) ∷ []) (value cap k (n / 10) (omega arith) (omega arith))
     ∙ last_value cap (n / 10) n h refl))
 
-some : (k n : ℕ) → 0 < length (decimal k n)
+-- it has digits
+pub some : (k n : ℕ) → 0 < length (decimal k n)
 unfolding decimal
 some zero n = omega arith
 some (suc k) n = by_cases (ltb n 10) (λ e. rw e (omega arith)) (λ e. rw e (simp length-append (omega arith)))

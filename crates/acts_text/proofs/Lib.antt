@@ -1,7 +1,7 @@
 pub mod CellLaws
-pub mod PrefixLaws
-pub mod InputLaws
-pub mod RowLaws
+pub mod SplitLaws
 pub mod LineLaws
+pub mod PrefixLaws
 pub mod NameLaws
+pub mod InputLaws
 pub mod ExampleLaws

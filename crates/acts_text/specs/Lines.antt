@@ -1,10 +1,11 @@
 -- A line of values: `act id k stage stamp`, then the coordinates, one space between.
 -- How a line is read; `Grammar` says which lines are readable.
-use Rattle.std.specs.Prelude.{ℕ, zero, suc, ◌+◌, ◌≤◌, Bool, true, false, List, [], ◌∷◌, ltb, eqb, ℤ, pos, length, get_or, drop, take, replicate}
-use Rattle.std.proofs.lemmas.List.Edits.{sets}
-use Rattle.lists.specs.Basics.{if, tabulate}
+use Rattle.std.specs.Prelude.{◌≡◌, ℕ, zero, suc, ◌+◌, ◌-◌, List, [], ◌∷◌, ◌++◌, ltb, eqb, ℤ, pos, length, get_or, drop, take, replicate, Option, Some, None, option_and_then, option_map}
+use Rattle.lists.specs.Basics.{if}
 use Rattle.acts_fields.specs.Bytes.{space, until}
-use Rattle.acts_fields.specs.Fields.{bad, natural, signed, of_bits}
+use Rattle.acts_fields.specs.Fields.{natural, signed}
+use Rattle.acts_text.specs.Acts.{numbered}
+use Rattle.acts_text.specs.declared.Act.{Act}
 use Rattle.acts_text.specs.declared.ActLine.{ActLine}
 
 -- the most bytes of a readable line
@@ -23,45 +24,45 @@ leading = 5
 unfoldable pub field_length : ℕ → List ℕ → ℕ
 field_length n l = if (eqb n 0) (length l) (until space l)
 
--- column j: act is at most 3 (`readable_cells` says that it is not 0), the other leading ones have 32 bits, coordinates 16
-unfoldable pub cell : ℕ → List ℕ → ℕ
-cell j f = if (eqb j 0) (natural 3 f) (if (ltb j leading) (natural 4294967295 f) (signed f))
+-- f is the field that l begins with, and r what is behind it, where n more fields come
+pub record Cut (n : ℕ) (l f r : List ℕ) : Type 0 where
+  pub first : f ≡ take (field_length n l) l
+  pub rest : r ≡ drop (suc (field_length n l)) l
 
--- the values of n columns, from column j on
-unfoldable pub row : ℕ → ℕ → List ℕ → List ℕ
-row zero j l = []
-row (suc n) j l = cell j (take (field_length n l) l) ∷ row n (j + 1) (drop (suc (field_length n l)) l)
+-- the n fields of a line
+unfoldable pub fields : ℕ → List ℕ → List (List ℕ)
+fields zero l = []
+fields (suc n) l = take (field_length n l) l ∷ fields n (drop (suc (field_length n l)) l)
 
--- the values of n columns, then zeros
-unfoldable pub cells : ℕ → List ℕ → List ℕ
-cells n l = sets (replicate (leading + max_features) 0) 0 (row n 0 l)
+-- a number of 32 bits, as leading columns hold
+abbrev pub number : List ℕ → Option ℕ
+number f = natural 4294967295 f
 
--- none of the values is bad
-unfoldable pub none_bad : List ℕ → Bool
-none_bad [] = true
-none_bad (v ∷ vs) = if (eqb v bad) false (none_bad vs)
+-- the coordinates that fields say, if each is readable
+unfoldable pub coordinates : List (List ℕ) → Option (List ℤ)
+coordinates [] = Some []
+coordinates (f ∷ fs) = option_and_then (λ z. option_map (λ zs. z ∷ zs) (coordinates fs)) (signed f)
 
--- all columns are readable, and the act is not 0
-unfoldable pub readable_cells : List ℕ → Bool
-readable_cells vs = if (eqb (get_or vs 0 0) 0) false (none_bad vs)
+-- coordinates in their slots: zeros behind them
+abbrev pub padded : List ℤ → List ℤ
+padded zs = zs ++ replicate (max_features - length zs) (pos 0)
 
--- the coordinates among the values
-unfoldable pub coordinates : List ℕ → List ℤ
-coordinates vs = tabulate max_features (λ i. of_bits (get_or vs (leading + i) 0))
+-- what values say, d of them coordinates, if each is there
+unfoldable pub line_of : ℕ → Option Act → Option ℕ → Option ℕ → Option ℕ → Option ℕ → Option (List ℤ) → Option ActLine
+line_of d None i k s t zs = None
+line_of d (Some a) None k s t zs = None
+line_of d (Some a) (Some i) None s t zs = None
+line_of d (Some a) (Some i) (Some k) None t zs = None
+line_of d (Some a) (Some i) (Some k) (Some s) None zs = None
+line_of d (Some a) (Some i) (Some k) (Some s) (Some t) None = None
+line_of d (Some a) (Some i) (Some k) (Some s) (Some t) (Some zs) = Some (record { act = a; id = i; k = k; stage = s; stamp = t; d = d; coords = padded zs })
 
--- every value has 32 bits
-abbrev pub Narrow : List ℕ → Type 0
-Narrow vs = (m : ℕ) → get_or vs m 0 ≤ 4294967295
-
--- what an unreadable line gives
-abbrev pub unreadable : ActLine
-unreadable = record { readable = false; act = 0; id = 0; k = 0; stage = 0; stamp = 0; d = 0; coords = replicate max_features (pos 0) }
-
--- what readable values say, d of them coordinates
-abbrev pub line_of : ℕ → List ℕ → ActLine
-line_of d vs = record { readable = true; act = get_or vs 0 0; id = get_or vs 1 0; k = get_or vs 2 0; stage = get_or vs 3 0; stamp = get_or vs 4 0; d = d; coords = coordinates vs }
+-- what fields say, column by column
+abbrev pub said : ℕ → List (List ℕ) → Option ActLine
+said d fs =
+    line_of d (option_and_then numbered (number (get_or fs 0 []))) (number (get_or fs 1 [])) (number (get_or fs 2 []))
+    (number (get_or fs 3 [])) (number (get_or fs 4 [])) (coordinates (drop leading fs))
 
 -- what a line says, where d coordinates are named
-unfoldable pub act_of : ℕ → List ℕ → ActLine
-act_of d l = if (ltb limit (length l)) unreadable (if (ltb max_features d) unreadable
-    (if (readable_cells (cells (leading + d) l)) (line_of d (cells (leading + d) l)) unreadable))
+unfoldable pub act_of : ℕ → List ℕ → Option ActLine
+act_of d l = if (ltb limit (length l)) None (if (ltb max_features d) None (said d (fields (leading + d) l)))

@@ -1,6 +1,6 @@
 -- The line of names: `act id k stage stamp c0 ..` up to the last coordinate.
 -- `NameLaws` shows that a line is read as d exactly if it is `names d` and d is 1 to 16.
-use Rattle.std.specs.Prelude.{ℕ, zero, suc, ◌+◌, ◌-◌, ◌/◌, ◌%◌, Bool, true, false, List, [], ◌∷◌, ◌++◌, leb, eqb, length}
+use Rattle.std.specs.Prelude.{ℕ, zero, suc, ◌+◌, ◌-◌, ◌/◌, ◌%◌, Bool, true, false, List, [], ◌∷◌, ◌++◌, leb, eqb, length, Option, Some, None}
 use Rattle.lists.specs.Basics.{if}
 use Rattle.acts_fields.specs.Bytes.{space}
 use Rattle.acts_fields.specs.Decimal.{text}
@@ -28,11 +28,11 @@ lead = 20
 abbrev pub ten : ℕ
 ten = lead + 30
 
--- how many coordinates a line of names of n bytes has, or 0 if none has n bytes: behind `act id k stage stamp`, ` c0` to ` c9` have 3 bytes,
+-- how many coordinates a line of names of n bytes has, if one has n bytes: behind `act id k stage stamp`, ` c0` to ` c9` have 3 bytes,
 -- ` c10` and up 4
-unfoldable pub features_in : ℕ → ℕ
-features_in n = if (leb n lead) 0 (if (leb n ten) (if (eqb ((n - lead) % 3) 0) ((n - lead) / 3) 0) (if (eqb ((n - ten) % 4) 0) (10 + (n - ten) / 4) 0))
+unfoldable pub features_in : ℕ → Option ℕ
+features_in n = if (leb n lead) None (if (leb n ten) (if (eqb ((n - lead) % 3) 0) (Some ((n - lead) / 3)) None) (if (eqb ((n - ten) % 4) 0) (Some (10 + (n - ten) / 4)) None))
 
--- the d of a line of names, or 0 for a line that is none
-unfoldable pub names_in : List ℕ → ℕ
-names_in l = if (is_prefix l all_names) (features_in (length l)) 0
+-- the d of a line of names
+unfoldable pub names_in : List ℕ → Option ℕ
+names_in l = if (is_prefix l all_names) (features_in (length l)) None

@@ -2,17 +2,45 @@
 // Every function takes any bytes; one that writes asks only for room in the lent buffer.
 #![tactic(auto)]
 
+ghost use Rattle.acts_text.specs.Acts.{Decodes};
+
 use lines::MAX_FEATURES;
 
 pub mod input;
 pub mod lines;
 pub mod names;
 
-// What a line of values says. An unreadable line has 0 in every field but the first; slots past d hold 0.
+// What a line of values asks for.
+#[derive(Clone, Copy, Debug, PartialEq, Eq)]
+pub enum Act {
+    Insert,
+    Delete,
+    Question,
+}
+
+// A number that no act has.
+#[derive(Clone, Copy, Debug, PartialEq, Eq)]
+pub struct UnknownAct;
+
+impl TryFrom<u32> for Act {
+    type Error = UnknownAct;
+
+    ghost try_from_gives = { Decodes };
+
+    fn try_from(n: u32) -> Result<Self, UnknownAct> {
+        match n {
+            1 => Ok(Act::Insert),
+            2 => Ok(Act::Delete),
+            3 => Ok(Act::Question),
+            _ => Err(UnknownAct),
+        }
+    }
+}
+
+// What a readable line of values says. Slots past d hold 0.
 #[derive(Clone, Copy)]
 pub struct ActLine {
-    pub readable: bool,
-    pub act: u32,
+    pub act: Act,
     pub id: u32,
     pub k: u32,
     pub stage: u32,
@@ -21,7 +49,7 @@ pub struct ActLine {
     pub coords: [i16; MAX_FEATURES],
 }
 
-// How far a chunk of input took the current line.
+// How far a chunk of input took the current line, and whether the line has ended there.
 #[derive(Clone, Copy)]
 pub struct Fed {
     pub ended: bool,

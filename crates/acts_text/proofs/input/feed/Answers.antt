@@ -4,5 +4,5 @@ use Rattle.acts_text.proofs.input.feed.Goals as goal
 pub returns : goal.returns
 returns c =
     let a = c.args in
-    feeds a.held.now _ a.chunk.now a.n a.at c.find-e.result c.lower.result c.put_bytes-h.result c.past-next.result
-    c.requires.0 c.requires.1 c.find-e.ensures.0 c.lower.ensures c.put_bytes-h.ensures c.past-next.ensures
+    feeds a.held.now _ a.chunk.now a.n a.at c.find-e.result c.min.result c.put_bytes.result c.past.result
+    c.requires.0 c.requires.1 c.find-e.ensures.0 c.min.ensures c.put_bytes.ensures c.past.ensures
