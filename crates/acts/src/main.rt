@@ -7,7 +7,7 @@ ghost use Rattle.acts_output.specs.Puts.{most_printed};
 ghost use Rattle.acts_step.specs.Steps.{index_bytes};
 ghost use Rattle.acts.specs.Running.{Fits, Ran, UsedUp, Taken, Closed, Whole};
 
-use acts_buffer::{Progress, flush, has_room, make_room, placed};
+use acts_buffer::{Progress, flush, has_room, make_room};
 use acts_step::{end_input, take_line};
 use acts_text::input::KEPT;
 use std::io::Read;
@@ -47,7 +47,7 @@ fn use_up(
     ensures { UsedUp index.old held.old chunk.now out.old s
         index.new held.new out.new result }
 {
-    let mut t = placed(s, s.going, 0, s.end);
+    let mut t = Progress { at: 0, ..s };
     while t.going && t.at < chunk.len() {
         let u = make_room(rt, out, t);
         if !u.going {
@@ -66,7 +66,7 @@ fn read_chunk(rt: &impl Input, chunk: &mut [u8]) -> usize
     input.read(chunk).unwrap_or(0)
 }
 
-// Reads and runs to the end of input. The loop counts its turns down, from a number that no run uses up.
+// Reads and runs to the end of input, which comes before the turns are used up.
 fn run_input(
     rt: &(impl Input + Print),
     index: &mut [u8],
@@ -80,14 +80,15 @@ fn run_input(
         index.new held.new out.new result }
 {
     let mut t = s;
-    let mut turns = u64::MAX;
-    while turns > 0 && t.going {
+    'turns: for _ in 0..u64::MAX {
+        if !t.going {
+            return t;
+        }
         let n = read_chunk(rt, chunk);
         if n == 0 {
             return t;
         }
         t = use_up(rt, index, held, &chunk[..n], out, t);
-        turns -= 1;
     }
     t
 }

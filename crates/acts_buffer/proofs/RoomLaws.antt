@@ -1,13 +1,5 @@
 -- Room for a line: the test for it, and what handing over makes.
-use mathlib.Core.Path.{◌≡◌, ◌∙◌}
-use mathlib.Core.Logic.{inl, inr}
-use mathlib.Core.Bool.{true, false}
-use mathlib.Core.List.{List}
-use Prim.Native.Nat.{ℕ, ◌-◌, ◌≤◌, ◌<◌}
-use native.Mathlib.Omega.{arith}
-use lib.ListN.{length}
-use lib.Dec.{leb}
-use borrow.Author.Tests.{leb-true, leb-false}
+use Rattle.std.proofs.Common.{◌≡◌, ◌∙◌, inl, inr, true, false, List, ℕ, ◌-◌, ◌≤◌, ◌<◌, length, leb, arith, leb-true, leb-false}
 use Rattle.acts_output.specs.Puts.{most_printed}
 use Rattle.acts_buffer.specs.Room.{Placed, Flushed, Open, Full, Cleared, flushed, broken}
 use Rattle.acts_buffer.specs.declared.Progress.{Progress}

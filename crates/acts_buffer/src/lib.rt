@@ -26,14 +26,7 @@ pub struct Progress {
 pub fn placed(s: Progress, going: bool, at: usize, end: usize) -> Progress
     ensures { Placed s going at end result }
 {
-    Progress {
-        going: going,
-        d: s.d,
-        number: s.number,
-        held: s.held,
-        at: at,
-        end: end,
-    }
+    Progress { going, at, end, ..s }
 }
 
 // Hands over what is printed, to be written. Where that fails the run does not go on.
@@ -51,10 +44,7 @@ pub fn has_room(s: Progress, space: usize) -> bool
     requires { s.end ≤ space }
     ensures { (result ≡ true → Open space s) × (result ≡ false → Full space s) }
 {
-    if LAST < s.number {
-        return false;
-    }
-    MAX_PRINTED <= space - s.end
+    s.number <= LAST && MAX_PRINTED <= space - s.end
 }
 
 // Ends a run whose next line has no number; any other stays as it is.

@@ -1,6 +1,5 @@
 -- A line of the output of 01's whole case, computed.
-use mathlib.Core.Path.{◌≡◌, refl}
-use mathlib.Core.List.{[], ◌∷◌}
+use Rattle.std.proofs.Common.{◌≡◌, refl, [], ◌∷◌}
 use Rattle.acts_fields.specs.Decimal.{decimal}
 use Rattle.acts_output.specs.Output.{field, result_line}
 

@@ -1,10 +1,5 @@
 -- What is stored of a line of output, each law in the form of a branch of the code.
-use mathlib.Core.Path.{◌≡◌, refl}
-use mathlib.Core.Logic.{◌≢◌}
-use mathlib.Core.List.{List, [], ◌∷◌}
-use Prim.Native.Nat.{ℕ, zero, suc, ◌+◌, ◌-◌, ◌/◌, ◌≤◌, ◌<◌}
-use native.Mathlib.Omega.{arith}
-use lib.ListN.{length, set}
+use Rattle.std.proofs.Common.{◌≡◌, refl, ◌≢◌, ◌⊎◌, inl, inr, List, [], ◌∷◌, ℕ, zero, suc, ◌+◌, ◌-◌, ◌/◌, ◌≤◌, ◌<◌, length, set, arith}
 use Rattle.acts_fields.specs.Decimal.{last_digit, decimal}
 use Rattle.acts_fields.specs.Bytes.{Written, Stored}
 use Rattle.acts_output.specs.Output.{field, result_line}
@@ -18,11 +13,10 @@ decimal_last (suc k) n e = absurd (omega (arith, e))
 pub digit_put : (l : List ℕ) (at n d : ℕ) → d ≡ last_digit n → Stored l (set l at d) at (at + 1) (last_digit n ∷ [])
 digit_put l at n d e = rw e (record { bytes = refl; after = refl })
 
-pub last_put : (l t : List ℕ) (at r k n : ℕ) → k ≡ 0 → Stored l t at r (last_digit n ∷ []) → Stored l t at r (decimal k n)
-last_put l t at r k n h p = rw (decimal_last k n h) p
-
-pub small_put : (l t : List ℕ) (at r k n : ℕ) → n < 10 → Stored l t at r (last_digit n ∷ []) → Stored l t at r (decimal k n)
-small_put l t at r k n h p = rw (decimal_small k n h) p
+-- the one digit of a number that has one, or may have one
+pub last_put : (l t : List ℕ) (at r k n : ℕ) → (k ≡ 0) ⊎ ((k ≢ 0) × (n < 10)) → Stored l t at r (last_digit n ∷ []) → Stored l t at r (decimal k n)
+last_put l t at r k n (inl h) p = rw (decimal_last k n h) p
+last_put l t at r k n (inr h) p = rw (decimal_small k n h.1) p
 
 pub more_put : (l s t : List ℕ) (at e r k n : ℕ) → k ≢ 0 → 10 ≤ n → Stored l s at e (decimal (k - 1) (n / 10)) → Stored s t e r (last_digit n ∷ []) → Stored l t at r (decimal k n)
 more_put l s t at e r k n h i p q = rw (decimal_more k n h i) (then l s t at e r (decimal (k - 1) (n / 10)) (last_digit n ∷ []) p q)

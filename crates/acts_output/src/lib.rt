@@ -6,7 +6,7 @@ ghost use Rattle.acts_fields.specs.Decimal.{last_digit, decimal};
 ghost use Rattle.acts_fields.specs.Bytes.{Written, Stored};
 ghost use Rattle.acts_output.specs.Output.{heading, field, result_line};
 
-use acts_fields::bytes::{NEWLINE, SPACE, ZERO, put_bytes};
+use acts_fields::bytes::put_bytes;
 use search_rows::MAX_ROWS;
 
 mod rows;
@@ -21,7 +21,7 @@ pub const MAX_PRINTED: usize = MAX_ROWS * MAX_LINE;
 fn last_digit(n: u64) -> u8
     ensures { result ≡ last_digit n }
 {
-    ZERO + (n % 10) as u8
+    b'0' + (n % 10) as u8
 }
 
 // The last digit of n.
@@ -38,10 +38,7 @@ fn put_decimal(out: &mut [u8], at: usize, n: u64, k: usize) -> usize
     requires { at + k < length out.old }
     ensures { (Stored out.old out.new at result (decimal k n)) × (result ≤ at + k + 1) }
 {
-    if k == 0 {
-        return put_digit(out, at, n);
-    }
-    if n < 10 {
+    if k == 0 || n < 10 {
         return put_digit(out, at, n);
     }
     let e = put_decimal(out, at, n / 10, k - 1);
@@ -71,11 +68,11 @@ pub fn put_result(
     requires { at + 105 ≤ length out.old }
     ensures { (Written out.old out.new at result (result_line line code id dist leaves)) × (result ≤ at + 105) }
 {
-    let a = put_field(out, at, line, SPACE);
-    let b = put_field(out, a, code, SPACE);
-    let c = put_field(out, b, id, SPACE);
-    let e = put_field(out, c, dist, SPACE);
-    put_field(out, e, leaves, NEWLINE)
+    let a = put_field(out, at, line, b' ');
+    let b = put_field(out, a, code, b' ');
+    let c = put_field(out, b, id, b' ');
+    let e = put_field(out, c, dist, b' ');
+    put_field(out, e, leaves, b'\n')
 }
 
 // The output's names.

@@ -22,11 +22,9 @@ pub fn put_rows(
         most_printed out.old out.new at result }
 {
     let mut end = at;
-    let mut i = 0;
-    while i < count {
+    for i in 0..count {
         let row = row_of(highs[i], lows[i]);
         end = put_result(out, end, number, 0, row.id as u64, row.distance, leaves);
-        i += 1;
     }
     end
 }

@@ -1,12 +1,5 @@
 -- What an act does and prints, from what its function and the writer of a line ensure.
-use mathlib.Core.Path.{◌≡◌, refl, sym, ap, ◌∙◌, subst}
-use mathlib.Core.Logic.{◌≢◌}
-use mathlib.Core.List.{List, [], ◌∷◌}
-use Prim.Native.Nat.{ℕ, zero, suc, ◌+◌, ◌≤◌}
-use native.Mathlib.Omega.{arith}
-use lib.IntN.{ℤ}
-use lib.ListN.{length, length-take}
-use borrow.Author.Tests.{eq-eqb, ne_eqb}
+use Rattle.std.proofs.Common.{◌≡◌, refl, sym, ap, ◌∙◌, subst, ◌≢◌, List, [], ◌∷◌, ℕ, zero, suc, ◌+◌, ◌≤◌, ℤ, length, length-take, arith}
 use Rattle.search_rows.specs.declared.Row.{Row}
 use Rattle.search_rows.specs.Held.{rows_of, rows_in}
 use Rattle.search_model.specs.Visit.{Answer as Found}
@@ -17,13 +10,14 @@ use Rattle.index_query.specs.Asking.{Question, nearest_of}
 use Rattle.index_refusals.specs.declared.Epoch.{Epoch}
 use Rattle.index.specs.Acts.{EpochFits, Act, insert, delete, question}
 use Rattle.index.specs.Questions.{QuestionOutcome}
+use Rattle.acts_text.specs.declared.Act.TheVariants.{Insert, Delete, Ask}
 use Rattle.acts_text.specs.declared.ActLine.{ActLine}
 use Rattle.acts_fields.specs.Bytes.{Written}
 use Rattle.acts_output.specs.Output.{result_line}
 use Rattle.acts_output.specs.Output.{row_lines}
 use Rattle.acts_step.specs.Printed.{answer_lines}
 use Rattle.acts_output.specs.Puts.{rows_lent, most_printed, Puts}
-use Rattle.acts_step.specs.Steps.{point_of, stage_in, epoch_in, question_in, asked_by, Acted, Replies}
+use Rattle.acts_step.specs.Steps.{point_of, stage_in, asked_by, Acted, Replies}
 
 module _ (b c out out' : List ℕ) (n code at r : ℕ) (room : r ≤ at + 105) where
   pub inserted : (x : Epoch) (p : List ℤ) → EpochFits x → First (insert_rules b x p) code → c ≡ inserted_with code b x p → Written out out' at r (result_line n code x.id 0 0)
@@ -113,26 +107,16 @@ module _ (b : List ℕ) (w : Question) (hs ls : List ℕ) (o : Answer) (a : Ques
 
 -- ---- THE ACT THAT A LINE ASKS FOR
 
-module _ (a : ActLine) where
-  is_insert : a.act ≡ 1 → insert (epoch_in a) (point_of a) ≡ asked_by a
-  is_insert e = rw (eq-eqb a.act 1 e)
+module _ (a : ActLine) (b : List ℕ) (n : ℕ) (c out out' : List ℕ) (at r : ℕ) where
+  abbrev Does : Act → Type 0
+  Does x = Puts (Acted x b n c) most_printed out out' at r
 
-  is_delete : a.act ≡ 2 → delete a.id ≡ asked_by a
-  is_delete e = rw (ne_eqb a.act 1 (λ (z : a.act ≡ 1). omega arith), eq-eqb a.act 2 e)
+  -- the stage as the code narrows it
+  pub does_insert : (g : ℕ) → a.act ≡ Insert → g ≡ stage_in a → Does (insert (record { id = a.id; stage = g; stamp = a.stamp }) (point_of a)) → Does (asked_by a)
+  does_insert g e s w = rw e (subst Does (ap (λ (x : ℕ). insert (record { id = a.id; stage = x; stamp = a.stamp }) (point_of a)) s) w)
 
-  is_question : a.act ≢ 2 → a.act ≢ 1 → question (question_in a) rows_lent ≡ asked_by a
-  is_question e f = rw (ne_eqb a.act 1 f, ne_eqb a.act 2 e)
+  pub does_delete : a.act ≡ Delete → Does (delete a.id) → Does (asked_by a)
+  does_delete e w = rw e w
 
-  module _ (b : List ℕ) (n : ℕ) (c out out' : List ℕ) (at r : ℕ) where
-    abbrev Does : Act → Type 0
-    Does x = Puts (Acted x b n c) most_printed out out' at r
-
-    -- the stage as the code narrows it
-    pub does_insert : (g : ℕ) → g ≡ stage_in a → a.act ≡ 1 → Does (insert (record { id = a.id; stage = g; stamp = a.stamp }) (point_of a)) → Does (asked_by a)
-    does_insert g s e w = subst Does (ap (λ (x : ℕ). insert (record { id = a.id; stage = x; stamp = a.stamp }) (point_of a)) s ∙ is_insert e) w
-
-    pub does_delete : a.act ≡ 2 → Does (delete a.id) → Does (asked_by a)
-    does_delete e w = subst Does (is_delete e) w
-
-    pub does_question : (g : ℕ) → g ≡ stage_in a → a.act ≢ 2 → a.act ≢ 1 → Does (question (nearest_of (point_of a) a.k g) rows_lent) → Does (asked_by a)
-    does_question g s e f w = subst Does (ap (λ (x : ℕ). question (nearest_of (point_of a) a.k x) rows_lent) s ∙ is_question e f) w
+  pub does_question : (g : ℕ) → a.act ≡ Ask → g ≡ stage_in a → Does (question (nearest_of (point_of a) a.k g) rows_lent) → Does (asked_by a)
+  does_question g e s w = rw e (subst Does (ap (λ (x : ℕ). question (nearest_of (point_of a) a.k x) rows_lent) s) w)

@@ -1,13 +1,7 @@
 -- Turns one after the other do the lines of what they take. `advances_none`, `advances_then`, `takes_advances`; `advances_more`: input that comes behind.
 -- `hands_more`, `text_handed`: the same with the output buffer and what is handed over of it.
-use mathlib.Core.Path.{◌≡◌, refl, sym, ap, ◌∙◌, subst}
-use mathlib.Core.Logic.{◌⊎◌, inl, inr}
-use mathlib.Core.Bool.{Bool, true}
-use mathlib.Core.List.{List, [], ◌∷◌, ◌++◌, append_assoc, append-nil}
-use Prim.Native.Nat.{ℕ, ◌+◌, ◌≤◌}
-use native.Mathlib.Omega.{arith}
-use lib.ListN.{length, take, drop, length-append, take-append-drop}
-use lib.Seq.{take_at, length-take-le, drop-length}
+use Rattle.std.proofs.Common.{◌≡◌, refl, sym, ap, ◌∙◌, subst, ◌⊎◌, inl, inr, Bool, true, List, [], ◌∷◌, ◌++◌, ℕ, ◌+◌, ◌≤◌, length, take, drop, arith, append_assoc, append-nil, length-append, take-append-drop, take_at, length-take-le}
+use Rattle.std.proofs.Math.Seq.{drop-length}
 use Rattle.acts_fields.specs.Bytes.{Written}
 use Rattle.acts_text.specs.Input.{ended, current}
 use Rattle.acts_text.proofs.InputLaws.{ended_append, current_append}

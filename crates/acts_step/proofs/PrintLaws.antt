@@ -1,15 +1,8 @@
 -- A whole input. `text_prints`: of turns over all of an input and then its end, what is handed over and what stands in the buffer is what the input's lines
 -- call for. `text_ends`: after an unreadable first line nothing more is looked at. `prints_stands`: the index that an input leaves.
-use mathlib.Core.Path.{◌≡◌, refl, sym, ap, ◌∙◌, subst}
-use mathlib.Core.Logic.{◌≢◌, ◌⊎◌, inl, inr}
-use mathlib.Core.Bool.{Bool, true, false, not}
-use mathlib.Core.List.{List, [], ◌∷◌, ◌++◌, map, append_assoc, append-nil}
-use Prim.Native.Nat.{ℕ, ◌+◌, ◌≤◌}
-use native.Mathlib.Omega.{arith}
-use lib.Dec.{eqb}
-use lib.ListN.{length, take, length-take}
-use borrow.Author.Tests.{eq-eqb, eqb-true}
-use Rattle.lists.specs.Tests.{decide, false_true, by_cases}
+use Rattle.std.proofs.Common.{◌≡◌, refl, sym, ap, ◌∙◌, subst, ◌≢◌, ◌⊎◌, inl, inr, Bool, true, false, List, [], ◌∷◌, ◌++◌, map, ℕ, ◌+◌, ◌≤◌, length, take, Option, Some, None, is_some, unwrap_or, arith, append_assoc, append-nil, length-take}
+use Rattle.std.proofs.lemmas.Option.{none-some, same_Some}
+use Rattle.lists.specs.Tests.{false_true}
 use Rattle.pagestore.specs.Store.{new_index}
 use Rattle.index.specs.Acts.{Done, held_by}
 use Rattle.index_laws.specs.Series.{Stands}
@@ -42,29 +35,26 @@ only_kept [] (x ∷ l) e = apart (x ∷ l) [] e
 only_kept (y ∷ ys) [] e = apart (kept y) (map kept ys) (sym e)
 only_kept (y ∷ ys) (x ∷ l) e = first_kept (y ∷ ys) (x ∷ l) [] e
 
-begins_kept : {b l c t : List ℕ} {d : ℕ} → Begins b (kept l) d c t → Begins b l d c t
+begins_kept : {b l c t : List ℕ} {d : Option ℕ} → Begins b (kept l) d c t → Begins b l d c t
 begins_kept {l = l} (ends n z e f) = ends (sym (names_kept l) ∙ n) z e f
-begins_kept {l = l} (begins z e f g) = begins z (e ∙ names_kept l) f g
+begins_kept {l = l} (begins n e z f g) = begins n (sym (names_kept l) ∙ e) z f g
 
 module _ (b i : List ℕ) where
   -- the first line's text, and that of the later lines
-  goes_on : (d : ℕ) (l made s c u : List ℕ) (ks : List (List ℕ)) → kept (first_of (lines_of i)) ≡ l → map kept (later_of (lines_of i)) ≡ ks → d ≢ 0
-      → Begins b l d made s → Runs d made 2 ks c u → Prints b i c (s ++ u)
-  goes_on d l made s c u ks e f z g r =
-      texts.goes d made s u z
-      (begins_kept (subst (λ (x : List ℕ). Begins b x d made s) (sym e) g))
+  goes_on : (d : ℕ) (l made s c u : List ℕ) (ks : List (List ℕ)) → kept (first_of (lines_of i)) ≡ l → map kept (later_of (lines_of i)) ≡ ks
+      → Begins b l (Some d) made s → Runs d made 2 ks c u → Prints b i c (s ++ u)
+  goes_on d l made s c u ks e f g r =
+      texts.goes d made s u
+      (begins_kept (subst (λ (x : List ℕ). Begins b x (Some d) made s) (sym e) g))
       (runs_kept (later_of (lines_of i)) (subst (λ (x : List (List ℕ)). Runs d made 2 x c u) (sym f) r))
       refl
 
-  stops : (l c s : List ℕ) → kept (first_of (lines_of i)) ≡ l → (d : ℕ) → d ≡ 0 → Begins b l d c s → Prints b i c s
-  stops l c s e d z g = texts.ends (begins_kept (subst (λ (x : List ℕ). Begins b x 0 c s) (sym e) (subst (λ (x : ℕ). Begins b l x c s) z g)))
+  stops : (l c s : List ℕ) → kept (first_of (lines_of i)) ≡ l → Begins b l None c s → Prints b i c s
+  stops l c s e g = texts.ends (begins_kept (subst (λ (x : List ℕ). Begins b x None c s) (sym e) g))
 
-  only : (d : ℕ) (l c s : List ℕ) → map kept (lines_of i) ≡ last_line l → Begins b l d c s → Prints b i c s
-  only d l c s e g =
-      let w = only_kept (lines_of i) l e in
-      decide d 0
-      (λ z. stops l c s w.0 d z g)
-      (λ z. subst (Prints b i c) (append-nil s) (goes_on d l c s c [] [] w.0 w.1 z g texts.end))
+  only : (d : Option ℕ) (l c s : List ℕ) → map kept (lines_of i) ≡ last_line l → Begins b l d c s → Prints b i c s
+  only None l c s e g = stops l c s (only_kept (lines_of i) l e).0 g
+  only (Some d) l c s e g = let w = only_kept (lines_of i) l e in subst (Prints b i c) (append-nil s) (goes_on d l c s c [] [] w.0 w.1 g texts.end)
 
 -- ---- LINES OF VALUES
 
@@ -75,7 +65,7 @@ goings_going (goings.next h r) e = refl
 goings_runs : {d n d' n' : ℕ} {b c t : List ℕ} {g g' : Bool} {ls : List (List ℕ)} → 2 ≤ n → Goings d n b g ls d' n' c g' t
     → Runs d b n ls c t × ((d' ≡ d) × (n' ≡ n + length ls))
 goings_runs low goings.end = (texts.end, (refl, omega arith))
-goings_runs low (goings.next (first z g h) r) = absurd (omega arith)
+goings_runs low (goings.next (first z g h y) r) = absurd (omega arith)
 goings_runs {c = c} low (goings.next {n = n} {m = m} {t = t} {ls = ls} (later z e st h) r) =
     let w = goings_runs (omega arith) r in
     let k = w.1.1 in
@@ -98,7 +88,7 @@ last_none l z = rw z
 last_runs : (d n d' n' : ℕ) (m l c u : List ℕ) → d' ≡ d → n' ≡ n → 2 ≤ n → Last d' n' m l c u → Runs d m n (last_line l) c u
 last_runs d n d' n' m l c u e f low (none z y x w) =
     subst (λ (k : List (List ℕ)). Runs d m n k c u) (sym (last_none l y)) (subst (Runs d m n [] c) (sym w) (subst (λ (k : List ℕ). Runs d m n [] k []) (sym x) texts.end))
-last_runs d n d' n' m l c u e f low (some w (first z g h)) = absurd (omega arith)
+last_runs d n d' n' m l c u e f low (some w (first z g h y)) = absurd (omega arith)
 last_runs d n d' n' m l c u e f low (some (inl w) (later z y st h)) = absurd (z w)
 last_runs d n d' n' m l c u e f low (some (inr w) (later z y st h)) =
     let st' : Steps d m n l c u = subst (λ (k : ℕ). Steps k m n l c u) e (subst (λ (k : ℕ). Steps d' m k l c u) f st) in
@@ -106,23 +96,24 @@ last_runs d n d' n' m l c u e f low (some (inr w) (later z y st h)) =
 
 -- ---- ALL LINES
 
-named : (d : ℕ) (g : Bool) → g ≡ true → g ≡ not (eqb d 0) → d ≢ 0
-named d g e h z = false_true (ap not (sym (eq-eqb d 0 z)) ∙ sym h ∙ e)
+named : (o : Option ℕ) (g : Bool) (d : ℕ) → g ≡ true → g ≡ is_some o → d ≡ unwrap_or o 0 → o ≡ Some d
+named None g d e h f = false_true (sym h ∙ e)
+named (Some n) g d e h f = ap Some (sym f)
 
 prints_all : {b i m c l u t : List ℕ} {d n d' n' : ℕ} {g' : Bool} {ls : List (List ℕ)} → n ≡ 1 → Goings d n b true ls d' n' m g' t → g' ≡ true
     → map kept (lines_of i) ≡ ls ++ last_line l → Last d' n' m l c u → Prints b i c (t ++ u)
 prints_all o goings.end e f (none z y x w) = absurd (z o)
-prints_all {b = b} {i = i} {c = c} {l = l} {u = u} o goings.end e f (some w (first z g h)) = only b i _ l c u f g
+prints_all {b = b} {i = i} {c = c} {l = l} {u = u} o goings.end e f (some w (first z g h y)) = only b i _ l c u f g
 prints_all o goings.end e f (some w (later z y st h)) = absurd (z o)
 prints_all o (goings.next (later z y st h) r) e f k = absurd (z o)
 prints_all {b = b} {i = i} {m = m} {c = c} {l = l} {u = u} {n = n} {d' = d'} {n' = n'} o
-    (goings.next {d₁ = d₁} {l = x} {m = made} {s = s} {t = t} {g₁ = g₁} {ls = ls} (first z g h) r) e f k =
+    (goings.next {d₁ = d₁} {l = x} {m = made} {s = s} {t = t} {g₁ = g₁} {ls = ls} (first {e = o'} z g h y) r) e f k =
     let w = goings_runs (let v : 2 ≤ n + 1 = omega arith in v) r in
     let v = first_kept (lines_of i) x (ls ++ last_line l) f in
     let all : Runs d₁ made (n + 1) (ls ++ last_line l) c (t ++ u) = runs_append w.0 (last_runs d₁ (n + 1 + length ls) d' n' m l c u w.1.0 w.1.1 (omega arith) k) in
     let two : n + 1 ≡ 2 = omega arith in
     subst (Prints b i c) (sym (append_assoc s t u))
-    (goes_on b i d₁ x made s c (t ++ u) (ls ++ last_line l) v.0 v.1 (named d₁ g₁ (goings_going r e) h) g (subst (λ (y : ℕ). Runs d₁ made y (ls ++ last_line l) c (t ++ u)) two all))
+    (goes_on b i d₁ x made s c (t ++ u) (ls ++ last_line l) v.0 v.1 (subst (λ (q : Option ℕ). Begins b x q made s) (named o' g₁ d₁ (goings_going r e) h y) g) (subst (λ (y : ℕ). Runs d₁ made y (ls ++ last_line l) c (t ++ u)) two all))
 
 -- what the end of input prints
 abbrev last_text : {b held out : List ℕ} {s : Progress} {c out' : List ℕ} {r : Progress} → Closes b held out s c out' r → List ℕ
@@ -170,18 +161,20 @@ text_prints b held out i s m held' out₁ r w f h e c out₂ q fit room k =
 
 goings_keeps : {d n d' n' : ℕ} {b c t : List ℕ} {g g' : Bool} {ls : List (List ℕ)} → 2 ≤ n → Goings d n b g ls d' n' c g' t → g ≡ true → g' ≡ true
 goings_keeps low goings.end e = e
-goings_keeps low (goings.next (first z g h) r) e = absurd (omega arith)
+goings_keeps low (goings.next (first z g h y) r) e = absurd (omega arith)
 goings_keeps low (goings.next (later z y st h) r) e = goings_keeps (omega arith) r h
 
-unnamed : (d : ℕ) → false ≡ not (eqb d 0) → d ≡ 0
-unnamed d h = by_cases (eqb d 0) (λ e. eqb-true d 0 e) (λ e. false_true (h ∙ ap not e))
+unnamed : (o : Option ℕ) → false ≡ is_some o → o ≡ None
+unnamed None h = refl
+unnamed (Some n) h = false_true h
 
 prints_none : {b i c t : List ℕ} {d n d' n' : ℕ} {g' : Bool} {ls : List (List ℕ)} (ks : List (List ℕ)) → n ≡ 1 → Goings d n b true ls d' n' c g' t → g' ≡ false → map kept (lines_of i) ≡ ls ++ ks → Prints b i c t
 prints_none ks o goings.end e f = false_true (sym e)
 prints_none ks o (goings.next (later z y st h) r) e f = absurd (z o)
-prints_none {b = b} {i = i} {c = c} ks o (goings.next {d₁ = d₁} {l = l} {s = s} (first z g h) goings.end) e f =
-    subst (Prints b i c) (sym (append-nil s)) (stops b i l c s (first_kept (lines_of i) l ks f).0 d₁ (unnamed d₁ (sym e ∙ h)) g)
-prints_none {n = n} ks o (goings.next (first z g h) (goings.next k r)) e f =
+prints_none {b = b} {i = i} {c = c} ks o (goings.next {l = l} {s = s} (first {e = o'} z g h y) goings.end) e f =
+    subst (Prints b i c) (sym (append-nil s))
+    (stops b i l c s (first_kept (lines_of i) l ks f).0 (subst (λ (q : Option ℕ). Begins b l q c s) (unnamed o' (sym e ∙ h)) g))
+prints_none {n = n} ks o (goings.next (first z g h y) (goings.next k r)) e f =
     false_true (sym e ∙ goings_keeps (let v : 2 ≤ n + 1 = omega arith in v) (goings.next k r) refl)
 
 lines_end : (b held i : List ℕ) (s : Progress) (c held' i' : List ℕ) (r : Progress) (t : List ℕ) → Fresh s → Advances b held i s c held' i' r t → r.going ≡ false
@@ -208,9 +201,11 @@ text_ends b held out i s c held' out' i' r w f h e j =
 -- as it was, or sound with the records inserted and not deleted since
 pub prints_stands : (b i c t : List ℕ) → length b ≡ index_bytes → Prints b i c t → (c ≡ b) ⊎ ((d : ℕ) × ((os : List Done) × Stands d (held_by d os []) c))
 prints_stands b i c t len (texts.ends (ends n z e f)) = inl e
-prints_stands b i c t len (texts.ends (begins z e f g)) = absurd (z refl)
-prints_stands b i c t len (texts.goes d made s u z (ends n y e f) r w) = absurd (z y)
-prints_stands b i c t len (texts.goes d made s u z (begins y e f g) r w) =
-    let few = few_features (first_of (lines_of i)) d e z in
-    let run : Runs d (new_index b d) 2 (later_of (lines_of i)) c u = subst (λ (x : List ℕ). Runs d x 2 (later_of (lines_of i)) c u) f r in
+prints_stands b i c t len (texts.ends (begins n y z f g)) = absurd (none-some n z)
+prints_stands b i c t len (texts.goes d made s u (ends n y e f) r w) = absurd (none-some d (sym y))
+prints_stands b i c t len (texts.goes d made s u (begins n y z f g) r w) =
+    let e : n ≡ d = sym (same_Some d n z) in
+    let few = few_features (first_of (lines_of i)) d (y ∙ ap Some e) in
+    let run : Runs d (new_index b d) 2 (later_of (lines_of i)) c u =
+    subst (λ (x : List ℕ). Runs d x 2 (later_of (lines_of i)) c u) (f ∙ ap (new_index b) e) r in
     inr (d, ((runs_series run).0, text_stands b d (lent b len) few.0 few.1 run))

@@ -1,12 +1,5 @@
 -- How a run of the program goes on, from what its functions do.
-use mathlib.Core.Path.{◌≡◌, refl, sym, ap, ◌∙◌}
-use mathlib.Core.Logic.{◌≢◌, inl, inr}
-use mathlib.Core.Bool.{Bool, true, false, not}
-use mathlib.Core.List.{List, [], ◌∷◌}
-use Prim.Native.Nat.{ℕ, ◌+◌, ◌-◌, ◌≤◌, ◌<◌, min}
-use native.Mathlib.Omega.{arith}
-use lib.Dec.{eqb}
-use lib.ListN.{length, take, drop, length-take}
+use Rattle.std.proofs.Common.{◌≡◌, refl, sym, ap, ◌∙◌, ◌≢◌, inl, inr, Bool, true, false, List, [], ◌∷◌, ℕ, ◌+◌, ◌-◌, ◌≤◌, ◌<◌, min, length, take, drop, Option, is_some, unwrap_or, arith, length-take}
 use Rattle.acts_text.specs.declared.Fed.{Fed}
 use Rattle.acts_text.specs.Input.{Feeds, piece, ended, current}
 use Rattle.acts_text.proofs.InputLaws.{feeds_line, feeds_on}
@@ -20,10 +13,10 @@ puts_map : {P Q : List ℕ → Type 0} → ((t : List ℕ) → P t → Q t) → 
 puts_map f m out out' at r w = record { text = w.text; says = f w.text w.says; written = w.written; room = w.room }
 
 module _ (b l out c out' : List ℕ) (s : Progress) where
-  pub ended_first : (d e : ℕ) (going : Bool) → s.number ≡ 1 → going ≡ not (eqb d 0) → Puts (Begins b l d c) most_printed out out' s.end e
+  pub ended_first : (o : Option ℕ) (d e : ℕ) (going : Bool) → s.number ≡ 1 → going ≡ is_some o → d ≡ unwrap_or o 0 → Puts (Begins b l o c) most_printed out out' s.end e
       → Ended b l out s c out' (record { going = going; d = d; number = 2; held = 0; at = s.at; end = e })
-  ended_first d e going z g w = record {
-    done = puts_map {P = Begins b l d c} {Q = Does s.d s.number b l s.going d going c} (λ t x. first z x g) most_printed out out' s.end e w;
+  ended_first o d e going z g f w = record {
+    done = puts_map {P = Begins b l o c} {Q = Does s.d s.number b l s.going d going c} (λ t x. first z x g f) most_printed out out' s.end e w;
     number = omega arith;
     held = refl;
   }

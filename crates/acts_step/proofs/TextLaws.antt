@@ -1,11 +1,7 @@
 -- Texts of acts. `runs_append`, `runs-split`: lines one after the other. `runs_kept`: what is kept of each line says the same. `text_stands`: after any text the
 -- index is sound and holds the records inserted and not deleted since. `text_question`: a question's lines are the k nearest of those
 -- of its stages.
-use mathlib.Core.Path.{◌≡◌, sym, ap, ◌∙◌, subst}
-use mathlib.Core.List.{List, [], ◌∷◌, ◌++◌, map, append_assoc}
-use Prim.Native.Nat.{ℕ, suc, ◌+◌, ◌≤◌}
-use native.Mathlib.Omega.{arith}
-use lib.ListN.{length}
+use Rattle.std.proofs.Common.{◌≡◌, sym, ap, ◌∙◌, subst, List, [], ◌∷◌, ◌++◌, map, ℕ, suc, ◌+◌, ◌≤◌, length, arith, append_assoc}
 use Rattle.pagestore.specs.Store.{new_index}
 use Rattle.search_model.specs.Visit.{Answer as Found}
 use Rattle.tree_model.specs.Sound.{Permitted}
@@ -16,11 +12,10 @@ use Rattle.index_laws.specs.Series.{Stands}
 use Rattle.index_laws.proofs.Series.{series}
 use Rattle.index_query.specs.Answers.{Answers}
 use Rattle.index_laws.specs.Answers.{question_answers}
-use Rattle.acts_text.specs.declared.ActLine.{ActLine}
 use Rattle.acts_text.specs.Input.{kept}
 use Rattle.acts_text.proofs.LineLaws.{act_kept}
 use Rattle.acts_step.specs.Printed.{answer_lines}
-use Rattle.acts_step.specs.Steps.{asked_by, Acted, Steps, passed, acted}
+use Rattle.acts_step.specs.Steps.{Acted, Steps, passed, acted}
 use Rattle.acts_step.specs.Texts.{Runs}
 use Rattle.acts_step.specs.Texts as texts
 
@@ -38,9 +33,8 @@ runs_append {d = d} {n = n} {m = m} {c = c} {t = t} {ys = ys} (texts.next {s = s
 -- ---- WHAT IS KEPT OF A LINE
 
 pub step_kept : {d n : ℕ} {b l c t : List ℕ} → Steps d b n (kept l) c t → Steps d b n l c t
-step_kept {d = d} {l = l} (passed e f g) = passed (ap (λ (a : ActLine). a.readable) (sym (act_kept d l)) ∙ e) f g
-step_kept {d = d} {n = n} {b = b} {l = l} {c = c} {t = t} (acted e w) =
-    acted (ap (λ (a : ActLine). a.readable) (sym (act_kept d l)) ∙ e) (subst (λ (a : ActLine). Acted (asked_by a) b n c t) (act_kept d l) w)
+step_kept {d = d} {l = l} (passed e f g) = passed (sym (act_kept d l) ∙ e) f g
+step_kept {d = d} {l = l} (acted a e w) = acted a (sym (act_kept d l) ∙ e) w
 
 pub runs_kept : {d n : ℕ} {b c t : List ℕ} (ls : List (List ℕ)) → Runs d b n (map kept ls) c t → Runs d b n ls c t
 runs_kept [] texts.end = texts.end
@@ -54,7 +48,7 @@ done_in {x = x} w = record { act = x; code = w.code; answer = w.answer }
 pub runs_series : {d n : ℕ} {b c t : List ℕ} {ls : List (List ℕ)} → Runs d b n ls c t → (os : List Done) × Series b os c
 runs_series texts.end = ([], end)
 runs_series {b = b} {c = c} (texts.next (passed e f g) r) = let w = runs_series r in (w.0, subst (λ (x : List ℕ). Series x w.0 c) f w.1)
-runs_series (texts.next (acted e a) r) = let w = runs_series r in (done_in a ∷ w.0, next a.done w.1)
+runs_series (texts.next (acted x e a) r) = let w = runs_series r in (done_in a ∷ w.0, next a.done w.1)
 
 module _ (b : List ℕ) (d : ℕ) (lent : Permitted (length b)) (low : 1 ≤ d) (high : d ≤ 16) where
   -- after the lines of any text the index is sound, and its live records are those inserted and not deleted since

@@ -1,5 +1,6 @@
 -- How a run of the program goes on: the first line, lines of values, and input that comes in chunks.
-use Rattle.std.specs.Prelude.{◌≡◌, ◌≢◌, ◌⊎◌, Bool, true, not, List, [], ◌∷◌, ◌++◌, ℕ, suc, ◌+◌, ◌≤◌, ◌<◌, eqb, length, take, drop}
+use Rattle.std.specs.Prelude.{◌≡◌, ◌≢◌, ◌⊎◌, Bool, true, List, [], ◌∷◌, ◌++◌, ℕ, suc, ◌+◌, ◌≤◌, ◌<◌, length, take, drop, Option, is_some}
+use Rattle.std.specs.Option.{unwrap_or}
 use Rattle.acts_fields.specs.Bytes.{Written}
 use Rattle.acts_text.specs.Input.{ended, current}
 use Rattle.acts_text.specs.Lines.{limit}
@@ -16,8 +17,8 @@ pub record Ready (index out : List ℕ) (s : Progress) : Type 0 where
 
 -- line n, l, in a run of d features: it leaves d' features and index c, prints t, and says whether the run goes on
 pub data Does (d n : ℕ) (b l : List ℕ) (going : Bool) (d' : ℕ) (going' : Bool) (c t : List ℕ) : Type 0 where
-  -- the first line begins it, or ends it
-  first : n ≡ 1 → Begins b l d' c t → going' ≡ not (eqb d' 0) → Does d n b l going d' going' c t
+  -- the first line begins it, or ends it; e: the features that it names
+  first : {e : Option ℕ} → n ≡ 1 → Begins b l e c t → going' ≡ is_some e → d' ≡ unwrap_or e 0 → Does d n b l going d' going' c t
   later : n ≢ 1 → d' ≡ d → Steps d b n l c t → going' ≡ going → Does d n b l going d' going' c t
 
 -- the current line, l, has ended: it is done, what it prints stands behind what was printed, and the next line begins

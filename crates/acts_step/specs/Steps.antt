@@ -1,11 +1,12 @@
 -- What a line does to the index and prints (01, "The acts program").
-use Rattle.std.specs.Prelude.{◌≡◌, ◌≢◌, true, false, List, ◌++◌, ℕ, min, eqb, ℤ, take}
-use Rattle.lists.specs.Basics.{if}
+use Rattle.std.specs.Prelude.{◌≡◌, List, ◌++◌, ℕ, min, ℤ, take, Option, Some, None}
 use Rattle.pagestore.specs.Store.{new_index}
 use Rattle.search_model.specs.Visit.{Answer as Found}
 use Rattle.index_query.specs.Asking.{Question, nearest_of}
 use Rattle.index_refusals.specs.declared.Epoch.{Epoch}
 use Rattle.index.specs.Acts.{Act, insert, delete, question, does}
+use Rattle.acts_text.specs.declared.Act.{Act as Kind}
+use Rattle.acts_text.specs.declared.Act.TheVariants.{Insert, Delete, Ask}
 use Rattle.acts_text.specs.declared.ActLine.{ActLine}
 use Rattle.acts_text.specs.Lines.{act_of}
 use Rattle.acts_text.specs.Names.{names_in}
@@ -33,9 +34,14 @@ epoch_in a = record { id = a.id; stage = stage_in a; stamp = a.stamp }
 abbrev pub question_in : ActLine → Question
 question_in a = nearest_of (point_of a) a.k (stage_in a)
 
--- act 1 inserts, 2 deletes, 3 questions
+-- the act that it asks for, by its kind
+abbrev pub asked_for : Kind → ActLine → Act
+asked_for Insert a = insert (epoch_in a) (point_of a)
+asked_for Delete a = delete a.id
+asked_for Ask a = question (question_in a) rows_lent
+
 abbrev pub asked_by : ActLine → Act
-asked_by a = if (eqb a.act 1) (insert (epoch_in a) (point_of a)) (if (eqb a.act 2) (delete a.id) (question (question_in a) rows_lent))
+asked_by a = asked_for a.act a
 
 -- the act x of line n is done on index b: it leaves index c and prints t
 pub record Acted (x : Act) (b : List ℕ) (n : ℕ) (c t : List ℕ) : Type 0 where
@@ -51,12 +57,12 @@ Replies w b n t = Acted (question w rows_lent) b n b t
 -- line n of values, l, on index b of d features: it leaves index c and prints t
 pub data Steps (d : ℕ) (b : List ℕ) (n : ℕ) (l c t : List ℕ) : Type 0 where
   -- unreadable: it prints its line number, 13 and three zeros, and is passed over
-  passed : (act_of d l).readable ≡ false → c ≡ b → t ≡ result_line n 13 0 0 0 → Steps d b n l c t
-  acted : (act_of d l).readable ≡ true → Acted (asked_by (act_of d l)) b n c t → Steps d b n l c t
+  passed : act_of d l ≡ None → c ≡ b → t ≡ result_line n 13 0 0 0 → Steps d b n l c t
+  acted : (a : ActLine) → act_of d l ≡ Some a → Acted (asked_by a) b n c t → Steps d b n l c t
 
--- the first line, l: it leaves index c of d features and prints t; with d of 0 the program ends
-pub data Begins (b l : List ℕ) (d : ℕ) (c t : List ℕ) : Type 0 where
+-- the first line, l: it leaves index c of the features d and prints t; with none the program ends
+pub data Begins (b l : List ℕ) (d : Option ℕ) (c t : List ℕ) : Type 0 where
   -- unreadable: the output's names and `1 13 0 0 0`
-  ends : names_in l ≡ 0 → d ≡ 0 → c ≡ b → t ≡ heading ++ result_line 1 13 0 0 0 → Begins b l d c t
-  -- readable: the output's names, and an empty index of the d features named
-  begins : d ≢ 0 → d ≡ names_in l → c ≡ new_index b d → t ≡ heading → Begins b l d c t
+  ends : names_in l ≡ None → d ≡ None → c ≡ b → t ≡ heading ++ result_line 1 13 0 0 0 → Begins b l d c t
+  -- readable: the output's names, and an empty index of the features named
+  begins : (n : ℕ) → names_in l ≡ Some n → d ≡ Some n → c ≡ new_index b n → t ≡ heading → Begins b l d c t

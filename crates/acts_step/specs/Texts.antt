@@ -1,5 +1,5 @@
 -- A whole text (01, "The acts program"): its first line, and its lines of values one after the other.
-use Rattle.std.specs.Prelude.{◌≡◌, ◌≢◌, List, [], ◌∷◌, ◌++◌, ℕ, ◌+◌}
+use Rattle.std.specs.Prelude.{◌≡◌, List, [], ◌∷◌, ◌++◌, ℕ, ◌+◌, Some, None}
 use Rattle.acts_text.specs.Input.{lines_of}
 use Rattle.acts_step.specs.Steps.{Steps, Begins}
 
@@ -19,5 +19,5 @@ later_of (l ∷ ls) = ls
 
 -- the input i, with an index of the bytes b: it leaves index c and prints t
 pub data Prints (b i c t : List ℕ) : Type 0 where
-  ends : Begins b (first_of (lines_of i)) 0 c t → Prints b i c t
-  goes : (d : ℕ) (made s u : List ℕ) → d ≢ 0 → Begins b (first_of (lines_of i)) d made s → Runs d made 2 (later_of (lines_of i)) c u → t ≡ s ++ u → Prints b i c t
+  ends : Begins b (first_of (lines_of i)) None c t → Prints b i c t
+  goes : (d : ℕ) (made s u : List ℕ) → Begins b (first_of (lines_of i)) (Some d) made s → Runs d made 2 (later_of (lines_of i)) c u → t ≡ s ++ u → Prints b i c t

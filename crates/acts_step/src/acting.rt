@@ -7,7 +7,7 @@ ghost use Rattle.acts_output.specs.Puts.{most_printed, rows_lent, Puts};
 ghost use Rattle.acts_step.specs.Steps.{asked_by, Acted, Replies};
 
 use acts_output::{put_result, put_rows};
-use acts_text::ActLine;
+use acts_text::{Act, ActLine};
 use index_answer::Answer;
 use index_query::nearest_of;
 use index_refusals::Epoch;
@@ -53,11 +53,10 @@ fn ask(
     ensures { QuestionOutcome index.now (nearest_of point.now k stages) rows_lent
         highs.new lows.new result }
 {
-    let none = [0u16; 0];
     index::question_outcome(
         index,
         point,
-        &none,
+        &[],
         nearest_of(k, stages),
         MAX_ROWS,
         highs,
@@ -108,30 +107,24 @@ fn question_line(
 fn at_most_255(x: u32) -> u8
     ensures { result ≡ min x 255 }
 {
-    if x < 255 { x as u8 } else { 255 }
+    u8::try_from(x).unwrap_or(u8::MAX)
 }
 
 // The act that a readable line asks for.
-#[tactic(auto, using(crate::proofs::ActLaws::does_delete))]
+#[tactic(auto, using(crate::proofs::ActLaws::does_insert, crate::proofs::ActLaws::does_delete, crate::proofs::ActLaws::does_question))]
 pub fn do_act(index: &mut [u8], a: ActLine, number: u64, out: &mut [u8], at: usize) -> usize
     requires { (a.d ≤ 16) × (at + most_printed ≤ length out.old) }
     ensures { Puts (Acted (asked_by a) index.old number index.new)
         most_printed out.old out.new at result }
 {
-    if a.act == 2 {
-        return delete_line(index, a.id, number, out, at);
-    }
-    let d = a.d;
-    let coords = a.coords;
+    let point = &a.coords[..a.d];
     let stage = at_most_255(a.stage);
-    if a.act == 1 {
-        let epoch = Epoch {
-            id: a.id,
-            stage: stage,
-            stamp: a.stamp,
-        };
-        return insert_line(index, epoch, &coords[..d], number, out, at);
+    match a.act {
+        Act::Insert => {
+            let epoch = Epoch { id: a.id, stage, stamp: a.stamp };
+            insert_line(index, epoch, point, number, out, at)
+        }
+        Act::Delete => delete_line(index, a.id, number, out, at),
+        Act::Ask => question_line(index, point, a.k as usize, stage, number, out, at),
     }
-    let k = a.k as usize;
-    question_line(index, &coords[..d], k, stage, number, out, at)
 }

@@ -14,10 +14,9 @@ pub fn end_line(index: &mut [u8], line: &[u8], out: &mut [u8], s: Progress) -> P
 {
     if s.number == 1 {
         let begun = first_line(index, line, out, s.end);
-        let named = begun.d != 0;
         return Progress {
-            going: named,
-            d: begun.d,
+            going: begun.d.is_some(),
+            d: begun.d.unwrap_or(0),
             number: 2,
             held: 0,
             at: s.at,
@@ -25,14 +24,7 @@ pub fn end_line(index: &mut [u8], line: &[u8], out: &mut [u8], s: Progress) -> P
         };
     }
     let end = step(index, s.d, s.number, line, out, s.end);
-    Progress {
-        going: s.going,
-        d: s.d,
-        number: s.number + 1,
-        held: 0,
-        at: s.at,
-        end: end,
-    }
+    Progress { number: s.number + 1, held: 0, end, ..s }
 }
 
 // Takes the chunk's bytes into the current line, up to a newline or the chunk's end. A line that ends there is done.
@@ -49,14 +41,7 @@ pub fn take_line(
 {
     let fed = feed(held, s.held, chunk, s.at);
     let n = fed.held;
-    let t = Progress {
-        going: s.going,
-        d: s.d,
-        number: s.number,
-        held: n,
-        at: fed.at,
-        end: s.end,
-    };
+    let t = Progress { held: n, at: fed.at, ..s };
     if !fed.ended {
         return t;
     }

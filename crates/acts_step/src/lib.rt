@@ -9,9 +9,9 @@ mod lines;
 pub use input::{end_input, end_line, take_line};
 pub use lines::{first_line, step};
 
-// What the first line leaves: the features that it names, 0 where the program ends, and where the output goes on.
+// What the first line leaves: the features that it names, none where the program ends, and where the output goes on.
 #[derive(Clone, Copy)]
 pub struct Begun {
-    pub d: usize,
+    pub d: Option<usize>,
     pub at: usize,
 }

@@ -25,11 +25,10 @@ pub fn step(
     ensures { Puts (Steps d index.old number line.now index.new)
         most_printed out.old out.new at result }
 {
-    let a = read_act(line, d);
-    if !a.readable {
-        return put_result(out, at, number, UNREADABLE, 0, 0, 0);
+    match read_act(line, d) {
+        Some(a) => do_act(index, a, number, out, at),
+        None => put_result(out, at, number, UNREADABLE, 0, 0, 0),
     }
-    do_act(index, a, number, out, at)
 }
 
 // The first line: the index is made if it is a line of names.
@@ -40,10 +39,14 @@ pub fn first_line(index: &mut [u8], line: &[u8], out: &mut [u8], at: usize) -> B
 {
     let e = put_heading(out, at);
     let d = read_names(line);
-    if d == 0 {
-        let end = put_result(out, e, 1, UNREADABLE, 0, 0, 0);
-        return Begun { d: 0, at: end };
+    match d {
+        Some(n) => {
+            index::make(index, n as u8);
+            Begun { d, at: e }
+        }
+        None => {
+            let end = put_result(out, e, 1, UNREADABLE, 0, 0, 0);
+            Begun { d, at: end }
+        }
     }
-    index::make(index, d as u8);
-    Begun { d: d, at: e }
 }

@@ -10,7 +10,7 @@ use Rattle.std.specs.Result.{result_ok}
 use Rattle.acts_text.specs.Acts.{number_of, numbered, Decodes}
 use Rattle.acts_text.specs.declared.UnknownAct.{UnknownAct}
 use Rattle.acts_text.specs.declared.Act.{Act}
-use Rattle.acts_text.specs.declared.Act.TheVariants.{Insert, Delete, Question}
+use Rattle.acts_text.specs.declared.Act.TheVariants.{Insert, Delete, Ask}
 use Rattle.acts_text.specs.Lines.{limit, max_features, leading, field_length, Cut, fields, number, coordinates, padded, line_of, said, act_of}
 use Rattle.acts_text.specs.declared.ActLine.{ActLine}
 
@@ -20,7 +20,7 @@ pub numbered_is : (a : Act) (n : ℕ) → number_of a ≡ n → Some a ≡ numbe
 unfolding numbered
 numbered_is Insert n e = rw (← e)
 numbered_is Delete n e = rw (← e)
-numbered_is Question n e = rw (← e)
+numbered_is Ask n e = rw (← e)
 
 pub numbered_none : (n : ℕ) → n ≢ 1 → n ≢ 2 → n ≢ 3 → None ≡ numbered n
 unfolding numbered
@@ -30,7 +30,7 @@ pub numbered_number : (n : ℕ) (a : Act) → numbered n ≡ Some a → number_o
 unfolding numbered
 numbered_number n a h = by_cases (eqb n 1) (λ e. ap number_of (sym (same_Some Insert a (rw e at h))) ∙ sym (eqb-true n 1 e))
     (λ e. by_cases (eqb n 2) (λ f. ap number_of (sym (same_Some Delete a (rw (e, f) at h))) ∙ sym (eqb-true n 2 f))
-    (λ f. by_cases (eqb n 3) (λ g. ap number_of (sym (same_Some Question a (rw (e, f, g) at h))) ∙ sym (eqb-true n 3 g))
+    (λ f. by_cases (eqb n 3) (λ g. ap number_of (sym (same_Some Ask a (rw (e, f, g) at h))) ∙ sym (eqb-true n 3 g))
     (λ g. absurd (none-some a (rw (e, f, g) at h)))))
 
 pub kind_is : (n : ℕ) (r : Result Act UnknownAct) (o : Option Act) → Decodes n r → o ≡ result_ok r → o ≡ numbered n

@@ -4,7 +4,7 @@ use Rattle.lists.specs.Basics.{if}
 use Rattle.acts_fields.specs.Bytes.{until}
 use Rattle.acts_fields.specs.Fields.{with_digit, value_from, ill_formed, natural, negative, signed}
 use Rattle.acts_text.specs.Acts.{numbered}
-use Rattle.acts_text.specs.declared.Act.TheVariants.{Insert, Delete, Question}
+use Rattle.acts_text.specs.declared.Act.TheVariants.{Insert, Delete, Ask}
 use Rattle.acts_text.specs.Lines.{field_length, fields, coordinates, line_of, act_of}
 use Rattle.acts_text.specs.Names.{is_prefix, features_in, names_in}
 use Rattle.acts_text.specs.Input.{before, lines_of}
@@ -32,9 +32,9 @@ whole_acts : map (act_of 2) (drop 1 (lines_of whole_case))
     ≡ Some (record { act = Insert; id = 7; k = 0; stage = 0; stamp = 0; d = 2; coords = negsuc 299 ∷ pos 100 ∷ replicate 14 (pos 0) })
     ∷ Some (record { act = Insert; id = 4; k = 0; stage = 0; stamp = 0; d = 2; coords = pos 100 ∷ negsuc 299 ∷ replicate 14 (pos 0) })
     ∷ Some (record { act = Insert; id = 4; k = 0; stage = 0; stamp = 0; d = 2; coords = pos 5 ∷ pos 5 ∷ replicate 14 (pos 0) })
-    ∷ Some (record { act = Question; id = 0; k = 2; stage = 63; stamp = 0; d = 2; coords = negsuc 99 ∷ negsuc 99 ∷ replicate 14 (pos 0) })
+    ∷ Some (record { act = Ask; id = 0; k = 2; stage = 63; stamp = 0; d = 2; coords = negsuc 99 ∷ negsuc 99 ∷ replicate 14 (pos 0) })
     ∷ Some (record { act = Delete; id = 7; k = 0; stage = 0; stamp = 0; d = 2; coords = pos 0 ∷ pos 0 ∷ replicate 14 (pos 0) })
-    ∷ Some (record { act = Question; id = 0; k = 2; stage = 63; stamp = 0; d = 2; coords = negsuc 99 ∷ negsuc 99 ∷ replicate 14 (pos 0) })
+    ∷ Some (record { act = Ask; id = 0; k = 2; stage = 63; stamp = 0; d = 2; coords = negsuc 99 ∷ negsuc 99 ∷ replicate 14 (pos 0) })
     ∷ []
 unfolding before lines_of until with_digit value_from ill_formed natural negative signed numbered field_length fields coordinates line_of act_of
 whole_acts = refl

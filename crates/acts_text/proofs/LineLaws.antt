@@ -8,7 +8,7 @@ use Rattle.acts_fields.specs.Fields.{signed, Coordinate}
 use Rattle.acts_fields.proofs.FieldLaws.{natural_reads, natural_writes, signed_reads, signed_writes, digits, some, room, length_decimal}
 use Rattle.acts_text.specs.Acts.{number_of, numbered}
 use Rattle.acts_text.specs.declared.Act.{Act}
-use Rattle.acts_text.specs.declared.Act.TheVariants.{Insert, Delete, Question}
+use Rattle.acts_text.specs.declared.Act.TheVariants.{Insert, Delete, Ask}
 use Rattle.acts_text.specs.Lines.{leading, max_features, limit, fields, number, coordinates, padded, line_of, said, act_of}
 use Rattle.acts_text.specs.Grammar.{joined, line_text, Ranged}
 use Rattle.acts_text.specs.Input.{kept}
@@ -104,9 +104,6 @@ module _ (d : ℕ) (few : d ≤ max_features) (r : List (List ℕ)) (long : leng
   m : Made d (option_and_then numbered (number (get_or r 0 []))) (number (get_or r 1 [])) (number (get_or r 2 [])) (number (get_or r 3 [])) (number (get_or r 4 [])) (coordinates (drop leading r)) x
   m = made d _ _ _ _ _ _ x h
 
-  zs : List ℤ
-  zs = m.zs
-
   written : r ≡ texts x.act x.id x.k x.stage x.stamp m.zs
   written =
       let e0 : get_or r 0 [] ≡ text (number_of x.act) = act_said_text (number (get_or r 0 [])) x.act (get_or r 0 []) refl m.act in
@@ -183,7 +180,7 @@ map_thin (also {x = z} h t) = also (signed_thin z h) (map_thin t)
 act_low : (a : Act) → number_of a ≤ 4294967295
 act_low Insert = omega arith
 act_low Delete = omega arith
-act_low Question = omega arith
+act_low Ask = omega arith
 
 act_reads_number : (a : Act) → option_and_then numbered (number (text (number_of a))) ≡ Some a
 act_reads_number a = ap (option_and_then numbered) (natural_reads 4294967295 (number_of a) (omega arith) (act_low a)) ∙ sym (numbered_is a (number_of a) refl)

@@ -15,7 +15,7 @@ pub mod names;
 pub enum Act {
     Insert,
     Delete,
-    Question,
+    Ask,
 }
 
 // A number that no act has.
@@ -31,7 +31,7 @@ impl TryFrom<u32> for Act {
         match n {
             1 => Ok(Act::Insert),
             2 => Ok(Act::Delete),
-            3 => Ok(Act::Question),
+            3 => Ok(Act::Ask),
             _ => Err(UnknownAct),
         }
     }

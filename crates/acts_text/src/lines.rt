@@ -1,7 +1,7 @@
 // Lines of values: leading columns `act id k stage stamp`, then the coordinates.
-ghost use Rattle.std.specs.Prelude.{◌≡◌, ◌≤◌, option_and_then, option_map};
+ghost use Rattle.std.specs.Prelude.{◌≡◌, ◌≤◌, length, option_and_then, option_map};
 ghost use Rattle.acts_text.specs.Acts.{numbered};
-ghost use Rattle.acts_text.specs.Lines.{max_features, Cut, fields, number, coordinates, padded, act_of};
+ghost use Rattle.acts_text.specs.Lines.{max_features, field_length, Cut, fields, number, coordinates, padded, act_of};
 
 use crate::{Act, ActLine};
 use acts_fields::bytes::{find, past};
@@ -12,15 +12,23 @@ pub const LIMIT: usize = 256;
 // The most coordinates.
 pub const MAX_FEATURES: usize = 16;
 
+// Where the field that a line begins with ends, where n more fields come.
+#[tactic(auto, using(crate::proofs::CellLaws::field_length_last, crate::proofs::CellLaws::field_space))]
+fn field_end(line: &[u8], n: usize) -> usize
+    ensures { (result ≡ field_length n line.now) × (result ≤ length line.now) }
+{
+    if n == 0 {
+        line.len()
+    } else {
+        find(line, 0, b' ')
+    }
+}
+
 // The field that a line begins with and what is behind it, where n more fields come.
 fn field(line: &[u8], n: usize) -> (&[u8], &[u8])
     ensures { Cut n line.now result.0.now result.1.now }
 {
-    let e = if n == 0 {
-        line.len()
-    } else {
-        find(line, 0, b' ')
-    };
+    let e = field_end(line, n);
     (&line[..e], &line[past(e, line.len())..])
 }
 

@@ -4,6 +4,3 @@ use Rattle.acts.proofs.run_input.Given as goal
 -- `run_input` meets its contract. Assumes nothing.
 abbrev pub invariant-loop-turns : goal.invariant-loop-turns
 invariant-loop-turns g l = Reads l.initial.index l.initial.held l.initial.chunk l.initial.out l.initial.t l.index l.held l.chunk l.out l.t
-
-abbrev pub decreases-loop-turns : goal.decreases-loop-turns
-decreases-loop-turns g l = l.turns

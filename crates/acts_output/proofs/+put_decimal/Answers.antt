@@ -1,12 +1,9 @@
-use Rattle.std.proofs.Common.{rules}
-use Rattle.acts_output.proofs.OutputLaws.{last_put, small_put, more_put}
+use Rattle.std.proofs.Common.{rules, arith}
+use Rattle.acts_output.proofs.OutputLaws.{last_put, more_put}
 use Rattle.acts_output.proofs.+put_decimal.Goals as goal
 
 pub returns-then-k-eq0 : goal.returns-then-k-eq0
-returns-then-k-eq0 t c = search (last_put, rules)
-
-pub returns-then-n-lt10 : goal.returns-then-n-lt10
-returns-then-n-lt10 t c = search (small_put, rules)
+returns-then-k-eq0 t c = let P = c.put_digit.ensures in (last_put _ _ _ _ c.args.k c.args.n c.then-k-eq0.either P, omega (arith, P.after))
 
 pub returns : goal.returns
 returns t c = search (more_put, rules)

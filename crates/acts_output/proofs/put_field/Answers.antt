@@ -1,5 +1,5 @@
 use Rattle.acts_output.proofs.OutputLaws.{field_put}
-use borrow.Author.Rules.{rules}
+use Rattle.std.proofs.Common.{rules}
 use Rattle.acts_output.proofs.put_field.Goals as goal
 
 pub returns : goal.returns

@@ -1,4 +1,4 @@
-use native.Mathlib.Omega.{arith}
+use Rattle.std.proofs.Common.{arith}
 use Rattle.acts_output.specs.Output.{heading}
 use Rattle.acts_fields.proofs.StoreLaws.{written}
 use Rattle.acts_output.proofs.put_heading.Goals as goal

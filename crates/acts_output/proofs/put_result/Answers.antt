@@ -1,4 +1,4 @@
-use native.Mathlib.Omega.{arith}
+use Rattle.std.proofs.Common.{arith}
 use Rattle.acts_output.proofs.OutputLaws.{result_put}
 use Rattle.acts_output.proofs.put_result.Goals as goal
 
