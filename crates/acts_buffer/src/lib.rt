@@ -12,6 +12,7 @@ const LAST: u64 = 18446744073709551614;
 
 // Where a run stands: whether it goes on, the features named, the number of the current line, how many of its bytes are held, where the
 // chunk goes on, and where the output goes on.
+// Kept: the flag guards no field, as the end of a run that has ended is still to be flushed.
 #[derive(Clone, Copy)]
 pub struct Progress {
     pub going: bool,
@@ -26,7 +27,12 @@ pub struct Progress {
 pub fn placed(s: Progress, going: bool, at: usize, end: usize) -> Progress
     ensures { Placed s going at end result }
 {
-    Progress { going, at, end, ..s }
+    Progress {
+        going,
+        at,
+        end,
+        ..s
+    }
 }
 
 // Hands over what is printed, to be written. Where that fails the run does not go on.

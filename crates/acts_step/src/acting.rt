@@ -121,7 +121,11 @@ pub fn do_act(index: &mut [u8], a: ActLine, number: u64, out: &mut [u8], at: usi
     let stage = at_most_255(a.stage);
     match a.act {
         Act::Insert => {
-            let epoch = Epoch { id: a.id, stage, stamp: a.stamp };
+            let epoch = Epoch {
+                id: a.id,
+                stage,
+                stamp: a.stamp,
+            };
             insert_line(index, epoch, point, number, out, at)
         }
         Act::Delete => delete_line(index, a.id, number, out, at),

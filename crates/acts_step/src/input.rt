@@ -24,7 +24,12 @@ pub fn end_line(index: &mut [u8], line: &[u8], out: &mut [u8], s: Progress) -> P
         };
     }
     let end = step(index, s.d, s.number, line, out, s.end);
-    Progress { number: s.number + 1, held: 0, end, ..s }
+    Progress {
+        number: s.number + 1,
+        held: 0,
+        end,
+        ..s
+    }
 }
 
 // Takes the chunk's bytes into the current line, up to a newline or the chunk's end. A line that ends there is done.
@@ -41,7 +46,11 @@ pub fn take_line(
 {
     let fed = feed(held, s.held, chunk, s.at);
     let n = fed.held;
-    let t = Progress { held: n, at: fed.at, ..s };
+    let t = Progress {
+        held: n,
+        at: fed.at,
+        ..s
+    };
     if !fed.ended {
         return t;
     }

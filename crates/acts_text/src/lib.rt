@@ -38,6 +38,7 @@ impl TryFrom<u32> for Act {
 }
 
 // What a readable line of values says. Slots past d hold 0.
+// Kept: d beside an array, as there is no heap.
 #[derive(Clone, Copy)]
 pub struct ActLine {
     pub act: Act,
@@ -50,6 +51,7 @@ pub struct ActLine {
 }
 
 // How far a chunk of input took the current line, and whether the line has ended there.
+// Kept: the flag guards no field, as held and at say the same either way.
 #[derive(Clone, Copy)]
 pub struct Fed {
     pub ended: bool,

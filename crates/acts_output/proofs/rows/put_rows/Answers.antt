@@ -1,4 +1,4 @@
-use Rattle.std.proofs.Common.{sym, ◌∙◌, arith}
+use Rattle.std.proofs.Common.{arith}
 use Rattle.acts_output.proofs.PutLaws.{rows_start, rows_turn, rows_done}
 use Rattle.acts_output.proofs.rows.put_rows.Goals as goal
 
