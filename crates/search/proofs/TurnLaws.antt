@@ -20,11 +20,11 @@ use Rattle.search_rows.specs.Rows.{row_order}
 use Rattle.search_rows.specs.Held.{rows_in, behind_all, Held}
 use Rattle.search_rows.proofs.HeldLaws.{behind_exceeds}
 use Rattle.search_model.specs.declared.Choice.{Choice}
-use Rattle.search_model.specs.Asked.{Asked, asking}
+use Rattle.search_model.specs.Asked.{Seekable, Asked, asking}
 use Rattle.search_model.specs.Branches.{Branch, branch_bound, before, is_leaf, branches, opened, kids, root_branch, rows_among, rows_at, page_in}
 use Rattle.search_frontier.specs.Keys.{key_of, bound_in, place_in, level_in, number_in, branch_in, frontier}
 use Rattle.search_model.specs.Visit.{ranking, Answer, answer_of, room, visited}
-use Rattle.search_frontier.specs.Opening.{Tabled, Opens, Opened}
+use Rattle.search_frontier.specs.Opening.{Opens, Opened}
 use Rattle.search_leaves.specs.Offering.{OfferedAll}
 use Rattle.search.specs.Steps.{Visits, Visited, Turns, first_slot, Goes, Ends, spent, empty, far, full}
 use Rattle.tree.proofs.CountLaws.{items_length}
@@ -40,8 +40,8 @@ abbrev after : ℕ → Outcome Row Branch → Answer
 after m o = record { rows = o.rows; leaves = m + length o.read }
 
 -- n branches are in the heap, `rows` rows are held, `leaves` leaves have been read; `steps` steps are left
-pub record Visiting (index asked near whole : List ℕ) (k : ℕ) (choice : Choice) (slots₀ highs₀ lows₀ slots highs lows : List ℕ) (n rows leaves steps : ℕ) : Type 0 where
-  pub tables : Tabled asked near whole
+pub record Visiting (index asked : List ℕ) (k : ℕ) (choice : Choice) (slots₀ highs₀ lows₀ slots highs lows : List ℕ) (n rows leaves steps : ℕ) : Type 0 where
+  pub seekable : Seekable asked
   pub one : 1 ≤ k
   pub size : length slots ≡ room index
   pub lengths : length slots ≡ length slots₀
@@ -65,17 +65,17 @@ unfolding sort insert_by
 one_held [] x h = absurd (omega arith)
 one_held (y ∷ ys) x h = refl
 
-pub visiting_start : (index asked near whole : List ℕ) (unweighted : Bool) (k : ℕ) (choice : Choice) (slots highs lows : List ℕ) (key m : ℕ) → Visits index asked near whole unweighted k slots highs lows → key ≡ key_of (root_branch index) → m ≡ pages_in index
-    → Visiting index asked near whole k choice (set slots 0 key) highs lows (set slots 0 key) highs lows 1 0 0 (2 * m)
+pub visiting_start : (index asked near whole : List ℕ) (k : ℕ) (choice : Choice) (slots highs lows : List ℕ) (key m : ℕ) → Visits index asked near whole k slots highs lows → key ≡ key_of (root_branch index) → m ≡ pages_in index
+    → Visiting index asked k choice (set slots 0 key) highs lows (set slots 0 key) highs lows 1 0 0 (2 * m)
 unfolding visited
-visiting_start index asked near whole unweighted k choice slots highs lows key m v e g =
+visiting_start index asked near whole k choice slots highs lows key m v e g =
     let q = asking asked k choice in
     let s : 1 ≤ length slots = omega (arith, v.room, room_some index) in
     let o : held 1 (set slots 0 key) ≡ key ∷ [] = one_held slots key s in
     let l : length (set slots 0 key) ≡ length slots = length-set slots 0 key in
     let b : branch_in key ≡ root_branch index = ap branch_in e ∙ key_back (root_branch index) (omega arith) v.low (page_small index (field_at root index)) in
     record {
-      tables = v.tables;
+      seekable = v.seekable;
       one = v.one;
       size = l ∙ v.room;
       lengths = refl;
@@ -104,8 +104,8 @@ ended index q highs lows rows leaves o e h a =
     let z : leaves + 0 ≡ leaves = omega arith in
     record { held = h; answer = (λ i. record { rows = rows_in highs lows rows; leaves = sym z i }) ∙ sym (ap (after leaves) e) ∙ a }
 
-module _ (index asked table whole : List ℕ) (k : ℕ) (choice : Choice) (slots₀ highs₀ lows₀ slots highs lows : List ℕ) (n rows leaves steps : ℕ)
-    (v : Visiting index asked table whole k choice slots₀ highs₀ lows₀ slots highs lows n rows leaves steps) where
+module _ (index asked : List ℕ) (k : ℕ) (choice : Choice) (slots₀ highs₀ lows₀ slots highs lows : List ℕ) (n rows leaves steps : ℕ)
+    (v : Visiting index asked k choice slots₀ highs₀ lows₀ slots highs lows n rows leaves steps) where
   abbrev q : Asked
   q = asking asked k choice
 
@@ -182,7 +182,7 @@ module _ (index asked table whole : List ℕ) (k : ℕ) (choice : Choice) (slots
     pub visiting_leaf : (highs' lows' : List ℕ) (level place page r : ℕ) → level ≡ level_in key → place ≡ place_in key → page ≡ number_in key → level ≡ 0
         → OfferedAll highs lows rows k (rows_among q place (records_in (leaf_at index page))) r highs' lows'
         → length highs' ≡ length highs → length lows' ≡ length lows
-        → Visiting index asked table whole k choice slots₀ highs₀ lows₀ slots' highs' lows' (n - 1) r (leaves + 1) (steps - 1)
+        → Visiting index asked k choice slots₀ highs₀ lows₀ slots' highs' lows' (n - 1) r (leaves + 1) (steps - 1)
     unfolding branch_in
     visiting_leaf highs' lows' l place page r sl sp sg z offers lh ll =
         let x : Branch = branch_in key in
@@ -195,7 +195,7 @@ module _ (index asked table whole : List ℕ) (k : ℕ) (choice : Choice) (slots
         let out = seek_on index q (steps - 1) rest (rows_in highs' lows' r) in
         let c : leaves + length (x ∷ out.read) ≡ leaves + 1 + length out.read = omega arith in
         record {
-          tables = v.tables;
+          seekable = v.seekable;
           one = v.one;
           size = kept ∙ v.size;
           lengths = kept ∙ v.lengths;
@@ -215,14 +215,14 @@ module _ (index asked table whole : List ℕ) (k : ℕ) (choice : Choice) (slots
       open_room = rw (sg, p.top, kept) (g.room (rw p.top at inner_key))
 
       -- an inner page can be opened
-      pub visiting_opens : Opens slots' (n - 1) index asked table whole (level - 1) place page
+      pub visiting_opens : Opens slots' (n - 1) index asked (level - 1) place page
       visiting_opens =
           let f = sl in
-          record { tables = v.tables; low = omega arith; first = omega (arith, sp); heap = p.heap; room = omega (arith, open_room) }
+          record { seekable = v.seekable; low = omega arith; first = omega (arith, sp); heap = p.heap; room = omega (arith, open_room) }
 
       -- an inner page has been opened
       pub visiting_open : (slots'' : List ℕ) (r : ℕ) → Opened slots' (n - 1) index q (level - 1) place page r slots'' → length slots'' ≡ length slots'
-          → Visiting index asked table whole k choice slots₀ highs₀ lows₀ slots'' highs lows r rows leaves (steps - 1)
+          → Visiting index asked k choice slots₀ highs₀ lows₀ slots'' highs lows r rows leaves (steps - 1)
       unfolding branch_in
       visiting_open slots'' r o l =
           let rest : List Branch = frontier (n - 1) slots' in
@@ -233,7 +233,7 @@ module _ (index asked table whole : List ℕ) (k : ℕ) (choice : Choice) (slots
           rw (← v.size, ← kept) (let a = kids_room key (held (n - 1) slots') p.least g.left near inner_key in let b = rw sg at open_room in omega arith) in
           let e = seek_open ranking branch_bound (rows_at index q) before is_leaf (kids index q) q.k (room index) (steps - 1) (branch_in key) rest here near (not_leaf key (held (n - 1) slots') p.least g.left near inner_key) fits in
           record {
-            tables = v.tables;
+            seekable = v.seekable;
             one = v.one;
             size = l ∙ kept ∙ v.size;
             lengths = l ∙ kept ∙ v.lengths;

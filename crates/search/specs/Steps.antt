@@ -6,18 +6,17 @@ use Rattle.search_rows.specs.Held.{rows_in, behind_all, Held}
 use Rattle.search.specs.declared.Query.{Query}
 use Rattle.search.specs.declared.Seen.{Seen}
 use Rattle.search_frontier.specs.Keys.{bound_in, level_in, number_in}
-use Rattle.search_frontier.specs.Opening.{Tabled}
+use Rattle.geometry_bounds.specs.Bounds.{Ready}
 use Rattle.search_model.specs.Numbers.{max_level}
 use Rattle.search_model.specs.Asked.{Seekable, Asked, Askable, asking}
 use Rattle.search_model.specs.Visit.{full_room, Answer, answer_of, room, visited, found}
 use Rattle.search_model.specs.Questions.{answer_due, unread_pages, AgreeBut}
 use Rattle.geometry.specs.Numbers.{max_features}
-use Rattle.geometry_slices.specs.Questions.{Unweighted}
 
 -- what a visit is lent: room for branches and for k rows
-pub record Visits (index asked near whole : List ℕ) (unweighted : Bool) (k : ℕ) (slots highs lows : List ℕ) : Type 0 where
-  pub tables : Tabled asked near whole
-  pub flag : unweighted ≡ true → Unweighted asked
+pub record Visits (index asked near whole : List ℕ) (k : ℕ) (slots highs lows : List ℕ) : Type 0 where
+  pub seekable : Seekable asked
+  pub ready : Ready asked near whole
   pub low : field_at level index ≤ max_level
   pub one : 1 ≤ k
   pub room : length slots ≡ room index

@@ -15,6 +15,7 @@ use geometry_bounds::bounds::prepare;
 use geometry_slices::asked::is_unweighted;
 use geometry_slices::{ASKED_PLACES, NEAR_PLACES, REACHES_FROM, WHOLE_PLACES};
 use pagestore::total_records;
+use search_leaves::Sought;
 use search_model::{
     Choice, FEW_RECORDS, FULL_ROOM, LARGE_ROOM, MANY_RECORDS, MIDDLE_ROOM, SMALL_ROOM, SOME_RECORDS,
 };
@@ -57,10 +58,13 @@ fn search_with<const ROOM: usize>(
     let mut near = [0u16; NEAR_PLACES];
     let mut whole = [0u64; WHOLE_PLACES];
     prepare(asked, &mut near, &mut whole);
-    let unweighted = is_unweighted(asked);
-    best_first(
-        index, asked, &near, &whole, unweighted, k, choice, &mut slots, highs, lows,
-    )
+    let sought = Sought {
+        asked,
+        unweighted: is_unweighted(asked),
+        k,
+        choice,
+    };
+    best_first(index, &sought, &near, &whole, &mut slots, highs, lows)
 }
 
 // The search of any index. One of few records gets little room: clearing more would take most of its search's time.

@@ -11,10 +11,10 @@ ghost use Rattle.pagestore_page.specs.Layout.{max_items};
 
 use crate::Seen;
 use pagestore::{count_at, page_count, root_level, root_page, total_records};
-use search_frontier::{bound_in, key_of, level_in, open_page, page_in, page_of, place_in};
+use search_frontier::{Tables, bound_in, key_of, level_in, open_page, page_in, page_of, place_in};
 use search_heap::pop;
-use search_leaves::{filled, visit_leaf};
-use search_model::{Choice, MAX_LEVEL};
+use search_leaves::{Sought, filled, visit_leaf};
+use search_model::MAX_LEVEL;
 use search_rows::behind;
 
 // Whether nothing is read: there are no records, or the root's level is that of no sound index.
@@ -66,26 +66,28 @@ fn goes_on(
 // Kept: a `while`, since the frontier grows as it is emptied, and the rows held decide with it when the visit ends.
 pub fn best_first(
     index: &[u8],
-    asked: &[u16],
+    sought: &Sought,
     near: &[u16],
     whole: &[u64],
-    unweighted: bool,
-    k: usize,
-    choice: Choice,
     slots: &mut [u64],
     highs: &mut [u64],
     lows: &mut [u64],
 ) -> Seen
-    requires { Visits index.now asked.now near.now whole.now unweighted k slots.old highs.old lows.old }
-    ensures { Visited index.now (asking asked.now k choice)
+    requires { Visits index.now sought.now.asked.now near.now whole.now sought.now.k slots.old highs.old lows.old }
+    ensures { Visited index.now (asking sought.now.asked.now sought.now.k sought.now.choice)
         highs.new lows.new result }
 {
+    let tables = Tables {
+        asked: sought.asked,
+        near,
+        whole,
+    };
     slots[0] = root_key(index);
     let mut n = 1;
     let mut rows = 0;
     let mut leaves = 0;
     let mut steps = 2 * page_count(index);
-    while goes_on(index, slots, n, highs, rows, k, steps) {
+    while goes_on(index, slots, n, highs, rows, sought.k, steps) {
         steps -= 1;
         let key = pop(slots, n);
         n -= 1;
@@ -93,12 +95,10 @@ pub fn best_first(
         let page = page_in(key);
         let place = place_in(key);
         if level == 0 {
-            rows = visit_leaf(
-                index, page, asked, unweighted, place, highs, lows, rows, k, choice,
-            );
+            rows = visit_leaf(index, page, sought, place, highs, lows, rows);
             leaves += 1;
         } else {
-            n = open_page(slots, n, index, asked, near, whole, level - 1, place, page);
+            n = open_page(slots, n, index, &tables, level - 1, place, page);
         }
     }
     Seen { rows, leaves }

@@ -21,7 +21,7 @@ use Rattle.search_model.specs.Asked.{span_bound, asking}
 use Rattle.search_model.specs.Branches.{Branch, last_place, before, page_in, branch_of, branches}
 use Rattle.search_frontier.specs.Keys.{key_of, branch_in, most_bound, frontier}
 use Rattle.search_model.specs.Asked.{low_ends, weights_in, Seekable}
-use Rattle.search_frontier.specs.Opening.{Tabled, SpanBound, EntryKey, Opens, Opened}
+use Rattle.search_frontier.specs.Opening.{SpanBound, EntryKey, Opens, Opened}
 use Rattle.search_model.proofs.RecordLaws.{in_range_law}
 use Rattle.tree.proofs.CountLaws.{items_length, items_next, items_end, inner_slots}
 use Rattle.search_frontier.proofs.KeyLaws.{page_small}
@@ -47,11 +47,10 @@ pub entry_key_is : (index asked : List ℕ) (l at : ℕ) (e : Entry) (b p g r : 
 entry_key_is index asked l at e b p g r s x y h = λ k choice. h ∙ (λ i. key_of (record { bound = s.is k choice i; place = y i; level = l; page = x i }))
 
 -- entry i of an inner page is next, its first leaf at position `at`; `here` branches are in the heap, of which n were there before
-pub record Opening (slots₀ : List ℕ) (n : ℕ) (index asked near whole : List ℕ) (level place page : ℕ) (inner : Inner) (count : ℕ) (slots : List ℕ) (here at i : ℕ) : Type 0 where
+pub record Opening (slots₀ : List ℕ) (n : ℕ) (index asked : List ℕ) (level place page : ℕ) (inner : Inner) (count : ℕ) (slots : List ℕ) (here at i : ℕ) : Type 0 where
   pub few : i ≤ count
   pub is : inner ≡ inner_at index page
   pub number : count ≡ min inner.count 16
-  pub tables : Tabled asked near whole
   pub low : level ≤ 3
   pub first : place ≤ last_place
   pub places : at ≤ place + i * 16 ^ level
@@ -62,16 +61,15 @@ pub record Opening (slots₀ : List ℕ) (n : ℕ) (index asked near whole : Lis
   pub same : (k : ℕ) (choice : Choice)
       → insert_all before (branches index (asking asked k choice) level at (drop i (entries_in inner))) (frontier here slots) ≡ insert_all before (branches index (asking asked k choice) level place (entries_in inner)) (frontier n slots₀)
 
-pub opening_start : (slots : List ℕ) (n : ℕ) (index asked near whole : List ℕ) (level place page : ℕ) (inner : Inner) (count : ℕ) → Opens slots n index asked near whole level place page
-    → inner ≡ inner_at index page → count ≡ min inner.count 16 → Opening slots n index asked near whole level place page inner count slots n place 0
-opening_start slots n index asked near whole level place page inner count o is number =
+pub opening_start : (slots : List ℕ) (n : ℕ) (index asked : List ℕ) (level place page : ℕ) (inner : Inner) (count : ℕ) → Opens slots n index asked level place page
+    → inner ≡ inner_at index page → count ≡ min inner.count 16 → Opening slots n index asked level place page inner count slots n place 0
+opening_start slots n index asked level place page inner count o is number =
     let l : length (entries_in inner) ≡ min inner.count 16 = items_length inner.count inner.entries (inner_slots index level page inner is count number) in
     let m : length (entries_in (inner_at index page)) ≡ length (entries_in inner) = ap (λ (x : Inner). length (entries_in x)) (sym is) in
     record {
       few = omega arith;
       is = is;
       number = number;
-      tables = o.tables;
       low = o.low;
       first = o.first;
       places = omega arith;
@@ -82,8 +80,8 @@ opening_start slots n index asked near whole level place page inner count o is n
       same = λ k choice. refl;
     }
 
-module _ (slots₀ : List ℕ) (n : ℕ) (index asked near whole : List ℕ) (level place page : ℕ) (inner : Inner) (count : ℕ) (slots : List ℕ) (here at i : ℕ)
-    (o : Opening slots₀ n index asked near whole level place page inner count slots here at i) where
+module _ (slots₀ : List ℕ) (n : ℕ) (index asked : List ℕ) (level place page : ℕ) (inner : Inner) (count : ℕ) (slots : List ℕ) (here at i : ℕ)
+    (o : Opening slots₀ n index asked level place page inner count slots here at i) where
   -- positions stay small
   pub opening_places : i < count → at + 16 ^ level ≤ 73728
   opening_places h =
@@ -99,7 +97,7 @@ module _ (slots₀ : List ℕ) (n : ℕ) (index asked near whole : List ℕ) (le
 
   pub opening_next : (d : Entry) (key c r : ℕ) (slots' : List ℕ) → i < count → ((k : ℕ) (choice : Choice) → key ≡ key_of (branch_of index (asking asked k choice) level at (get_or inner.entries i d))) → Pushed here key slots r slots'
       → length slots' ≡ length slots → c ≡ leaf_count level index (get_or inner.entries i d).child → c ≤ 16 ^ level
-      → Opening slots₀ n index asked near whole level place page inner count slots' r (at + c) (i + 1)
+      → Opening slots₀ n index asked level place page inner count slots' r (at + c) (i + 1)
   unfolding branches insert_all
   opening_next d key c r slots' h e p l f g =
       let z = p.room (opening_room h) in
@@ -110,7 +108,6 @@ module _ (slots₀ : List ℕ) (n : ℕ) (index asked near whole : List ℕ) (le
         few = omega arith;
         is = o.is;
         number = o.number;
-        tables = o.tables;
         low = o.low;
         first = o.first;
         places = let q = o.places in omega arith;

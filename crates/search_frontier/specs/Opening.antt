@@ -1,7 +1,6 @@
 -- What opening an inner page does to the frontier.
 use Rattle.std.specs.Prelude.{◌≡◌, List, ℕ, ◌+◌, ◌≤◌, length}
 use Rattle.lists.specs.Sorting.{insert_all}
-use Rattle.geometry_bounds.specs.Bounds.{Ready}
 use Rattle.pagestore_page.specs.declared.Entry.{Entry}
 use Rattle.pagestore.specs.Store.{inner_at, entries_in}
 use Rattle.search_heap.specs.Heap.{Heap}
@@ -9,11 +8,6 @@ use Rattle.search_model.specs.declared.Choice.{Choice}
 use Rattle.search_model.specs.Asked.{Seekable, Asked, span_bound, asking}
 use Rattle.search_model.specs.Branches.{last_place, before, branch_of, branches}
 use Rattle.search_frontier.specs.Keys.{key_of, most_bound, frontier}
-
--- a question that can be searched for, and its tables
-pub record Tabled (asked near whole : List ℕ) : Type 0 where
-  pub seekable : Seekable asked
-  pub ready : Ready asked near whole
 
 -- the bound of an entry's span, however many rows are asked for and of whichever records
 pub record SpanBound (asked : List ℕ) (e : Entry) (r : ℕ) : Type 0 where
@@ -25,8 +19,8 @@ abbrev pub EntryKey : List ℕ → List ℕ → ℕ → ℕ → Entry → ℕ �
 EntryKey index asked l at e r = (k : ℕ) (c : Choice) → r ≡ key_of (branch_of index (asking asked k c) l at e)
 
 -- a frontier of n branches with room for those of an inner page, whose children are of a level and begin at a position
-pub record Opens (slots : List ℕ) (n : ℕ) (index asked near whole : List ℕ) (level place page : ℕ) : Type 0 where
-  pub tables : Tabled asked near whole
+pub record Opens (slots : List ℕ) (n : ℕ) (index asked : List ℕ) (level place page : ℕ) : Type 0 where
+  pub seekable : Seekable asked
   pub low : level ≤ 3
   pub first : place ≤ last_place
   pub heap : Heap n slots

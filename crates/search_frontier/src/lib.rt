@@ -5,10 +5,11 @@ ghost use Rattle.std.specs.Prelude.{◌≡◌, ◌≤◌, ◌<◌, min};
 ghost use Rattle.search_model.specs.Numbers.{max_level};
 ghost use Rattle.search_model.specs.Branches.{last_place, page_in};
 ghost use Rattle.search_frontier.specs.Keys.{bound_in, place_in, level_in, number_in, key_of, Fits};
-ghost use Rattle.search_frontier.specs.Opening.{Tabled, SpanBound, EntryKey, Opens, OpenedAny};
+ghost use Rattle.geometry_bounds.specs.Bounds.{Ready};
+ghost use Rattle.search_model.specs.Asked.{Seekable};
+ghost use Rattle.search_frontier.specs.Opening.{SpanBound, EntryKey, Opens, OpenedAny};
 ghost use Rattle.pagestore.specs.Store.{max_pages};
 
-use geometry::{Key, Pair};
 use geometry_bounds::bounds::bound;
 use pagestore::{Entry, MAX_PAGES, count_at, entry_at, in_range};
 use search_heap::push;
@@ -73,42 +74,39 @@ fn place_of(at: usize) -> usize
     at.min(LAST_PLACE)
 }
 
-// The pair of a key.
-// Kept: a function, since `From<Key> for Pair` could stand only in geometry, whose types both are.
-fn pair_of(key: Key) -> Pair
-    ensures { (result.pyramid.0 ≡ key.pyramid.0) × (result.height.0 ≡ key.height.0) }
-{
-    let pyramid = key.pyramid;
-    let height = key.height;
-    Pair { pyramid, height }
+// A question and its tables.
+#[derive(Clone, Copy)]
+pub struct Tables<'a> {
+    pub asked: &'a [u16],
+    pub near: &'a [u16],
+    pub whole: &'a [u64],
+    ghost ready: { Ready asked.now near.now whole.now },
 }
 
-// The bound of an entry's span.
-fn span_bound(asked: &[u16], near: &[u16], whole: &[u64], entry: Entry) -> u64
-    requires { Tabled asked.now near.now whole.now }
-    ensures { SpanBound asked.now entry result }
-{
-    let first = pair_of(entry.first);
-    let last = pair_of(entry.last);
-    bound(asked, near, whole, first, last)
-}
+impl<'a> Tables<'a> {
+    // The bound of an entry's span.
+    fn span_bound(&self, entry: Entry) -> u64
+        requires { Seekable self.now.asked.now }
+        ensures { SpanBound self.now.asked.now entry result }
+    {
+        bound(
+            self.asked,
+            self.near,
+            self.whole,
+            entry.first.pair(),
+            entry.last.pair(),
+        )
+    }
 
-// The key of the branch of an entry, whose child has a level and whose first leaf a place.
-fn entry_key(
-    index: &[u8],
-    asked: &[u16],
-    near: &[u16],
-    whole: &[u64],
-    entry: Entry,
-    level: usize,
-    at: usize,
-) -> u64
-    requires { Tabled asked.now near.now whole.now × (level ≤ max_level) }
-    ensures { EntryKey index.now asked.now level at entry result }
-{
-    let bound = span_bound(asked, near, whole, entry);
-    let page = page_of(index, entry.child);
-    key_of(bound, place_of(at), level, page)
+    // The key of the branch of an entry, whose child has a level and whose first leaf a place.
+    fn entry_key(&self, index: &[u8], entry: Entry, level: usize, at: usize) -> u64
+        requires { Seekable self.now.asked.now × (level ≤ max_level) }
+        ensures { EntryKey index.now self.now.asked.now level at entry result }
+    {
+        let bound = self.span_bound(entry);
+        let page = page_of(index, entry.child);
+        key_of(bound, place_of(at), level, page)
+    }
 }
 
 // Opens an inner page: puts the branches of its entries into the frontier of n branches. Their children have a level, and
@@ -117,15 +115,13 @@ pub fn open_page(
     slots: &mut [u64],
     n: usize,
     index: &[u8],
-    asked: &[u16],
-    near: &[u16],
-    whole: &[u64],
+    tables: &Tables,
     level: usize,
     place: u32,
     page: u32,
 ) -> usize
-    requires { Opens slots.old n index.now asked.now near.now whole.now level place page }
-    ensures { OpenedAny slots.old n index.now asked.now level place page result
+    requires { Opens slots.old n index.now tables.now.asked.now level place page }
+    ensures { OpenedAny slots.old n index.now tables.now.asked.now level place page result
         slots.new }
 {
     let count = filled(count_at(index, page) as usize);
@@ -133,7 +129,7 @@ pub fn open_page(
     let mut at = place as usize;
     for i in 0..count {
         let entry = entry_at(index, page, i);
-        let key = entry_key(index, asked, near, whole, entry, level, at);
+        let key = tables.entry_key(index, entry, level, at);
         held = push(slots, held, key);
         at += leaf_count(index, level, entry.child);
     }

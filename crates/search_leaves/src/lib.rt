@@ -197,41 +197,47 @@ fn offer_leaf(
     offer_weighted(page, q, weights, position, highs, lows, n, k, choice)
 }
 
+// What is sought: a question laid out as one list, whether each of its weights is 1, how many rows, and of which records.
+#[derive(Clone, Copy)]
+pub struct Sought<'a> {
+    pub asked: &'a [u16],
+    pub unweighted: bool,
+    pub k: usize,
+    pub choice: Choice,
+    ghost flag: { unweighted ≡ true → Unweighted asked.now },
+}
+
 // Reads the leaf at a page and offers its records; a number that is no page's has none.
 pub fn visit_leaf(
     index: &[u8],
     page: u32,
-    asked: &[u16],
-    unweighted: bool,
+    sought: &Sought,
     position: u32,
     highs: &mut [u64],
     lows: &mut [u64],
     n: usize,
-    k: usize,
-    choice: Choice,
 ) -> usize
-    requires { Seekable asked.now × (unweighted ≡ true → Unweighted asked.now) × (position < positions)
-        × Held highs.old lows.old n k }
-    ensures { OfferedLeaf index.now page asked.now position highs.old lows.old
-        n k choice result highs.new lows.new }
+    requires { Seekable sought.now.asked.now × (position < positions) × Held highs.old lows.old n sought.now.k }
+    ensures { OfferedLeaf index.now page sought.now.asked.now position highs.old lows.old
+        n sought.now.k sought.now.choice result highs.new lows.new }
 {
     if !in_range(index, page) {
         return n;
     }
     let at = page as usize * PAGE_SIZE;
     let end = at + PAGE_SIZE;
-    let d = asked.len() - REACHES_FROM;
+    let d = sought.asked.len() - REACHES_FROM;
     let last = WEIGHTS_FROM + d;
     offer_leaf(
         &index[at..end],
-        &asked[..d],
-        &asked[WEIGHTS_FROM..last],
-        unweighted,
+        &sought.asked[..d],
+        &sought.asked[WEIGHTS_FROM..last],
+        sought.unweighted,
         position,
         highs,
         lows,
         n,
-        k,
-        choice,
+        sought.k,
+        sought.choice,
     )
 }

@@ -8,8 +8,11 @@ use Rattle.search.proofs.search_with.Goals as goal
 pub prepare-requires : goal.prepare-requires
 prepare-requires g c = preparable _ _ _ c.requires.looks.seekable (search rules) (search rules)
 
-pub is_unweighted-unweighted-requires : goal.is_unweighted-unweighted-requires
-is_unweighted-unweighted-requires g c = c.requires.looks.seekable.packed
+pub is_unweighted-requires : goal.is_unweighted-requires
+is_unweighted-requires g c = c.requires.looks.seekable.packed
+
+pub invariant_of-sought : goal.invariant_of-sought
+invariant_of-sought g c = record { flag = c.is_unweighted.ensures.0 }
 
 pub whole_as_slice-best_first : goal.whole_as_slice-best_first
 whole_as_slice-best_first g c = let r = room_most c.args.index.now in let e = c.requires.room in omega arith
@@ -18,8 +21,8 @@ pub best_first-requires : goal.best_first-requires
 best_first-requires g c =
     let L = c.requires.looks in
     record {
-      tables = record { seekable = L.seekable; ready = c.prepare.ensures };
-      flag = c.is_unweighted-unweighted.ensures.0;
+      seekable = L.seekable;
+      ready = c.prepare.ensures;
       low = level_low c.args.index.now c.requires.some;
       one = L.one;
       room = search rules;

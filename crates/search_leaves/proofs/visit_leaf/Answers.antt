@@ -20,7 +20,7 @@ part_length b p e =
 pub returns-then-not-in_range : goal.returns-then-not-in_range
 returns-then-not-in_range c =
     let S = c in
-    offered_outside S.args.index.now S.args.page (asking S.args.asked.now S.args.k S.args.choice) S.args.position _ _ _ _ (sym c.in_range.ensures ∙ c.if-not-in_range.true) S.requires.3
+    offered_outside S.args.index.now S.args.page (asking S.args.sought.now.asked.now S.args.sought.now.k S.args.sought.now.choice) S.args.position _ _ _ _ (sym c.in_range.ensures ∙ c.if-not-in_range.true) S.requires.2
 
 pub slice_bounds-offer_leaf-end : goal.slice_bounds-offer_leaf-end
 slice_bounds-offer_leaf-end c = let S = c in omega (arith, range_whole S.args.index.now S.args.page (sym c.in_range.ensures ∙ c.if-not-in_range.false))
@@ -30,13 +30,13 @@ slice_bounds-offer_leaf-end-2 c = sym (length-take-le _ _ (omega arith))
 
 pub offer_leaf-requires : goal.offer_leaf-requires
 offer_leaf-requires c =
-    let S = c in let asked = S.args.asked.now in (
-      record { bytes = part_length S.args.index.now S.args.page (sym c.in_range.ensures ∙ c.if-not-in_range.false); point = rw (same-part asked) S.requires.0.point; placed = S.requires.2; held = S.requires.3 },
-      λ e. same-part asked ∙ ones_in asked S.requires.0 (S.requires.1 e),
+    let S = c in let asked = S.args.sought.now.asked.now in (
+      record { bytes = part_length S.args.index.now S.args.page (sym c.in_range.ensures ∙ c.if-not-in_range.false); point = rw (same-part asked) S.requires.0.point; placed = S.requires.1; held = S.requires.2 },
+      λ e. same-part asked ∙ ones_in asked S.requires.0 (S.args.sought.now.flag e),
     )
 
 pub returns : goal.returns
 returns c =
     let S = c in
-    offered_part S.args.index.now S.args.page S.args.asked.now _ S.args.position _ _ _ _ _ _ _ _ (sym c.in_range.ensures ∙ c.if-not-in_range.false) S.requires.0
-    (same-part S.args.asked.now) c.offer_leaf.ensures
+    offered_part S.args.index.now S.args.page S.args.sought.now.asked.now _ S.args.position _ _ _ _ _ _ _ _ (sym c.in_range.ensures ∙ c.if-not-in_range.false) S.requires.0
+    (same-part S.args.sought.now.asked.now) c.offer_leaf.ensures

@@ -10,27 +10,27 @@ bounds-slots-0 c = let S = (c) in let r = S.requires.room in let s = room_some S
 pub overflow_mul-steps : goal.overflow_mul-steps
 overflow_mul-steps c = let e = c.page_count-steps.ensures in let f = pages_few c.args.index.now in omega arith
 
-pub loop-choice-init : goal.loop-choice-init
-loop-choice-init c = visiting_start _ _ _ _ _ _ _ _ _ _ _ _ c.requires c.root_key.ensures c.page_count-steps.ensures
+pub loop-tables-init : goal.loop-tables-init
+loop-tables-init c = visiting_start _ _ _ _ _ c.args.sought.now.choice _ _ _ _ _ c.requires c.root_key.ensures c.page_count-steps.ensures
 
 pub goes_on-requires : goal.goes_on-requires
-goes_on-requires c = visiting_turns _ _ _ _ _ _ _ _ _ _ _ _ _ _ _ _ c.loop-choice.invariant
+goes_on-requires c = visiting_turns _ _ _ _ _ _ _ _ _ _ _ _ _ _ c.loop-tables.invariant
 
 pub visit_leaf-rows-requires : goal.visit_leaf-rows-requires
-visit_leaf-rows-requires c = let v = c.loop-choice.invariant in (v.tables.seekable, c.requires.flag, omega (arith, c.place_in-place.ensures), v.holds)
+visit_leaf-rows-requires c = (c.requires.seekable, omega (arith, c.place_in-place.ensures), c.loop-tables.invariant.holds)
 
-pub loop-choice-preserved-then-level-eq0 : goal.loop-choice-preserved-then-level-eq0
-loop-choice-preserved-then-level-eq0 c = let P = c.pop-key in let W = c.visit_leaf-rows in
-    visiting_leaf _ _ _ _ _ _ _ _ _ _ _ _ _ _ _ _ c.loop-choice.invariant (c.goes_on.ensures.goes c.loop-choice-test.true) _ _ P.ensures P.auto.a
+pub loop-tables-preserved-then-level-eq0 : goal.loop-tables-preserved-then-level-eq0
+loop-tables-preserved-then-level-eq0 c = let P = c.pop-key in let W = c.visit_leaf-rows in
+    visiting_leaf _ _ _ _ _ _ _ _ _ _ _ _ _ _ c.loop-tables.invariant (c.goes_on.ensures.goes c.loop-tables-test.true) _ _ P.ensures P.auto.a
     _ _ _ _ _ _ c.level_in-level.ensures c.place_in-place.ensures c.page_in-page.ensures c.if-level-eq0.true W.ensures W.auto.highs W.auto.lows
 
 pub open_page-n-requires : goal.open_page-n-requires
 open_page-n-requires c = let P = c.pop-key in
-    visiting_opens _ _ _ _ _ _ _ _ _ _ _ _ _ _ _ _ c.loop-choice.invariant (c.goes_on.ensures.goes c.loop-choice-test.true) _ _ P.ensures P.auto.a _ _ _ c.level_in-level.ensures c.place_in-place.ensures c.page_in-page.ensures c.if-level-eq0.false
+    visiting_opens _ _ _ _ _ _ _ _ _ _ _ _ _ _ c.loop-tables.invariant (c.goes_on.ensures.goes c.loop-tables-test.true) _ _ P.ensures P.auto.a _ _ _ c.level_in-level.ensures c.place_in-place.ensures c.page_in-page.ensures c.if-level-eq0.false
 
-pub loop-choice-preserved : goal.loop-choice-preserved
-loop-choice-preserved c = let P = c.pop-key in let O = c.open_page-n in
-    visiting_open _ _ _ _ _ _ _ _ _ _ _ _ _ _ _ _ c.loop-choice.invariant (c.goes_on.ensures.goes c.loop-choice-test.true) _ _ P.ensures P.auto.a _ _ _ c.level_in-level.ensures c.place_in-place.ensures c.page_in-page.ensures c.if-level-eq0.false _ _ (O.ensures _ _) O.auto.slots
+pub loop-tables-preserved : goal.loop-tables-preserved
+loop-tables-preserved c = let P = c.pop-key in let O = c.open_page-n in
+    visiting_open _ _ _ _ _ _ _ _ _ _ _ _ _ _ c.loop-tables.invariant (c.goes_on.ensures.goes c.loop-tables-test.true) _ _ P.ensures P.auto.a _ _ _ c.level_in-level.ensures c.place_in-place.ensures c.page_in-page.ensures c.if-level-eq0.false _ _ (O.ensures _ _) O.auto.slots
 
 pub returns : goal.returns
-returns c = visiting_ends _ _ _ _ _ _ _ _ _ _ _ _ _ _ _ _ c.loop-choice.invariant (c.goes_on.ensures.ends c.loop-choice-test.false)
+returns c = visiting_ends _ _ _ _ _ _ _ _ _ _ _ _ _ _ c.loop-tables.invariant (c.goes_on.ensures.ends c.loop-tables-test.false)
