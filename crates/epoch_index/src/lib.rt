@@ -10,7 +10,9 @@ ghost use Rattle.index.specs.Changes.{Made, Inserted, Deleted};
 ghost use Rattle.index.specs.CheckAnswers.{CheckAnswer};
 ghost use Rattle.index.specs.Questions.{Questioned};
 
+use index::Checked;
 use index_answer::{Answer, Tally};
+use index_codes::code_of;
 use index_query::Criteria;
 use index_refusals::Epoch;
 use search_rows::Row;
@@ -20,7 +22,7 @@ use search_rows::Row;
 pub extern "C" fn epoch_index_make(index: &mut [u8], features: u8) -> u32
     ensures { Made index.old features result index.new }
 {
-    index::make(index, features)
+    code_of(index::make(index, features))
 }
 
 // Inserts an identifier with its stage, its stamp and its point.
@@ -36,7 +38,7 @@ pub extern "C" fn epoch_index_insert(
         result index.new }
 {
     let epoch = Epoch { id, stage, stamp };
-    index::insert(index, epoch, point)
+    code_of(index::insert(index, epoch, point))
 }
 
 // Deletes the epoch of an identifier.
@@ -44,7 +46,7 @@ pub extern "C" fn epoch_index_insert(
 pub extern "C" fn epoch_index_delete(index: &mut [u8], id: u32) -> u32
     ensures { Deleted index.old id result index.new }
 {
-    index::delete(index, id)
+    code_of(index::delete(index, id))
 }
 
 // Whether an index is sound. The page is written in each case: with 2 it is one at which soundness fails, else 0.
@@ -52,9 +54,9 @@ pub extern "C" fn epoch_index_delete(index: &mut [u8], id: u32) -> u32
 pub extern "C" fn epoch_index_check(index: &[u8], page: &mut u32) -> u32
     ensures { CheckAnswer index.now (record { code = result; page = page.new }) }
 {
-    let checked = index::check(index);
+    let checked = Checked::from(index::check(index));
     *page = checked.page;
-    checked.code as u32
+    checked.code
 }
 
 // The question for the k nearest records of a point among those whose stage is in a set and whose stamp lies in its days: its rows go to those lent, and the
@@ -71,7 +73,7 @@ pub extern "C" fn epoch_index_ask(
     ensures { Questioned index.now (question_of point.now weights.now what)
         rows.old tally.old result rows.new tally.new }
 {
-    index::question(index, point, weights, what, rows, tally)
+    index::question(index, point, weights, what, rows, tally).into()
 }
 
 // Inserts an identifier with its stage, its stamp and its point, without the check.
@@ -87,7 +89,7 @@ pub extern "C" fn epoch_index_trusted_insert(
         result index.new }
 {
     let epoch = Epoch { id, stage, stamp };
-    index_trusted::insert(index, epoch, point)
+    code_of(index_trusted::insert(index, epoch, point))
 }
 
 // Deletes the epoch of an identifier, without the check.
@@ -95,7 +97,7 @@ pub extern "C" fn epoch_index_trusted_insert(
 pub extern "C" fn epoch_index_trusted_delete(index: &mut [u8], id: u32) -> u32
     ensures { TrustedDeleted index.old id result index.new }
 {
-    index_trusted::delete(index, id)
+    code_of(index_trusted::delete(index, id))
 }
 
 // The question without the check.
@@ -111,7 +113,7 @@ pub extern "C" fn epoch_index_trusted_ask(
     ensures { TrustedQuestioned index.now (question_of point.now weights.now what) rows.old
         tally.old result rows.new tally.new }
 {
-    index_trusted::question(index, point, weights, what, rows, tally)
+    index_trusted::question(index, point, weights, what, rows, tally).into()
 }
 
 // Inserts an identifier, which the caller vouches is not live, with its stage, its stamp and its point, without the check.
@@ -127,7 +129,7 @@ pub extern "C" fn epoch_index_vouched_insert(
         result index.new }
 {
     let epoch = Epoch { id, stage, stamp };
-    index_vouched::insert(index, epoch, point)
+    code_of(index_vouched::insert(index, epoch, point))
 }
 
 // Deletes the epoch of an identifier with its point, both told by the caller, without the check.
@@ -135,5 +137,5 @@ pub extern "C" fn epoch_index_vouched_insert(
 pub extern "C" fn epoch_index_vouched_delete(index: &mut [u8], id: u32, point: &[i16]) -> u32
     ensures { VouchedDeleted index.old id point.now result index.new }
 {
-    index_vouched::delete(index, id, point)
+    code_of(index_vouched::delete(index, id, point))
 }

@@ -1,13 +1,14 @@
 // The question: the k nearest of a point, in lent rows, with the caller's tally.
+ghost use Rattle.index_answer.specs.Delivered.{answer_of};
 ghost use Rattle.index_query.specs.Asking.{question_of};
 ghost use Rattle.index_trusted.specs.Questions.{Places};
 ghost use Rattle.index.specs.Questions.{QuestionOutcome, Questioned};
 
 use crate::Returned;
 use crate::checking::refuse_index;
-use index_answer::{Answer, Tally, deliver};
+use index_answer::{Found, Tally, deliver};
+use index_codes::Refusal;
 use index_query::Criteria;
-use index_trusted::refused;
 use search_rows::{MAX_ROWS, Row};
 
 // A question before it is handed over, with so many rows lent: its rows, as upper and lower words, go to two arrays.
@@ -19,15 +20,12 @@ pub fn question_outcome(
     lent: usize,
     highs: &mut [u64],
     lows: &mut [u64],
-) -> Answer
+) -> Result<Found, Refusal>
     requires { Places highs.old lows.old }
     ensures { QuestionOutcome index.now (question_of point.now weights.now what) lent
-        highs.new lows.new result }
+        highs.new lows.new (answer_of result) }
 {
-    let code = refuse_index(index);
-    if code != 0 {
-        return refused(code);
-    }
+    refuse_index(index)?;
     index_trusted::question_outcome(index, point, weights, what, lent, highs, lows)
 }
 
@@ -39,13 +37,13 @@ pub fn question(
     what: Criteria,
     rows: &mut [Row],
     tally: &mut Tally,
-) -> Answer
+) -> Result<Found, Refusal>
     ensures { Questioned index.now (question_of point.now weights.now what)
-        rows.old tally.old result rows.new tally.new }
+        rows.old tally.old (answer_of result) rows.new tally.new }
 {
     let mut highs = [0u64; MAX_ROWS];
     let mut lows = [0u64; MAX_ROWS];
-    let answer = question_outcome(
+    let outcome = question_outcome(
         index,
         point,
         weights,
@@ -54,7 +52,7 @@ pub fn question(
         &mut highs,
         &mut lows,
     );
-    deliver(rows, tally, answer, &highs, &lows)
+    deliver(rows, tally, outcome, &highs, &lows)
 }
 
 // The question for callers that hold 64 rows and a tally by value.
@@ -70,9 +68,9 @@ pub fn ask(
 {
     let mut kept = rows;
     let mut count = tally;
-    let answer = question(index, point, weights, what, &mut kept, &mut count);
+    let outcome = question(index, point, weights, what, &mut kept, &mut count);
     Returned {
-        answer: answer,
+        answer: outcome.into(),
         rows: kept,
         tally: count,
     }

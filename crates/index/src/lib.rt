@@ -12,7 +12,7 @@ mod making;
 mod upkeep;
 
 pub use asking::{ask, question, question_outcome};
-pub use checking::check;
+pub use checking::{Checked, Flaw, check};
 pub use making::make;
 pub use upkeep::{delete, insert};
 

@@ -17,12 +17,6 @@ module _ (hs ls : List ℕ) where
       ap (λ (x : Row). rows_in hs ls i ++ (x ∷ [])) (sym (rows_of_at i hs ls (row_at hs ls i) h g))
       ∙ sym (take-suc (rows_of hs ls) i (row_at hs ls i) (let r = length_rows_of (suc i) hs ls (omega arith) (omega arith) in omega arith))
 
-  pub up_to_zero : (xs : List Row) → up_to hs ls xs 0 ≡ xs
-  up_to_zero xs = refl
-
-  pub up_to_length : (xs : List Row) (i : ℕ) → i ≤ length hs → i ≤ length ls → i ≤ length xs → length (up_to hs ls xs i) ≡ length xs
-  up_to_length xs i h g w = length-append (rows_in hs ls i) (drop i xs) ∙ (rw (rows_held i h g) (rw length-drop (omega arith)))
-
   pub up_to_next : (xs : List Row) (i : ℕ) → i < length hs → i < length ls → i < length xs → set (up_to hs ls xs i) i (row_at hs ls i) ≡ up_to hs ls xs (i + 1)
   up_to_next xs i h g w =
       let x : Row = row_at hs ls i in
@@ -32,16 +26,6 @@ module _ (hs ls : List ℕ) where
       ∙ sym (append_assoc (rows_in hs ls i) (x ∷ []) (drop (suc i) xs))
       ∙ ap (λ (r : List Row). r ++ drop (suc i) xs) (rows_next i h g)
       ∙ ap (up_to hs ls xs) (sym (add-one i))
-
-  module _ (count lent : ℕ) where
-    pub rows_lent_lent : rows_lent hs ls count lent ≤ lent
-    rows_lent_lent = min-le_right (min count (min (length hs) (length ls))) lent
-
-    pub rows_lent_highs : rows_lent hs ls count lent ≤ length hs
-    rows_lent_highs = omega arith
-
-    pub rows_lent_lows : rows_lent hs ls count lent ≤ length ls
-    rows_lent_lows = omega arith
 
   -- candidates that have their places are all written
   pub filled_is : (count : ℕ) (old : List Row) → count ≤ length hs → count ≤ length ls → count ≤ length old → filled hs ls count old ≡ rows_in hs ls count ++ drop count old

@@ -1,11 +1,19 @@
 -- Rows and tally after a question (01): filled and counted where it is carried out; refused, it leaves both as they were.
-use Rattle.std.specs.Prelude.{◌≡◌, Bool, List, ℕ, eqb}
+use Rattle.std.specs.Prelude.{◌≡◌, Bool, List, ℕ, eqb, Result, Ok, Err}
 use Rattle.lists.specs.Basics.{if}
 use Rattle.search_rows.specs.declared.Row.{Row}
+use Rattle.index_codes.specs.declared.Refusal.{Refusal}
+use Rattle.index_codes.specs.Codes.{number_of}
 use Rattle.index_answer.specs.declared.Answer.{Answer}
+use Rattle.index_answer.specs.declared.Found.{Found}
 use Rattle.index_answer.specs.declared.Tally.{Tally}
 use Rattle.index_answer.specs.Filling.{filled}
 use Rattle.index_answer.specs.Tallies.{counted}
+
+-- an outcome as C is answered: what is found with the number 0, or the number that refuses with 0 rows, 0 leaves
+abbrev pub answer_of : Result Found Refusal → Answer
+answer_of (Ok found) = record { code = 0; count = found.count; leaves = found.leaves }
+answer_of (Err refusal) = record { code = number_of refusal; count = 0; leaves = 0 }
 
 -- success is 0
 abbrev pub carried_out : Answer → Bool

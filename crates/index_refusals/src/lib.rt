@@ -1,22 +1,24 @@
-// The refusal table: which number an act gives, tested in its order. Of the bytes nothing is known here, and number 2 goes by the header's level
+// The refusal table: why an act is refused, tested in its order. Of the bytes nothing is known here, and number 2 goes by the header's level
 // alone.
 #![tactic(auto)]
 
 ghost use Rattle.std.specs.Prelude.{◌≡◌, true, ◌≤◌, ◌<◌, length};
 ghost use Rattle.geometry.specs.Stored.{in_range};
-ghost use Rattle.pagestore.specs.Store.{free_at};
+ghost use Rattle.pagestore.specs.Store.{view_of, free_at};
 ghost use Rattle.tree_model.specs.Sound.{Permitted};
 ghost use Rattle.lists.specs.Basics.{All};
 ghost use Rattle.geometry.specs.Numbers.{max_weight};
-ghost use Rattle.calendar.specs.Days.{days_if};
-ghost use Rattle.index_query.specs.Asking.{weights_if, AsMany, Light, question_of};
+ghost use Rattle.std.specs.Option.{option_copied};
+ghost use Rattle.index_codes.specs.Codes.{code_of};
+ghost use Rattle.index_query.specs.Asking.{days_of, weights_of, AsMany, Light, question_of};
 ghost use Rattle.index_refusals.specs.Refusals.{First, make_rules, day_rules, record_of};
 ghost use Rattle.lists.specs.Judges.{Decides};
-ghost use Rattle.index_refusals.specs.Trusted.{trusted_number, trusted_point, weighing_rules, pair_rules, epoch_rules, room_rules, trusted_insert, trusted_question};
+ghost use Rattle.index_refusals.specs.Trusted.{Suits, trusted_number, trusted_point, weighing_rules, pair_rules, epoch_rules, room_rules, trusted_insert, trusted_question};
 
 use calendar::{Dates, comes_before, in_calendar};
 use geometry::points::slots_of;
 use geometry::{MAX_FEATURES, MAX_WEIGHT};
+use index_codes::Refusal;
 use index_query::Criteria;
 use pagestore::{
     MAX_PAGES, MAX_POINTS, MAX_STAGE, PAGE_SIZE, Record, features_of, free_count, fresh_count,
@@ -25,39 +27,6 @@ use pagestore::{
 use search_model::{ALL_STAGES, MAX_LEVEL};
 use search_rows::MAX_ROWS;
 use tree::{find, pages_wanted};
-
-// The numbers that an act gives, and 0 if it is carried out. 12 is given to nothing: evening out two leaves takes no page (Q-7).
-pub const BAD_LENGTH: u32 = 1; // the length is not a permitted number of whole pages
-
-pub const UNSOUND: u32 = 2; // the index is not sound
-
-pub const BAD_FEATURES: u32 = 3; // d, or the number of coordinates or of weights, is wrong
-
-pub const BAD_COORDINATE: u32 = 4; // a coordinate is out of range
-
-pub const ZERO_ID: u32 = 5; // identifier 0
-
-pub const ALREADY_LIVE: u32 = 6; // the identifier is live
-
-pub const NOT_LIVE: u32 = 7; // the identifier is not live
-
-pub const FULL: u32 = 8; // as many points are live as may be
-
-pub const NO_PAGES: u32 = 9; // the insert wants more pages than are unused or freed
-
-pub const BAD_K: u32 = 10; // k is out of range
-
-pub const FEW_ROWS: u32 = 11; // fewer than k rows are lent
-
-pub const BAD_WEIGHT: u32 = 14; // a weight is above 1,000
-
-pub const BAD_STAGE: u32 = 15; // the stage is above 5
-
-pub const BAD_STAGE_SET: u32 = 16; // the stage set is 0 or above 63
-
-pub const BAD_DATE: u32 = 17; // a date does not exist or lies outside 1 January 2000 to 31 December 2099
-
-pub const DATES_REVERSED: u32 = 18; // the last date is before the first
 
 // What an insert brings besides its point: the identifier, the stage, and the stamp, seconds since 1 January 2000 00:00 by the lab clock.
 #[derive(Clone, Copy)]
@@ -76,177 +45,137 @@ const MAX_BYTES: usize = MAX_PAGES as usize * PAGE_SIZE;
 pub fn permitted(bytes: usize) -> bool
     ensures { Decides (Permitted bytes) result }
 {
-    if bytes < MIN_BYTES {
-        return false;
-    }
-    if MAX_BYTES < bytes {
-        return false;
-    }
-    bytes % PAGE_SIZE == 0
+    (MIN_BYTES..=MAX_BYTES).contains(&bytes) && bytes % PAGE_SIZE == 0
 }
 
-// The number of a make.
-pub fn refuse_make(bytes: usize, features: u8) -> u32
-    ensures { First (make_rules bytes features) result }
+// Whether a make is refused.
+pub fn refuse_make(bytes: usize, features: u8) -> Result<(), Refusal>
+    ensures { First (make_rules bytes features) (code_of result) }
 {
     if !permitted(bytes) {
-        return BAD_LENGTH;
+        return Err(Refusal::BadLength);
     }
-    if features < 1 {
-        return BAD_FEATURES;
+    if !(1..=MAX_FEATURES).contains(&usize::from(features)) {
+        return Err(Refusal::BadFeatures);
     }
-    if MAX_FEATURES < features as usize {
-        return BAD_FEATURES;
-    }
-    0
+    Ok(())
 }
 
-// Whether a point with so many coordinates suits an index of so many features.
-fn suits(coordinates: usize, features: u8) -> bool
-    ensures { Decides ((1 ≤ coordinates) × (coordinates ≤ 16) × (coordinates ≡ features)) result }
+// Whether a point has as many coordinates as an index has features: 1 to 16.
+fn suits(index: &[u8], point: &[i16]) -> bool
+    ensures { Decides (Suits index.now point.now) result }
 {
-    if coordinates < 1 {
-        return false;
-    }
-    if MAX_FEATURES < coordinates {
-        return false;
-    }
-    coordinates == features as usize
+    (1..=MAX_FEATURES).contains(&point.len()) && point.len() == usize::from(features_of(index))
 }
 
 // The first of 1 to 3 that applies to a point, by the number of its coordinates.
-fn refuse_number(index: &[u8], point: &[i16]) -> u32
-    ensures { First (trusted_number index.now point.now) result }
+fn refuse_number(index: &[u8], point: &[i16]) -> Result<(), Refusal>
+    ensures { First (trusted_number index.now point.now) (code_of result) }
 {
     if !permitted(index.len()) {
-        return BAD_LENGTH;
+        return Err(Refusal::BadLength);
     }
-    if MAX_LEVEL < root_level(index) {
-        return UNSOUND;
+    if root_level(index) > MAX_LEVEL {
+        return Err(Refusal::Unsound);
     }
-    if !suits(point.len(), features_of(index)) {
-        return BAD_FEATURES;
+    if !suits(index, point) {
+        return Err(Refusal::BadFeatures);
     }
-    0
+    Ok(())
 }
 
 // The first of 1 to 4 that applies to a point.
-fn refuse_point(index: &[u8], point: &[i16]) -> u32
-    ensures { First (trusted_point index.now point.now) result }
+fn refuse_point(index: &[u8], point: &[i16]) -> Result<(), Refusal>
+    ensures { First (trusted_point index.now point.now) (code_of result) }
 {
-    let coded = refuse_number(index, point);
-    if coded != 0 {
-        return coded;
-    }
+    refuse_number(index, point)?;
     if !geometry::points::in_range(point) {
-        return BAD_COORDINATE;
+        return Err(Refusal::BadCoordinate);
     }
-    0
+    Ok(())
 }
 
-// Whether there are as many weights as features, where any are carried.
-fn as_many(weighted: bool, weights: &[u16], features: u8) -> bool
-    ensures { Decides (AsMany features (weights_if weighted weights.now)) result }
+// Whether there are as many weights as an index has features, where any are carried.
+fn as_many(index: &[u8], weights: Option<&[u16]>) -> bool
+    ensures { Decides (AsMany (view_of index.now).d (weights_of (option_copied weights.entry))) result }
 {
-    if weighted {
-        return weights.len() == features as usize;
+    match weights {
+        Some(carried) => carried.len() == usize::from(features_of(index)),
+        None => true,
     }
-    true
 }
 
 // Whether no weight is above 1,000.
 fn are_light(weights: &[u16]) -> bool
     ensures { Decides (All (λ x. x ≤ max_weight) weights.now) result }
 {
-    let mut m = 0;
-    while m < weights.len() {
-        if MAX_WEIGHT < weights[m] {
-            return false;
-        }
-        m += 1;
-    }
-    true
+    weights.iter().all(|weight| *weight <= MAX_WEIGHT)
 }
 
 // The same, where any are carried.
-fn light(weighted: bool, weights: &[u16]) -> bool
-    ensures { Decides (Light (weights_if weighted weights.now)) result }
+fn light(weights: Option<&[u16]>) -> bool
+    ensures { Decides (Light (weights_of (option_copied weights.entry))) result }
 {
-    if weighted {
-        return are_light(weights);
+    match weights {
+        Some(carried) => are_light(carried),
+        None => true,
     }
-    true
 }
 
 // The first of 1 to 4 and 14 that applies to a point and the weights carried.
-fn refuse_weighing(index: &[u8], point: &[i16], weights: &[u16], weighted: bool) -> u32
-    ensures { First (weighing_rules index.now point.now (weights_if weighted weights.now)) result }
+fn refuse_weighing(index: &[u8], point: &[i16], weights: Option<&[u16]>) -> Result<(), Refusal>
+    ensures { First (weighing_rules index.now point.now (weights_of (option_copied weights.entry))) (code_of result) }
 {
-    let coded = refuse_number(index, point);
-    if coded != 0 {
-        return coded;
-    }
-    if !as_many(weighted, weights, features_of(index)) {
-        return BAD_FEATURES;
+    refuse_number(index, point)?;
+    if !as_many(index, weights) {
+        return Err(Refusal::BadFeatures);
     }
     if !geometry::points::in_range(point) {
-        return BAD_COORDINATE;
+        return Err(Refusal::BadCoordinate);
     }
-    if !light(weighted, weights) {
-        return BAD_WEIGHT;
+    if !light(weights) {
+        return Err(Refusal::BadWeight);
     }
-    0
+    Ok(())
 }
 
 // The first of 17 and 18 that applies to the dates, where they are given.
-fn refuse_days(dated: bool, dates: Dates) -> u32
-    ensures { First (day_rules (days_if dated dates)) result }
+fn refuse_days(days: Option<Dates>) -> Result<(), Refusal>
+    ensures { First (day_rules (days_of days)) (code_of result) }
 {
-    if !dated {
-        return 0;
-    }
-    if !in_calendar(dates.first) {
-        return BAD_DATE;
-    }
-    if !in_calendar(dates.last) {
-        return BAD_DATE;
+    let Some(dates) = days else {
+        return Ok(());
+    };
+    if !in_calendar(dates.first) || !in_calendar(dates.last) {
+        return Err(Refusal::BadDate);
     }
     if comes_before(dates.last, dates.first) {
-        return DATES_REVERSED;
+        return Err(Refusal::DatesReversed);
     }
-    0
+    Ok(())
 }
 
-// The number of a question with some rows lent.
+// Whether a question with some rows lent is refused.
 pub fn refuse_question(
     index: &[u8],
     point: &[i16],
     weights: &[u16],
     what: Criteria,
     lent: usize,
-) -> u32
-    ensures { First (trusted_question index.now (question_of point.now weights.now what) lent) result }
+) -> Result<(), Refusal>
+    ensures { First (trusted_question index.now (question_of point.now weights.now what) lent) (code_of result) }
 {
-    let coded = refuse_weighing(index, point, weights, what.weighted);
-    if coded != 0 {
-        return coded;
-    }
-    if what.k < 1 {
-        return BAD_K;
-    }
-    if MAX_ROWS < what.k {
-        return BAD_K;
+    refuse_weighing(index, point, what.weights(weights))?;
+    if !(1..=MAX_ROWS).contains(&what.k) {
+        return Err(Refusal::BadK);
     }
     if lent < what.k {
-        return FEW_ROWS;
+        return Err(Refusal::FewRows);
     }
-    if what.stages < 1 {
-        return BAD_STAGE_SET;
+    if !(1..=ALL_STAGES).contains(&what.stages) {
+        return Err(Refusal::BadStageSet);
     }
-    if ALL_STAGES < what.stages {
-        return BAD_STAGE_SET;
-    }
-    refuse_days(what.dated, what.dates)
+    refuse_days(what.days())
 }
 
 // The record of an epoch and its point.
@@ -254,82 +183,65 @@ pub fn record_of(epoch: Epoch, point: &[i16]) -> Record
     requires { (length point.now ≤ 16) × (in_range point.now ≡ true) }
     ensures { result ≡ record_of epoch point.now }
 {
-    let slots = slots_of(point);
     Record {
         id: epoch.id,
         stage: epoch.stage,
         stamp: epoch.stamp,
-        coords: slots,
+        coords: slots_of(point),
     }
 }
 
 // The first of 1 to 5 that applies to an identifier and its point.
-pub fn refuse_pair(index: &[u8], id: u32, point: &[i16]) -> u32
-    ensures { First (pair_rules index.now id point.now) result }
+pub fn refuse_pair(index: &[u8], id: u32, point: &[i16]) -> Result<(), Refusal>
+    ensures { First (pair_rules index.now id point.now) (code_of result) }
 {
-    let coded = refuse_point(index, point);
-    if coded != 0 {
-        return coded;
-    }
+    refuse_point(index, point)?;
     if id == 0 {
-        return ZERO_ID;
+        return Err(Refusal::ZeroId);
     }
-    0
+    Ok(())
 }
 
 // The first of 1 to 5 and 15 that applies to an epoch and its point.
-pub fn refuse_epoch(index: &[u8], epoch: Epoch, point: &[i16]) -> u32
-    ensures { First (epoch_rules index.now epoch point.now) result }
+pub fn refuse_epoch(index: &[u8], epoch: Epoch, point: &[i16]) -> Result<(), Refusal>
+    ensures { First (epoch_rules index.now epoch point.now) (code_of result) }
 {
-    let coded = refuse_pair(index, epoch.id, point);
-    if coded != 0 {
-        return coded;
+    refuse_pair(index, epoch.id, point)?;
+    if epoch.stage > MAX_STAGE {
+        return Err(Refusal::BadStage);
     }
-    if MAX_STAGE < epoch.stage {
-        return BAD_STAGE;
-    }
-    0
+    Ok(())
 }
 
 // Whether fewer pages are free than are wanted. The chain of freed pages is followed only where the pages never used are too few.
 fn too_few(index: &[u8], wanted: u32) -> bool
     ensures { Decides (length (free_at index.now) < wanted) result }
 {
-    if wanted <= fresh_count(index) {
-        return false;
-    }
-    if wanted <= free_count(index) {
-        return false;
-    }
-    true
+    fresh_count(index) < wanted && free_count(index) < wanted
 }
 
 // The first of 8 and 9 that applies to a record that may be inserted.
-pub fn refuse_room(index: &[u8], epoch: Epoch, point: &[i16]) -> u32
+#[tactic(auto, using(crate::proofs::RuleLaws::total_view))]
+pub fn refuse_room(index: &[u8], epoch: Epoch, point: &[i16]) -> Result<(), Refusal>
     requires { (length point.now ≤ 16) × (in_range point.now ≡ true) }
-    ensures { First (room_rules index.now epoch point.now) result }
+    ensures { First (room_rules index.now epoch point.now) (code_of result) }
 {
-    if MAX_POINTS <= total_records(index) {
-        return FULL;
+    if total_records(index) >= MAX_POINTS {
+        return Err(Refusal::Full);
     }
-    let x = record_of(epoch, point);
-    if too_few(index, pages_wanted(index, x)) {
-        return NO_PAGES;
+    if too_few(index, pages_wanted(index, record_of(epoch, point))) {
+        return Err(Refusal::NoPages);
     }
-    0
+    Ok(())
 }
 
-// The number of an insert.
-pub fn refuse_insert(index: &[u8], epoch: Epoch, point: &[i16]) -> u32
-    ensures { First (trusted_insert index.now epoch point.now) result }
+// Whether an insert is refused.
+pub fn refuse_insert(index: &[u8], epoch: Epoch, point: &[i16]) -> Result<(), Refusal>
+    ensures { First (trusted_insert index.now epoch point.now) (code_of result) }
 {
-    let coded = refuse_epoch(index, epoch, point);
-    if coded != 0 {
-        return coded;
-    }
-    let found = find(index, epoch.id);
-    if found.id != 0 {
-        return ALREADY_LIVE;
+    refuse_epoch(index, epoch, point)?;
+    if find(index, epoch.id).is_some() {
+        return Err(Refusal::AlreadyLive);
     }
     refuse_room(index, epoch, point)
 }

@@ -48,12 +48,6 @@ TrustedOutcome b w n highs lows r = OutcomeBy (trusted_question b w n) (AnswersI
 abbrev pub TrustedQuestioned : List ℕ → Question → List Row → Tally → Answer → List Row → Tally → Type 0
 TrustedQuestioned b w lent tally r lent' tally' = QuestionedBy (trusted_question b w (length lent)) (AnswersIfSound b w) b w lent tally r lent' tally'
 
--- refused with the number n: 0 rows, 0 leaves
-pub record Refused (n : ℕ) (r : Answer) : Type 0 where
-  pub code : r.code ≡ n
-  pub count : r.count ≡ 0
-  pub leaves : r.leaves ≡ 0
-
 -- carried out: the rows and the count are the search's
 pub record Answered (b : List ℕ) (w : Question) (highs lows : List ℕ) (r : Answer) : Type 0 where
   pub code : r.code ≡ 0

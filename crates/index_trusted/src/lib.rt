@@ -3,16 +3,17 @@
 // a level that no sound index has is refused with 2.
 #![tactic(auto)]
 
+ghost use Rattle.std.specs.Prelude.{Ok};
+ghost use Rattle.index_codes.specs.Codes.{code_of};
+ghost use Rattle.index_answer.specs.Delivered.{answer_of};
 ghost use Rattle.index_query.specs.Asking.{question_of, Searchable};
 ghost use Rattle.index_trusted.specs.Changes.{TrustedInserted, TrustedDeleted};
-ghost use Rattle.index_trusted.specs.Questions.{Places, Refused, Answered, TrustedOutcome, TrustedQuestioned};
+ghost use Rattle.index_trusted.specs.Questions.{Places, Answered, TrustedOutcome, TrustedQuestioned};
 
-use index_answer::{Answer, Tally, deliver};
+use index_answer::{Found, Tally, deliver};
+use index_codes::Refusal;
 use index_query::{Criteria, query_of};
-use index_refusals::{
-    BAD_LENGTH, Epoch, NOT_LIVE, UNSOUND, ZERO_ID, permitted, record_of, refuse_insert,
-    refuse_question,
-};
+use index_refusals::{Epoch, permitted, record_of, refuse_insert, refuse_question};
 use pagestore::root_level;
 use search::search;
 use search_model::MAX_LEVEL;
@@ -20,50 +21,33 @@ use search_rows::{MAX_ROWS, Row};
 use tree::find;
 
 // Inserts an epoch with its point.
-pub fn insert(index: &mut [u8], epoch: Epoch, point: &[i16]) -> u32
-    ensures { TrustedInserted index.old epoch point.now result index.new }
+pub fn insert(index: &mut [u8], epoch: Epoch, point: &[i16]) -> Result<(), Refusal>
+    ensures { TrustedInserted index.old epoch point.now (code_of result) index.new }
 {
-    let code = refuse_insert(index, epoch, point);
-    if code == 0 {
-        let x = record_of(epoch, point);
-        tree::insert(index, x);
-    }
-    code
+    refuse_insert(index, epoch, point)?;
+    tree::insert(index, record_of(epoch, point));
+    Ok(())
 }
 
 // Deletes the epoch of an identifier.
-pub fn delete(index: &mut [u8], id: u32) -> u32
-    ensures { TrustedDeleted index.old id result index.new }
+pub fn delete(index: &mut [u8], id: u32) -> Result<(), Refusal>
+    ensures { TrustedDeleted index.old id (code_of result) index.new }
 {
     if !permitted(index.len()) {
-        return BAD_LENGTH;
+        return Err(Refusal::BadLength);
     }
-    if MAX_LEVEL < root_level(index) {
-        return UNSOUND;
+    if root_level(index) > MAX_LEVEL {
+        return Err(Refusal::Unsound);
     }
     if id == 0 {
-        return ZERO_ID;
+        return Err(Refusal::ZeroId);
     }
-    let x = find(index, id);
-    if x.id == 0 {
-        return NOT_LIVE;
-    }
+    let x = find(index, id).ok_or(Refusal::NotLive)?;
     tree::delete(index, x);
-    0
+    Ok(())
 }
 
-// What a question that is refused returns: its number, 0 rows, 0 leaves.
-pub fn refused(code: u32) -> Answer
-    ensures { Refused code result }
-{
-    Answer {
-        code: code,
-        count: 0,
-        leaves: 0,
-    }
-}
-
-// What a question that is not refused returns: the rows and the count are the search's.
+// What a question that is not refused finds: the rows and the count are the search's.
 fn answered(
     index: &[u8],
     point: &[i16],
@@ -71,13 +55,12 @@ fn answered(
     what: Criteria,
     highs: &mut [u64],
     lows: &mut [u64],
-) -> Answer
+) -> Found
     requires { Searchable (question_of point.now weights.now what) × Places highs.old lows.old }
-    ensures { Answered index.now (question_of point.now weights.now what) highs.new lows.new result }
+    ensures { Answered index.now (question_of point.now weights.now what) highs.new lows.new (answer_of (Ok result)) }
 {
     let seen = search(index, query_of(point, weights, what), highs, lows);
-    Answer {
-        code: 0,
+    Found {
         count: seen.rows,
         leaves: seen.leaves,
     }
@@ -92,16 +75,13 @@ pub fn question_outcome(
     lent: usize,
     highs: &mut [u64],
     lows: &mut [u64],
-) -> Answer
+) -> Result<Found, Refusal>
     requires { Places highs.old lows.old }
     ensures { TrustedOutcome index.now (question_of point.now weights.now what) lent
-        highs.new lows.new result }
+        highs.new lows.new (answer_of result) }
 {
-    let code = refuse_question(index, point, weights, what, lent);
-    if code != 0 {
-        return refused(code);
-    }
-    answered(index, point, weights, what, highs, lows)
+    refuse_question(index, point, weights, what, lent)?;
+    Ok(answered(index, point, weights, what, highs, lows))
 }
 
 // A question whose rows go to those lent, and which the caller's tally counts.
@@ -112,13 +92,13 @@ pub fn question(
     what: Criteria,
     rows: &mut [Row],
     tally: &mut Tally,
-) -> Answer
+) -> Result<Found, Refusal>
     ensures { TrustedQuestioned index.now (question_of point.now weights.now what)
-        rows.old tally.old result rows.new tally.new }
+        rows.old tally.old (answer_of result) rows.new tally.new }
 {
     let mut highs = [0u64; MAX_ROWS];
     let mut lows = [0u64; MAX_ROWS];
-    let answer = question_outcome(
+    let outcome = question_outcome(
         index,
         point,
         weights,
@@ -127,5 +107,5 @@ pub fn question(
         &mut highs,
         &mut lows,
     );
-    deliver(rows, tally, answer, &highs, &lows)
+    deliver(rows, tally, outcome, &highs, &lows)
 }

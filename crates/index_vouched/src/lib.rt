@@ -5,52 +5,45 @@
 // without a fault, and what it returns and leaves is stated.
 #![tactic(auto)]
 
+ghost use Rattle.index_codes.specs.Codes.{code_of};
 ghost use Rattle.index_refusals.specs.Refusals.{First};
 ghost use Rattle.index_vouched.specs.Vouched.{vouched_insert, VouchedInserted, VouchedDeleted};
 
-use index_refusals::{Epoch, NOT_LIVE, record_of, refuse_epoch, refuse_pair, refuse_room};
+use index_codes::Refusal;
+use index_refusals::{Epoch, record_of, refuse_epoch, refuse_pair, refuse_room};
 use tree::holds;
 
-// The number of an insert.
-fn refuse_vouched(index: &[u8], epoch: Epoch, point: &[i16]) -> u32
-    ensures { First (vouched_insert index.now epoch point.now) result }
+// Whether an insert is refused.
+fn refuse_vouched(index: &[u8], epoch: Epoch, point: &[i16]) -> Result<(), Refusal>
+    ensures { First (vouched_insert index.now epoch point.now) (code_of result) }
 {
-    let coded = refuse_epoch(index, epoch, point);
-    if coded != 0 {
-        return coded;
-    }
+    refuse_epoch(index, epoch, point)?;
     refuse_room(index, epoch, point)
 }
 
 // Inserts an epoch, whose identifier the caller vouches is not live, with its point.
-pub fn insert(index: &mut [u8], epoch: Epoch, point: &[i16]) -> u32
-    ensures { VouchedInserted index.old epoch point.now result index.new }
+pub fn insert(index: &mut [u8], epoch: Epoch, point: &[i16]) -> Result<(), Refusal>
+    ensures { VouchedInserted index.old epoch point.now (code_of result) index.new }
 {
-    let code = refuse_vouched(index, epoch, point);
-    if code == 0 {
-        let x = record_of(epoch, point);
-        tree::insert(index, x);
-    }
-    code
+    refuse_vouched(index, epoch, point)?;
+    tree::insert(index, record_of(epoch, point));
+    Ok(())
 }
 
 // Deletes the epoch of an identifier with its point, both told by the caller; stage and stamp are not looked at.
-pub fn delete(index: &mut [u8], id: u32, point: &[i16]) -> u32
-    ensures { VouchedDeleted index.old id point.now result index.new }
+pub fn delete(index: &mut [u8], id: u32, point: &[i16]) -> Result<(), Refusal>
+    ensures { VouchedDeleted index.old id point.now (code_of result) index.new }
 {
-    let code = refuse_pair(index, id, point);
-    if code != 0 {
-        return code;
-    }
+    refuse_pair(index, id, point)?;
     let label = Epoch {
-        id: id,
+        id,
         stage: 0,
         stamp: 0,
     };
     let told = record_of(label, point);
     if !holds(index, told) {
-        return NOT_LIVE;
+        return Err(Refusal::NotLive);
     }
     tree::delete(index, told);
-    0
+    Ok(())
 }

@@ -1,8 +1,8 @@
-use Rattle.index_refusals.proofs.RuleLaws.{carried_light, none_light}
+use Rattle.lists.specs.Judges.{pass}
 use Rattle.index_refusals.proofs.light.Goals as goal
 
-pub returns-then-weighted : goal.returns-then-weighted
-returns-then-weighted c = let a = c.args in carried_light a.weights.now a.weighted _ c.if-weighted.true c.are_light.ensures
+pub returns-in-Some : goal.returns-in-Some
+returns-in-Some c = rw c.in-Some.is c.are_light.ensures
 
-pub returns : goal.returns
-returns c = let a = c.args in none_light a.weights.now a.weighted c.if-weighted.false
+pub returns-in-None : goal.returns-in-None
+returns-in-None c = rw c.in-None.is (pass tt)

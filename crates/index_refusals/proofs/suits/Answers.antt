@@ -1,18 +1,14 @@
-use native.Mathlib.Omega.{arith}
-use borrow.Author.Tests.{eqb-true, eqb-false}
-use lib.Dec.{eqb}
-use Rattle.lists.specs.Tests.{by_cases}
-use Rattle.lists.specs.Judges.{pass, fault}
+use Rattle.std.proofs.Common.{arith, ◌∙◌, length, ◌≡◌}
+use Rattle.pagestore.specs.Store.{view_of}
+use Rattle.lists.specs.Judges.{fault, judge_eq}
+use Rattle.index_refusals.proofs.RuleLaws.{features_view}
 use Rattle.index_refusals.proofs.suits.Goals as goal
 
--- `index_refusals::suits` meets its contract. Assumes nothing.
-pub returns-then-coordinates-lt1 : goal.returns-then-coordinates-lt1
-returns-then-coordinates-lt1 c = fault (λ h. omega arith)
+pub returns-then-contains : goal.returns-then-contains
+returns-then-contains c =
+    let a = c.args in
+    let d : c.from.result ≡ (view_of a.index.now).d = c.from.ensures ∙ c.features_of.ensures ∙ features_view a.index.now in
+    judge_eq (length a.point.now) c.from.result (λ e. (grind arith, grind arith, e ∙ d)) (λ w h. w (grind (arith, h.2, d)))
 
-pub returns-then-coordinates-gt-MAX_FEATURES : goal.returns-then-coordinates-gt-MAX_FEATURES
-returns-then-coordinates-gt-MAX_FEATURES c = fault (λ h. omega arith)
-
-pub returns : goal.returns
-returns c =
-    let n = c.args.coordinates in let d = c.args.features in
-    by_cases (eqb n d) (λ e. rw e (pass (omega arith, omega arith, eqb-true n d e))) (λ e. rw e (fault (λ h. eqb-false n d e h.2)))
+pub returns-else-contains : goal.returns-else-contains
+returns-else-contains c = rw c.if-contains.false (fault (λ h. grind (arith, h.0, h.1)))

@@ -1,9 +1,10 @@
-use Rattle.lists.specs.Judges.{passes, faults}
-use Rattle.index.specs.CheckAnswers.{check_one, check_passes}
+use Rattle.std.specs.Prelude.{Err}
+use Rattle.std.proofs.lemmas.Result.{err_from_is_err_and}
+use Rattle.lists.specs.Judges.{passes}
+use Rattle.index.specs.CheckAnswers.{check_passes}
 use Rattle.index.proofs.checking.check.Goals as goal
 
-pub returns-then-not-permitted : goal.returns-then-not-permitted
-returns-then-not-permitted c = check_one _ (faults c.permitted.ensures c.if-not-permitted.true)
-
-pub returns : goal.returns
-returns c = check_passes _ _ (passes c.permitted.ensures c.if-not-permitted.false) c.check.ensures
+pub returns-in_err-check : goal.returns-in_err-check
+returns-in_err-check c =
+    let p = err_from_is_err_and c.from_residual.result c.from_residual.ensures.1 in
+    rw (p.1, p.2) (check_passes c.args.index.now (Err c.in_err-check.field-0.0) (passes c.permitted.ensures c.if-not-permitted.false) c.in_err-check.ensures)
