@@ -91,7 +91,7 @@ module _ (w : Question) where
 
 -- with the full set and no dates none is left out of a sound index
 leaves_none : (w : Question) → w.stages ≡ full_set → w.days ≡ undated → LeavesOutNone (choice_of w)
-leaves_none w e f = (e, ap (λ (d : Days). (window_of d).bounded) f)
+leaves_none w e f = (e, ap window_of f)
 
 pub full_live : (b : List ℕ) → SoundIndex b → (w : Question) → w.stages ≡ full_set → w.days ≡ undated → live_candidates (view_of b) (sought w) ≡ live (view_of b)
 full_live b s w e f = live_full b s (sought w) (leaves_none w e f)

@@ -63,7 +63,7 @@ module _ (p : List ℤ) (ws : List ℕ) (what : Criteria) (slots features : List
   abbrev laid : List ℕ
   laid = laid_weights n carried
 
-  pub query_for : (set : ℕ) → set ≡ what.stages → (window : Window) → window ≡ window_of (days_if what.dated what.dates) → LaidOut (take n slots) (take n slots) (laid_weights (length (take n slots)) carried) features → QueryFor (question_of p ws what) (record { features = features; d = n; k = what.k; choice = record { stages = set; window = window } })
+  pub query_for : (set : ℕ) → set ≡ what.stages → (window : Option Window) → window ≡ window_of (days_if what.dated what.dates) → LaidOut (take n slots) (take n slots) (laid_weights (length (take n slots)) carried) features → QueryFor (question_of p ws what) (record { features = features; d = n; k = what.k; choice = record { stages = set; window = window } })
   query_for set e window f h =
       let asked = take (48 + n) features in
       let cut : take (48 + length (take n slots)) features ≡ asked = ap (λ (m : ℕ). take (48 + m) features) own_length in

@@ -2,8 +2,7 @@
 use Rattle.std.specs.Prelude.{◌≡◌, Bool, true, false, List, ℕ, ◌+◌, ◌≤◌, ℤ, length, take, replicate, Option, None, Some}
 use Rattle.lists.specs.Basics.{All}
 use Rattle.calendar.specs.declared.Date.{Date}
-use Rattle.calendar.specs.declared.Dates.{Dates}
-use Rattle.calendar.specs.Days.{Days, undated, dated, days_if}
+use Rattle.calendar.specs.Days.{Days, undated, days_if}
 use Rattle.calendar.specs.Counting.{window_of}
 use Rattle.geometry.specs.Points.{distance}
 use Rattle.geometry.specs.Features.{Feature, plain, weighted, weighted_distance}
@@ -47,11 +46,6 @@ pub record Question : Type 0 where
 -- without weights and without dates
 abbrev pub nearest_of : List ℤ → ℕ → ℕ → Question
 nearest_of p k stages = record { point = p; weights = unweighed; k = k; stages = stages; days = undated }
-
--- the recording days as code is given them, if any are named
-abbrev pub days_of : Option Dates → Days
-days_of None = undated
-days_of (Some dates) = dated dates
 
 -- as code is given it: the point and the weights in slices, and the rest
 abbrev pub question_of : List ℤ → List ℕ → Criteria → Question

@@ -3,9 +3,9 @@
 
 ghost use Rattle.std.specs.Prelude.{◌≡◌, ◌≤◌, length};
 ghost use Rattle.std.specs.Option.{option_copied};
-ghost use Rattle.calendar.specs.Days.{days_if};
+ghost use Rattle.calendar.specs.Days.{days_of, days_if};
 ghost use Rattle.geometry_slices.specs.Questions.{LaidOut};
-ghost use Rattle.index_query.specs.Asking.{days_of, weights_of, weights_if, AsMany, laid_weights, nearest_by, question_of, Searchable, QueryFor};
+ghost use Rattle.index_query.specs.Asking.{weights_of, weights_if, AsMany, laid_weights, nearest_by, question_of, Searchable, QueryFor};
 
 use calendar::{Date, Dates, window_of};
 use geometry::MAX_FEATURES;
@@ -81,7 +81,7 @@ pub fn query_of(point: &[i16], weights: &[u16], what: Criteria) -> Query
     let features = features_by(&slots[..d], what.weights(weights));
     let choice = Choice {
         stages: what.stages,
-        window: window_of(what.dated, what.dates),
+        window: window_of(what.days()),
     };
     Query {
         features,
