@@ -17,12 +17,21 @@ pub struct Tally {
     pub leaves: u32,
 }
 
-// Counts one more question that read some leaves; a count stays at the greatest number once it would pass it.
+// The tally after one more question that read some leaves; a count stays at the greatest number once it would pass it.
+pub fn tallied(t: Tally, leaves: u32) -> Tally
+    ensures { result ≡ counted t leaves }
+{
+    Tally {
+        questions: t.questions.saturating_add(1),
+        leaves: t.leaves.saturating_add(leaves),
+    }
+}
+
+// The same for a tally that is lent.
 pub fn tally_question(t: &mut Tally, leaves: u32)
     ensures { t.new ≡ counted t.old leaves }
 {
-    t.questions = t.questions.saturating_add(1);
-    t.leaves = t.leaves.saturating_add(leaves);
+    *t = tallied(*t, leaves);
 }
 
 // Fills the rows lent with the first `count` candidates, which two arrays hold, as far as these and the places for them go; rows past them keep their
