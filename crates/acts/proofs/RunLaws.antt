@@ -1,12 +1,6 @@
 -- The run stays within the program's buffers, and what its lines print stands in the output buffer or was handed over.
-use mathlib.Core.Path.{◌≡◌, refl, sym, ap, ◌∙◌, subst}
-use mathlib.Core.Logic.{◌⊎◌, inl, inr}
-use mathlib.Core.Bool.{true, false}
-use mathlib.Core.List.{List, [], ◌++◌, append-nil}
-use Prim.Native.Nat.{ℕ, suc, ◌+◌, ◌-◌, ◌≤◌, ◌<◌}
-use native.Mathlib.Omega.{arith}
-use lib.ListN.{length, take, drop}
-use lib.Seq.{drop-length}
+use Rattle.std.proofs.Common.{◌≡◌, refl, sym, ap, ◌∙◌, subst, ◌⊎◌, inl, inr, true, false, List, [], ◌++◌, append-nil, ℕ, suc, ◌+◌, ◌-◌, ◌≤◌, ◌<◌, arith, length, take, drop}
+use Rattle.std.proofs.Math.Seq.{drop-length}
 use Rattle.lists.specs.Basics.{if}
 use Rattle.lists.specs.Tests.{false_true, by_cases}
 use Rattle.acts_fields.specs.Bytes.{Written}

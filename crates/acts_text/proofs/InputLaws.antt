@@ -1,15 +1,8 @@
 -- Input cut into lines. `lines_line`, `lines_last`: what `lines_of` gives. `ended_append`, `current_append`: chunks fed one after the other are the
 -- same as their concatenation. `lines_kept`: fed to the end they give the lines of the input, as kept. `feeds_line`, `feeds_on`: a call of `feed`.
-use mathlib.Core.Path.{◌≡◌, refl, sym, ap, ◌∙◌}
-use mathlib.Core.Logic.{◌≢◌}
-use mathlib.Core.Bool.{true, false}
-use mathlib.Core.List.{List, [], ◌∷◌, ◌++◌, map, append_assoc, append-nil}
-use Prim.Native.Nat.{ℕ, zero, suc, ◌+◌, ◌-◌, ◌≤◌, ◌<◌, min}
-use native.Mathlib.Omega.{arith}
-use lib.Dec.{ltb, eqb}
-use lib.ListN.{length, take, drop, length-append, length-take, length-drop}
-use lib.Seq.{take_all, take_at, take-append-add, drop-drop}
-use borrow.Author.Tests.{eqb-true, eqb-false, ltb-true, ltb-false, ne_eqb}
+use Rattle.std.proofs.Common.{◌≡◌, refl, sym, ap, ◌∙◌, ◌≢◌, true, false, List, [], ◌∷◌, ◌++◌, map, append_assoc, append-nil, ℕ, zero, suc, ◌+◌, ◌-◌, ◌≤◌, ◌<◌, min, arith, ltb, eqb, length, take, drop, length-append, length-take, length-drop, take_all, take_at, drop-drop, eqb-true, ltb-true, ltb-false, ne_eqb}
+use lib.Seq.{take-append-add}
+use borrow.Author.Tests.{eqb-false}
 use Rattle.lists.specs.Basics.{All, none, also, all_append}
 use Rattle.lists.specs.Tests.{by_cases}
 use Rattle.acts_fields.specs.Bytes.{newline, until, Stored}

@@ -1,4 +1,4 @@
-use mathlib.Core.Path.{refl}
+use Rattle.std.proofs.Common.{refl}
 use borrow.Author.Tests.{not-true, not-false}
 use Rattle.acts.specs.Running.{stays, closed, fails}
 use Rattle.acts.proofs.RunLaws.{close_needs}

@@ -1,4 +1,4 @@
-use mathlib.Core.Path.{refl}
+use Rattle.std.proofs.Common.{refl}
 use Rattle.acts.proofs.RunLaws.{whole_run}
 use Rattle.acts.proofs.run.Goals as goal
 

@@ -1,5 +1,4 @@
-use mathlib.Core.Logic.{inl, inr}
-use native.Mathlib.Omega.{arith}
+use Rattle.std.proofs.Common.{inl, inr, arith}
 use Rattle.acts.proofs.RunLaws.{chunk_start, chunk_turn, chunk_done}
 use Rattle.acts.proofs.run_chunk.Goals as goal
 

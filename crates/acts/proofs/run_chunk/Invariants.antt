@@ -1,5 +1,4 @@
-use Prim.Native.Nat.{◌-◌}
-use lib.ListN.{length}
+use Rattle.std.proofs.Common.{◌-◌, length}
 use Rattle.acts.proofs.RunLaws.{Chunked}
 use Rattle.acts.proofs.run_chunk.Given as goal
 

@@ -1,7 +1,4 @@
-use mathlib.Core.Path.{◌≡◌, ap, subst}
-use mathlib.Core.List.{List}
-use Prim.Native.Nat.{ℕ}
-use lib.IntN.{ℤ}
+use Rattle.std.proofs.Common.{◌≡◌, ap, subst, List, ℕ, ℤ}
 use Rattle.index_query.specs.declared.Criteria.{Criteria}
 use Rattle.index_query.specs.Asking.{Question, nearest_by, nearest_of, question_of}
 use Rattle.index.specs.Questions.{QuestionOutcome}

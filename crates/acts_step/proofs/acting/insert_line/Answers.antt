@@ -1,4 +1,4 @@
-use native.Mathlib.Omega.{arith}
+use Rattle.std.proofs.Common.{arith}
 use Rattle.acts_step.proofs.ActLaws.{inserted}
 use Rattle.acts_step.proofs.acting.insert_line.Goals as goal
 

@@ -1,4 +1,4 @@
-use native.Mathlib.Omega.{arith}
+use Rattle.std.proofs.Common.{arith}
 use Rattle.acts_step.proofs.ActLaws.{rows_fit, asked_none, asked_some}
 use Rattle.acts_step.proofs.acting.question_line.Goals as goal
 

@@ -1,6 +1,4 @@
-use mathlib.Core.Path.{sym}
-use mathlib.Core.Logic.{inl, inr}
-use lib.Seq.{length-take-le}
+use Rattle.std.proofs.Common.{sym, inl, inr, length-take-le}
 use Rattle.acts_step.specs.Advances.{last}
 use Rattle.acts_step.proofs.input.end_input.Goals as goal
 

@@ -1,6 +1,4 @@
-use mathlib.Core.Path.{sym}
-use native.Mathlib.Omega.{arith}
-use lib.Seq.{length-take-le}
+use Rattle.std.proofs.Common.{sym, arith, length-take-le}
 use borrow.Author.Tests.{not-true, not-false}
 use Rattle.acts_step.proofs.TakeLaws.{fed_few, takes_on, takes_line}
 use Rattle.acts_step.proofs.input.take_line.Goals as goal
