@@ -9,6 +9,7 @@ ghost use Rattle.acts_step.specs.Steps.{asked_by, Acted, Replies};
 use acts_output::{put_result, put_rows};
 use acts_text::{Act, ActLine};
 use index_answer::Answer;
+use index_codes::code_of;
 use index_query::nearest_of;
 use index_refusals::Epoch;
 use search_rows::MAX_ROWS;
@@ -26,7 +27,7 @@ fn insert_line(
     ensures { Puts (Acted (insert epoch point.now) index.old number index.new)
         most_printed out.old out.new at result }
 {
-    let code = index::insert(index, epoch, point);
+    let code = code_of(index::insert(index, epoch, point));
     put_result(out, at, number, code as u64, epoch.id as u64, 0, 0)
 }
 
@@ -36,7 +37,7 @@ fn delete_line(index: &mut [u8], id: u32, number: u64, out: &mut [u8], at: usize
     ensures { Puts (Acted (delete id) index.old number index.new)
         most_printed out.old out.new at result }
 {
-    let code = index::delete(index, id);
+    let code = code_of(index::delete(index, id));
     put_result(out, at, number, code as u64, id as u64, 0, 0)
 }
 
@@ -53,7 +54,7 @@ fn ask(
     ensures { QuestionOutcome index.now (nearest_of point.now k stages) rows_lent
         highs.new lows.new result }
 {
-    index::question_outcome(
+    Answer::from(index::question_outcome(
         index,
         point,
         &[],
@@ -61,7 +62,7 @@ fn ask(
         MAX_ROWS,
         highs,
         lows,
-    )
+    ))
 }
 
 // Asks, and prints a line for each row; with no rows one line with zeros.

@@ -14,4 +14,4 @@ same_outcome : {b hs ls : List ℕ} {n : ℕ} {r : Answer} {v w : Question} → 
 same_outcome {b} {hs} {ls} {n} {r} e h = subst (λ (x : Question). QuestionOutcome b x n hs ls r) e h
 
 pub returns : goal.returns
-returns c = same_outcome (asks-nearest c.nearest_of.ensures _ _) c.question_outcome.ensures
+returns c = rw c.from.ensures (same_outcome (asks-nearest c.nearest_of.ensures _ _) c.question_outcome.ensures)

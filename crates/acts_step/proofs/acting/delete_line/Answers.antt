@@ -3,5 +3,5 @@ use Rattle.acts_step.proofs.acting.delete_line.Goals as goal
 
 pub returns : goal.returns
 returns c =
-    let P = c.put_result in let D = c.delete-code in
-    deleted _ _ _ _ _ _ _ _ P.ensures.1 _ D.ensures.0 D.ensures.1 P.ensures.0
+    let P = c.put_result in let D = c.delete in let K = c.code_of-code in
+    deleted _ _ _ _ _ K.result _ _ P.ensures.1 _ (rw K.ensures D.ensures.0) (rw K.ensures D.ensures.1) P.ensures.0
