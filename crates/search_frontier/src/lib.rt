@@ -1,4 +1,5 @@
 // The frontier: keys of branches in a heap.
+// Kept: slots with the number of branches beside them, as search_heap takes them.
 #![tactic(auto)]
 
 ghost use Rattle.std.specs.Prelude.{◌≡◌, ◌≤◌, ◌<◌, min};
