@@ -1,6 +1,5 @@
 // The output's lines, written into a lent buffer at an index; each function returns the index after what it wrote.
-// Kept: `out` and `at` stay apart, as `Written`, `Puts` and `Hands` take them; between lines `Progress` holds the index.
-// Kept: put_decimal. `write!` would need a `fmt::Write` of our own over the buffer, which is no shorter, and that std's decimals are `text`.
+// Kept: put_decimal. `write!` would need a `fmt::Write` of our own over the buffer, which is no shorter, and a proof that std's decimals are `text`.
 #![tactic(auto)]
 
 ghost use Rattle.std.specs.Prelude.{◌≡◌, [], ◌∷◌, ◌+◌, ◌<◌, ◌≤◌, length};

@@ -8,7 +8,6 @@ use crate::put_result;
 use search_rows::row_of;
 
 // A line for each of the first rows of upper and lower words.
-// Kept: two arrays and a count, as `QuestionOutcome` delivers them.
 pub fn put_rows(
     out: &mut [u8],
     at: usize,

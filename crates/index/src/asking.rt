@@ -52,7 +52,8 @@ pub fn question(
         &mut highs,
         &mut lows,
     );
-    deliver(rows, tally, outcome, &highs, &lows)
+    deliver(rows, tally, outcome.into(), &highs, &lows);
+    outcome
 }
 
 // The question for callers that hold 64 rows and a tally by value.

@@ -1,7 +1,6 @@
 -- Laws of the rows that are filled one after another.
-use Rattle.std.specs.Prelude.{◌≡◌, refl, ℕ, suc, ◌+◌, ◌≤◌, ◌<◌, min, List, [], ◌∷◌, ◌++◌, length, set, get_or, drop}
-use Rattle.std.proofs.Common.{sym, ◌∙◌, ap, add-one, arith, append_assoc, length-append, length-drop, drop-cons, take-suc, length-take-le}
-use Rattle.std.proofs.Math.Nat.{min-le_right}
+use Rattle.std.specs.Prelude.{◌≡◌, ℕ, suc, ◌+◌, ◌≤◌, ◌<◌, List, [], ◌∷◌, ◌++◌, length, set, get_or, drop}
+use Rattle.std.proofs.Common.{sym, ◌∙◌, ap, add-one, arith, append_assoc, drop-cons, take-suc, length-take-le}
 use Rattle.std.proofs.Math.Seq.{set-append_seam}
 use Rattle.search_rows.specs.declared.Row.{Row}
 use Rattle.search_rows.specs.Held.{rows_of, rows_in}

@@ -61,6 +61,17 @@ pub struct Answer {
     pub leaves: u32,
 }
 
+// What a question that is refused returns: its number, 0 rows, 0 leaves.
+pub fn refused(code: u32) -> Answer
+    ensures { result ≡ record { code = code; count = 0; leaves = 0 } }
+{
+    Answer {
+        code,
+        count: 0,
+        leaves: 0,
+    }
+}
+
 impl From<Result<Found, Refusal>> for Answer {
     ghost from_gives = { λ outcome answer. answer ≡ answer_of outcome };
 
@@ -71,28 +82,25 @@ impl From<Result<Found, Refusal>> for Answer {
                 count: found.count,
                 leaves: found.leaves,
             },
-            Err(refusal) => Answer {
-                code: refusal.into(),
-                count: 0,
-                leaves: 0,
-            },
+            Err(refusal) => refused(refusal.into()),
         }
     }
 }
 
-// Hands an outcome over: the rows are filled with the candidates and the question is tallied; where it is refused both are left alone.
+// Hands an answer over: the rows are filled with the candidates and the question is tallied; where it is refused both are left alone.
 pub fn deliver(
     rows: &mut [Row],
     tally: &mut Tally,
-    outcome: Result<Found, Refusal>,
+    answer: Answer,
     highs: &[u64],
     lows: &[u64],
-) -> Result<Found, Refusal>
-    ensures { Delivered (answer_of outcome) highs.now lows.now rows.old tally.old
-        (answer_of result) rows.new tally.new }
+) -> Answer
+    ensures { Delivered answer highs.now lows.now rows.old tally.old
+        result rows.new tally.new }
 {
-    let found = outcome?;
-    fill_rows(rows, highs, lows, found.count);
-    tally_question(tally, found.leaves);
-    Ok(found)
+    if answer.code == 0 {
+        fill_rows(rows, highs, lows, answer.count);
+        tally_question(tally, answer.leaves);
+    }
+    answer
 }

@@ -10,6 +10,7 @@ ghost use Rattle.index_query.specs.Asking.{question_of, Searchable};
 ghost use Rattle.index_trusted.specs.Changes.{TrustedInserted, TrustedDeleted};
 ghost use Rattle.index_trusted.specs.Questions.{Places, Answered, TrustedOutcome, TrustedQuestioned};
 
+pub use index_answer::refused;
 use index_answer::{Found, Tally, deliver};
 use index_codes::Refusal;
 use index_query::{Criteria, query_of};
@@ -107,5 +108,6 @@ pub fn question(
         &mut highs,
         &mut lows,
     );
-    deliver(rows, tally, outcome, &highs, &lows)
+    deliver(rows, tally, outcome.into(), &highs, &lows);
+    outcome
 }

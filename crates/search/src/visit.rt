@@ -63,7 +63,6 @@ fn goes_on(
 }
 
 // Takes branches from the root on, the first one first, until its bound exceeds the k-th distance.
-// Kept: a `while`, since the frontier grows as it is emptied, and the rows held decide with it when the visit ends.
 pub fn best_first(
     index: &[u8],
     sought: &Sought,

@@ -1,5 +1,4 @@
 // The frontier: keys of branches in a heap.
-// Kept: slots with the number of branches beside them, as search_heap takes them.
 #![tactic(auto)]
 
 ghost use Rattle.std.specs.Prelude.{◌≡◌, ◌≤◌, ◌<◌, min};

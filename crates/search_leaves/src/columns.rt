@@ -125,8 +125,7 @@ fn weighted_cost(cost: u32, weight: u16) -> u64
 }
 
 // Adds what coordinate m costs with its weight to the sums of the first n records.
-// Kept: beside `add_column`, as the sums have another width and each cost a factor; one function for both would be handed, for the one line
-// that differs, a closure with clauses of its own, and state its contract by them.
+// Kept: beside `add_column`. One loop for both was measured and made a question without weights 1 to 10 % slower (docs/DECISIONS.md, "Two ways through a leaf").
 fn add_weighted(page: &[u8], q: &[u16], weights: &[u16], m: usize, n: usize, sums: &mut [u64])
     requires { WeightedSums page.now weights.now q.now m n sums.old × (m < length q.now) }
     ensures { WeightedSums page.now weights.now q.now (m + 1) n sums.new }

@@ -1,5 +1,4 @@
 // Leaves: the one function that reads leaf pages.
-// Kept: highs, lows and the numbers n and k of rows side by side, as search_rows takes them.
 #![tactic(auto)]
 
 ghost use Rattle.std.specs.Prelude.{◌≡◌, true, ◌≤◌, ◌<◌, min, length, get_or, take};
