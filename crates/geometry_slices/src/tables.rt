@@ -19,8 +19,10 @@ fn row_at(reach: u16, m: u16, j: u16) -> u16
 {
     if m == j {
         0
+    } else if j < m {
+        reach.saturating_sub(1)
     } else {
-        reach.saturating_sub(u16::from(j < m))
+        reach
     }
 }
 
