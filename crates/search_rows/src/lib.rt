@@ -82,16 +82,18 @@ pub fn row_of(high: u64, low: u64) -> Row
     }
 }
 
-// Whether there is a row before index i that is not before the row of these words.
+// Whether there is a row before index i that is not before the row of these words. Most are passed by their upper words alone, which are looked at first:
+// the derived order looks at both, without a branch.
 fn gives_way(highs: &[u64], lows: &[u64], i: usize, words: Words) -> bool
     requires { (i ≤ length highs.now) × (i ≤ length lows.now) }
     ensures { GivesWay highs.now lows.now i (row_of words.high words.low) result }
 {
     i > 0
-        && Words {
-            high: highs[i - 1],
-            low: lows[i - 1],
-        } >= words
+        && (highs[i - 1] > words.high
+            || Words {
+                high: highs[i - 1],
+                low: lows[i - 1],
+            } >= words)
 }
 
 // Puts the row of these words in among the n rows, from the last on; those behind it move up by one.

@@ -1,4 +1,4 @@
-use Rattle.std.proofs.Common.{◌≡◌, ◌-◌, ◌<◌, ◌≤◌, not, arith, refl, ◌∙◌, lt-ltb, le-ltb, eq-eqb, ne_eqb}
+use Rattle.std.proofs.Common.{false, get_or, ◌≡◌, ◌-◌, ◌<◌, ◌≤◌, not, arith, refl, ◌∙◌, lt-ltb, le-ltb, eq-eqb, ne_eqb}
 use Rattle.std.specs.Ordering.{partial_ge}
 use Rattle.lists.specs.Tests.{three}
 use Rattle.search_rows.specs.declared.Words.{Words}
@@ -19,8 +19,14 @@ in_order v w f g = three v.high w.high
     (λ n. let l : w.high ≤ v.high = omega arith in
     rw (← farther v.high v.low w.high w.low f g n, le-ltb v.high w.high l, ne_eqb v.high w.high (omega arith)))
 
-pub returns-then-i-gt0 : goal.returns-then-i-gt0
-returns-then-i-gt0 c =
+pub returns-then-highs-i : goal.returns-then-highs-i
+returns-then-highs-i c =
+    let a = c.args in
+    rw (lt-ltb a.words.high (get_or a.highs.now (a.i - 1) 0) c.if-highs-i.true) (way_some a.highs.now a.lows.now a.i (row_of a.words.high a.words.low) false (omega arith)
+    (farther _ _ a.words.high a.words.low (omega (arith, c.type_inv.lows (a.i - 1))) (omega arith) c.if-highs-i.true))
+
+pub returns-else-highs-i : goal.returns-else-highs-i
+returns-else-highs-i c =
     let a = c.args in
     let e = c.ge.ensures ∙ in_order _ a.words (omega (arith, c.type_inv.lows (a.i - 1))) (omega arith) in
     rw (e) (way_some a.highs.now a.lows.now a.i (row_of a.words.high a.words.low) _ (omega arith) refl)
