@@ -41,7 +41,8 @@ pub fn first_line(index: &mut [u8], line: &[u8], out: &mut [u8], at: usize) -> B
     let d = read_names(line);
     match d {
         Some(n) => {
-            index::make(index, n as u8);
+            // 64 pages and 1 to 16 features are not refused.
+            let _ = index::make(index, n as u8);
             Begun { d, at: e }
         }
         None => {
