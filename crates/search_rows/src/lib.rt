@@ -30,8 +30,8 @@ const IDS: u64 = 4294967296;
 
 const POSITIONS: u64 = 268435456;
 
-// The two words of a row; the order of such words is that of rows.
-#[derive(Clone, Copy, PartialEq, Eq, PartialOrd, Ord)]
+// The two words of a row; their order, the upper first, is that of rows.
+#[derive(Clone, Copy)]
 struct Words {
     high: u64,
     low: u64,
@@ -82,18 +82,14 @@ pub fn row_of(high: u64, low: u64) -> Row
     }
 }
 
-// Whether there is a row before index i that is not before the row of these words. Most are passed by their upper words alone, which are looked at first:
-// the derived order looks at both, without a branch.
+// Whether there is a row before index i that is not before the row of these words.
+// Kept: the order of words by hand. The derived one reads both words of each row, without a branch: with it a question of one feature took 17 % more
+// instructions, of two features 8 %.
 fn gives_way(highs: &[u64], lows: &[u64], i: usize, words: Words) -> bool
     requires { (i ≤ length highs.now) × (i ≤ length lows.now) }
     ensures { GivesWay highs.now lows.now i (row_of words.high words.low) result }
 {
-    i > 0
-        && (highs[i - 1] > words.high
-            || Words {
-                high: highs[i - 1],
-                low: lows[i - 1],
-            } >= words)
+    i > 0 && (highs[i - 1] > words.high || (highs[i - 1] == words.high && lows[i - 1] >= words.low))
 }
 
 // Puts the row of these words in among the n rows, from the last on; those behind it move up by one.
