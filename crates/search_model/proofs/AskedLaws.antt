@@ -74,6 +74,11 @@ full_marks s h =
     let all : full_set ≡ set_of (λ s. true) = omega arith in
     rw all (marks_read (λ s. true) s h)
 
+-- whether a record is a candidate goes by its stage and its stamp alone
+pub by_stage_and_stamp : (q : Asked) (r s : Record) → r.stage ≡ s.stage → r.stamp ≡ s.stamp → candidate q r ≡ candidate q s
+unfolding candidate
+by_stage_and_stamp q r s e f = rw (e, f)
+
 -- so on a sound index each record is a candidate of a question for the full set without dates
 full_candidate : (q : Asked) → LeavesOutNone q.choice → (r : Record) → r.stage ≤ max_stage → candidate q r ≡ true
 unfolding candidate in_window
