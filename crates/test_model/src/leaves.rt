@@ -1,6 +1,7 @@
 // The leaves that a question has to read, counted apart from the search: the pairs of their first and last records, and for each question
 // the least distance at every pair.
 ghost use Rattle.std.specs.Prelude.{◌<◌, ◌≤◌, length};
+ghost use Rattle.std.specs.Range.{range_inclusive_end, range_inclusive_start};
 
 use crate::Scene;
 use crate::marks::Mark;
@@ -45,6 +46,7 @@ fn axis_of(places: &[u16]) -> usize
 // The pair of a point as one number: 1,001 times its pyramid, and its height.
 fn pair_number(places: &[u16]) -> usize
     requires { (0 < length places.now) × (length places.now ≤ 16) }
+    ensures { result < 32032 }
 {
     let axis = axis_of(places);
     let place = places[axis];
@@ -59,6 +61,7 @@ fn pair_number(places: &[u16]) -> usize
 // The pairs of a leaf's first record and of its last one.
 fn span(leaf: &Leaf, d: usize) -> RangeInclusive<usize>
     requires { (1 ≤ d) × (d ≤ 16) }
+    ensures { (range_inclusive_start result < 32032) × (range_inclusive_end result < 32032) }
 {
     let last = leaf.count.min(MAX_ITEMS).saturating_sub(1);
     pair_number(&leaf.records[0].coords[..d])..=pair_number(&leaf.records[last].coords[..d])
