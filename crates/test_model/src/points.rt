@@ -3,7 +3,7 @@ ghost use Rattle.std.specs.Prelude.{◌≤◌};
 
 use crate::POINTS;
 use crate::marks::Mark;
-use crate::numbers::next;
+use crate::numbers::{id_of, next};
 use geometry::MAX_FEATURES;
 use std::fmt;
 use test_parts::places::coordinate;
@@ -14,12 +14,6 @@ pub struct Point {
     pub id: u32,
     pub places: [u16; MAX_FEATURES],
     pub mark: Option<Mark>,
-}
-
-// The identifier of point p: the first 10,007 are distinct, and they are not in the order of p.
-fn id_of(p: usize) -> u32 {
-    let turn = (p % 10007) * 7919 % 10007;
-    turn as u32 * 429000 + 1
 }
 
 // How the points of a batch lie: anywhere, in five clusters, or all tied on -1, 0 and 1.
