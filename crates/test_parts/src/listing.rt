@@ -1,5 +1,5 @@
 // The leaves of an index in key order, found apart from the search.
-ghost use Rattle.std.specs.Prelude.{◌≤◌};
+ghost use Rattle.std.specs.Prelude.{◌≤◌, length};
 
 use pagestore::{MAX_ITEMS, inner_at, root_level, root_page};
 
@@ -31,7 +31,9 @@ impl Pages {
         }
     }
 
-    pub fn as_slice(&self) -> &[u32] {
+    pub fn as_slice(&self) -> &[u32]
+        ensures { length result.now ≤ 1024 }
+    {
         &self.numbers[..self.count]
     }
 }
