@@ -47,7 +47,7 @@ pub fn asked_points(way: Way, seed: u64) -> Wanted {
 
 // Another number for each batch.
 pub fn batch_seed(b: &Batch, seed: u64) -> u64 {
-    leap(seed % 65536 + 100 * b.kind as u64 + b.d as u64)
+    leap(seed % 65536 + 100 * b.kind as u64 + (b.d % 32) as u64)
 }
 
 // A write that fails is passed over, here and below.

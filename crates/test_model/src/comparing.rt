@@ -1,4 +1,6 @@
 // An answer compared with the full scan: its rows, one by one, the leaves that hold them, and the number of leaves read.
+ghost use Rattle.std.specs.Prelude.{◌≡◌, ◌≤◌, length};
+
 use crate::leaves::{holds, leaves_within};
 use crate::origin::Origin;
 use crate::scan::{Near, scan};
@@ -14,11 +16,19 @@ fn is_found(scene: &Scene, near: &Near, row: Row) -> bool {
 }
 
 // Compares an answer with the scan, and its leaves with those to be read: all of them if there are fewer than k candidates, else those whose bound is
-// at most the last distance.
-pub fn compare(scene: &Scene, origin: &Origin, asked: &Asked, reply: &Reply) -> Seen {
+// at most the last distance. `nears` has a place for each point.
+pub fn compare(
+    scene: &Scene,
+    origin: &Origin,
+    asked: &Asked,
+    reply: &Reply,
+    nears: &mut [Option<Near>],
+) -> Seen
+    requires { (1 ≤ origin.now.d) × (length nears.old ≡ length scene.now.points.now) }
+{
     let answer = reply.answer;
     let n = answer.count;
-    let nears = scan(scene.points, origin, &asked.wanted);
+    scan(scene.points, origin, &asked.wanted, nears);
     let candidates = nears.iter().flatten().count();
     if answer.code != 0 || n != asked.k.min(candidates) || MAX_ROWS < n {
         return Seen::WRONG;

@@ -122,7 +122,9 @@ fn span_bound(table: &[u64; PAIRS], span: RangeInclusive<usize>) -> u64 {
 }
 
 // How many leaves have a bound of at most a distance.
-pub fn leaves_within(scene: &Scene, origin: &Origin, distance: u64) -> usize {
+pub fn leaves_within(scene: &Scene, origin: &Origin, distance: u64) -> usize
+    requires { 1 ≤ origin.now.d }
+{
     let table = table_of(origin);
     scene
         .leaves

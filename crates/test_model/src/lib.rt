@@ -2,8 +2,6 @@
 // the leaves whose bound is at most a distance, and an answer compared with these.
 #![tactic(auto)]
 
-ghost use Rattle.std.specs.Prelude.{◌≤◌};
-
 use days::Days;
 use geometry::MAX_FEATURES;
 use marks::Mark;
@@ -46,7 +44,6 @@ pub struct Batch {
     pub points: usize,
     pub kind: Kind,
     pub questions: u32,
-    pub ghost fits: { (1 ≤ d) × (d ≤ 16) × (points ≤ 1024) },
 }
 
 // The index asked, its leaves in key order, and the points inserted into it.
@@ -54,5 +51,5 @@ pub struct Batch {
 pub struct Scene<'a> {
     pub index: &'a [u8],
     pub leaves: &'a [u32],
-    pub points: &'a [Point; POINTS],
+    pub points: &'a [Point],
 }

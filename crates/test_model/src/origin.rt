@@ -8,7 +8,7 @@ pub struct Origin {
     pub places: [u16; MAX_FEATURES],
     pub weights: [u16; MAX_FEATURES],
     pub d: usize,
-    pub ghost fits: { (1 ≤ d) × (d ≤ 16) },
+    pub ghost fits: { d ≤ 16 },
 }
 
 impl Origin {

@@ -1,8 +1,10 @@
 // A full scan of the points, written apart from the index and its search: every distance, and all points in the order of their distances.
+ghost use Rattle.std.specs.Prelude.{◌≡◌, length};
+
+use crate::Wanted;
 use crate::marks::Mark;
 use crate::origin::Origin;
 use crate::points::Point;
-use crate::{POINTS, Wanted};
 use std::cmp::Reverse;
 
 // A point that is wanted: the nearer first, among equals the newer, and of these the one of the lower identifier.
@@ -23,9 +25,10 @@ impl Near {
     }
 }
 
-// The points wanted, in their order; places that are left over are before them.
-pub fn scan(points: &[Point; POINTS], origin: &Origin, wanted: &Wanted) -> [Option<Near>; POINTS] {
-    let mut nears = [None; POINTS];
+// Puts the points wanted into `nears`, in their order; places that are left over are before them.
+pub fn scan(points: &[Point], origin: &Origin, wanted: &Wanted, nears: &mut [Option<Near>])
+    requires { length nears.old ≡ length points.now }
+{
     for (near, point) in nears.iter_mut().zip(points) {
         *near = point
             .mark
@@ -38,10 +41,9 @@ pub fn scan(points: &[Point; POINTS], origin: &Origin, wanted: &Wanted) -> [Opti
             });
     }
     nears.sort_unstable();
-    nears
 }
 
 // How many points are live.
-pub fn live_count(points: &[Point; POINTS]) -> usize {
+pub fn live_count(points: &[Point]) -> usize {
     points.iter().filter(|point| point.mark.is_some()).count()
 }

@@ -1,4 +1,6 @@
 // A question asked of the index, and compared with the full scan.
+ghost use Rattle.std.specs.Prelude.{◌≡◌, ◌≤◌, length};
+
 use index_answer::Answer;
 use index_query::Criteria;
 use search_rows::MAX_ROWS;
@@ -7,7 +9,7 @@ use test_model::days::FIRST_DAY;
 use test_model::origin::Origin;
 use test_model::points::coordinates;
 use test_model::seen::Seen;
-use test_model::{Asked, Scene};
+use test_model::{Asked, POINTS, Scene};
 use test_parts::answers::Reply;
 
 // The question for the nearest of the origin's point, by these weights if it carries them.
@@ -44,8 +46,10 @@ fn criteria_of(asked: &Asked) -> Criteria {
 }
 
 // Asks one question; the scan goes by the origin's weights.
-pub fn ask_from(scene: &Scene, origin: &Origin, asked: &Asked) -> Seen {
+pub fn ask_from(scene: &Scene, origin: &Origin, asked: &Asked) -> Seen
+    requires { (1 ≤ origin.now.d) × (length scene.now.points.now ≡ 1024) }
+{
     let weights = &origin.weights[..origin.d];
     let reply = ask(scene.index, origin, weights, criteria_of(asked));
-    compare(scene, origin, asked, &reply)
+    compare(scene, origin, asked, &reply, &mut [None; POINTS])
 }

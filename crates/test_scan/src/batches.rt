@@ -1,5 +1,6 @@
 // Batches of points with many questions each, compared with the full scan.
-ghost use Rattle.std.specs.Prelude.{◌≤◌};
+ghost use Rattle.std.specs.Prelude.{◌≡◌, ◌≤◌, length};
+ghost use Rattle.test_model.specs.Comparing.{Fits};
 
 use crate::asking::ask_from;
 use crate::filling::{delete_points, insert_points};
@@ -30,7 +31,9 @@ fn weights_by(pattern: Option<Pattern>, d: usize, seed: u64) -> [u16; MAX_FEATUR
 }
 
 // Asks question i of a batch in one of three ways.
-fn ask_one(scene: &Scene, b: &Batch, way: Way, i: u64, seed: u64) -> Seen {
+fn ask_one(scene: &Scene, b: &Batch, way: Way, i: u64, seed: u64) -> Seen
+    requires { Fits b.now × (length scene.now.points.now ≡ 1024) }
+{
     let (places, _) = asked_kind(b.kind, seed).draw((seed % 5) as usize, seed);
     let pattern = asked_pattern(way, i);
     let origin = Origin {
@@ -47,7 +50,9 @@ fn ask_one(scene: &Scene, b: &Batch, way: Way, i: u64, seed: u64) -> Seen {
 }
 
 // Asks the questions of a batch in one way.
-fn ask_all(scene: &Scene, b: &Batch, way: Way, seed: u64) -> Seen {
+fn ask_all(scene: &Scene, b: &Batch, way: Way, seed: u64) -> Seen
+    requires { Fits b.now × (length scene.now.points.now ≡ 1024) }
+{
     let mut n = batch_seed(b, seed);
     let mut seen = Seen::default();
     for i in 0..u64::from(b.questions) {
@@ -65,7 +70,9 @@ fn round(
     b: &Batch,
     refused: u64,
     seed: u64,
-) {
+)
+    requires { Fits b.now }
+{
     let pages = leaves(index);
     let scene = Scene {
         index,
@@ -81,7 +88,9 @@ fn round(
 }
 
 // A batch in an index of 256 pages: all points are inserted, every third one is deleted, twice, and those deleted are inserted again.
-fn run_batch(rt: &impl Print, b: &Batch) {
+fn run_batch(rt: &impl Print, b: &Batch)
+    requires { Fits b.now }
+{
     let mut index = [0u8; 256 * PAGE_SIZE];
     let mut points = b.kind.draw_all(12345);
     let _ = index::make(&mut index, b.d as u8);

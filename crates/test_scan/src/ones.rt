@@ -32,6 +32,7 @@ fn replies_differ(a: &Reply, b: &Reply) -> u64
 
 // One question of a batch, with weights of ones and without weights.
 fn ask_one(index: &[u8], b: &Batch, seed: u64) -> u64
+    requires { b.now.d ≤ 16 }
     ensures { result ≤ 131 }
 {
     let (places, _) = asked_kind(b.kind, seed).draw((seed % 5) as usize, seed);
@@ -51,7 +52,9 @@ fn ask_one(index: &[u8], b: &Batch, seed: u64) -> u64
 }
 
 // Asks n questions of a batch, each both ways. Returns how many words differ.
-pub fn ones_and_none(index: &[u8], b: &Batch, n: u32, seed: u64) -> u64 {
+pub fn ones_and_none(index: &[u8], b: &Batch, n: u32, seed: u64) -> u64
+    requires { b.now.d ≤ 16 }
+{
     let mut drawn = batch_seed(b, seed);
     let mut differences = 0;
     for _ in 0..n {
