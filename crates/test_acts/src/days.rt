@@ -223,7 +223,7 @@ pub fn run(rt: &impl Print) {
         "4 pages, d 1, identifiers 1 to 17 at 1 to 17, stamps 86400 apart",
     );
     let mut index = [0u8; 4 * PAGE_SIZE];
-    fill(rt, &mut index, 86400, 0);
+    fill(rt, &mut index, true, 0);
     for asked in &LEAVES {
         ask_leaves(rt, &index, asked);
     }

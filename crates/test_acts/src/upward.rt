@@ -46,10 +46,9 @@ fn show_leaves(rt: &impl Print, index: &[u8], said: &[(u64, u64, u64)]) {
 }
 
 // The 17 inserts; `said` is what 01 says of the last one.
-pub fn fill(rt: &impl Print, index: &mut [u8], apart: u32, said: u64)
-    requires { apart ≤ 86400 }
-{
+pub fn fill(rt: &impl Print, index: &mut [u8], daily: bool, said: u64) {
     let book = Document::Book;
+    let apart = if daily { 86400 } else { 0 };
     make(rt, index, "make", 1, 0);
     book.line(
         rt,
@@ -110,11 +109,11 @@ fn fewer(rt: &impl Print, index: &mut [u8]) {
 pub fn run(rt: &impl Print) {
     let mut three = [0u8; 3 * PAGE_SIZE];
     title(rt, "3 pages, d 1, identifiers 1 to 17 at 1 to 17");
-    fill(rt, &mut three, 0, 9);
+    fill(rt, &mut three, false, 9);
     show_check(rt, &three);
     let mut four = [0u8; 4 * PAGE_SIZE];
     title(rt, "4 pages, the same");
-    fill(rt, &mut four, 0, 0);
+    fill(rt, &mut four, false, 0);
     show_check(rt, &four);
     show_leaves(rt, &four, &[(9, 1, 9), (8, 10, 17)]);
     questions(rt, &four);
