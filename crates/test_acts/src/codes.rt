@@ -1,6 +1,8 @@
 // The refusals of 01, through the acts: lengths, features, coordinates, identifiers, k, rows lent and a damaged byte.
 // An index of 16,777,216 bytes is larger than a program's stack: of the two greatest lengths `index_refusals::permitted` is asked, which every act
 // asks first; the lengths 2,047 and 2,048 are lent.
+ghost use Rattle.std.specs.Prelude.{◌≡◌, length};
+
 use crate::common::{
     CASE, Case, INSERT, Insert, NEAREST, Question, SHORTEST, ask_cases, checked, delete,
     insert_all, make,
@@ -208,7 +210,9 @@ fn show_question(rt: &impl Print, index: &[u8], x: i16, k: usize, rows: u64, lea
 }
 
 // How many bytes of two runs differ.
-pub fn changed(a: &[u8; SHORTEST], b: &[u8; SHORTEST]) -> u64 {
+pub fn changed(a: &[u8], b: &[u8]) -> u64
+    requires { length a.now ≡ length b.now }
+{
     a.iter().zip(b).filter(|(x, y)| x != y).count() as u64
 }
 
