@@ -30,7 +30,9 @@ pub fn splice<T: Copy>(slots: &mut [T], items: &[T], from: usize, to: usize, oth
     append(slots, with, &items[to.min(count)..])
 }
 
-// The same of entries, which give way to those of the pages that they have become.
+// The same of entries, which give way to those of the pages that they have become. Inlined, so that LLVM sees slots and items in arrays apart and copies
+// by C's `memcpy`: where it does not, it wants `memmove`, which the library is not to need.
+#[inline(always)]
 pub fn splice_grown(
     slots: &mut [Entry],
     items: &[Entry],
