@@ -24,15 +24,28 @@ pub fn in_range(index: &[u8], page: u32) -> bool
     (1..page_count(index)).contains(&page)
 }
 
-// The bytes of a page, its own stretch of the index, if it is one.
-fn page_bytes(index: &[u8], page: u32) -> Option<&[u8]>
-    ensures { MatchOption result (stretch index.now page ≡ []) (λ s. (s.now ≡ stretch index.now page) × (length s.now ≡ 1024)) }
+// The bytes of a page, its own stretch of the index; none out of range.
+// Kept: no Option, as `page_bytes` gives. What `stretch` promises of a page out of range, no bytes, is a part without bytes.
+pub fn stretch(index: &[u8], page: u32) -> &[u8]
+    ensures { result.now ≡ stretch index.now page }
 {
     if in_range(index, page) {
         let at = page as usize * PAGE_SIZE;
-        Some(&index[at..at + PAGE_SIZE])
+        &index[at..at + PAGE_SIZE]
     } else {
+        &index[0..0]
+    }
+}
+
+// The same, if the page is one.
+fn page_bytes(index: &[u8], page: u32) -> Option<&[u8]>
+    ensures { MatchOption result (stretch index.now page ≡ []) (λ s. (s.now ≡ stretch index.now page) × (length s.now ≡ 1024)) }
+{
+    let bytes = stretch(index, page);
+    if bytes.len() < PAGE_SIZE {
         None
+    } else {
+        Some(bytes)
     }
 }
 
@@ -45,14 +58,6 @@ pub fn write_page<F: FnOnce(&mut [u8])>(index: &mut [u8], page: u32, write: F)
         let at = page as usize * PAGE_SIZE;
         write(&mut index[at..at + PAGE_SIZE]);
     }
-}
-
-// The bytes of a page; none out of range.
-// Kept: no Option, as `page_bytes` gives. What `stretch` promises of a page out of range, no bytes, is a part without bytes.
-pub fn stretch(index: &[u8], page: u32) -> &[u8]
-    ensures { result.now ≡ stretch index.now page }
-{
-    page_bytes(index, page).unwrap_or(&index[0..0])
 }
 
 // A byte of a page; 0 out of range.

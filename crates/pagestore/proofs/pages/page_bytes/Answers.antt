@@ -1,14 +1,9 @@
-use Rattle.std.proofs.Common.{sym, arith}
-use Rattle.pagestore.specs.Store.RangeLaws.{range_whole}
-use Rattle.pagestore.specs.Store.StretchLaws.{stretch_out}
-use Rattle.pagestore.proofs.CodeLaws.{part_is, part_whole}
+use Rattle.std.proofs.Common.{sym, ◌∙◌, ap, length, arith}
+use Rattle.pagestore.specs.Store.StretchLaws.{stretch_short, stretch_whole}
 use Rattle.pagestore.proofs.pages.page_bytes.Goals as goal
 
-pub slice_bounds-result-end : goal.slice_bounds-result-end
-slice_bounds-result-end c = omega (arith, range_whole _ _ (sym c.if-in_range.ensures))
+pub returns-then-bytes-lt-PAGE_SIZE : goal.returns-then-bytes-lt-PAGE_SIZE
+returns-then-bytes-lt-PAGE_SIZE c = stretch_short _ _ (rw (sym c.stretch-bytes.ensures) (omega arith))
 
-pub returns-then-in_range : goal.returns-then-in_range
-returns-then-in_range c = (part_is _ _ (sym c.if-in_range.ensures), part_whole _ _ (sym c.if-in_range.ensures))
-
-pub returns-else-in_range : goal.returns-else-in_range
-returns-else-in_range c = stretch_out _ _ (sym c.if-in_range.ensures)
+pub returns-else-bytes-lt-PAGE_SIZE : goal.returns-else-bytes-lt-PAGE_SIZE
+returns-else-bytes-lt-PAGE_SIZE c = (c.stretch-bytes.ensures, ap length c.stretch-bytes.ensures ∙ stretch_whole _ _ (rw (sym c.stretch-bytes.ensures) (omega arith)))
