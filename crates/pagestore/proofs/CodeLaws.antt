@@ -36,6 +36,10 @@ part_set b p xs ys h e = rw (e, Post-is (p * 1024) (p * 1024 + 1024) b (omega ar
 pub part_none : (b : List ℕ) (p : ℕ) (xs : List ℕ) → in_range b p ≡ false → b ≡ set_stretch b p xs
 part_none b p xs h = sym (set_out b p xs h)
 
+-- what is written at page q is written at page p, where q is p
+pub same_place : (b : List ℕ) (p q : ℕ) (xs : List ℕ) → q ≡ p → set_stretch b q xs ≡ set_stretch b p xs
+same_place b p q xs e = ap (λ (n : ℕ). set_stretch b n xs) e
+
 -- ---- a new index
 
 zeros : (n : ℕ) (b ys : List ℕ) → n ≤ length b → ys ≡ replicate (length (take n b)) 0 → ys ≡ replicate n 0

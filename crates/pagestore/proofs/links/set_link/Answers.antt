@@ -1,6 +1,7 @@
-use Rattle.std.proofs.Common.{sym, ◌∙◌, rules}
+use Rattle.std.proofs.Common.{sym, ◌∙◌, arith, rules}
 use Rattle.pagestore.specs.Store.StretchLaws.{set_link_opens}
+use Rattle.pagestore.proofs.CodeLaws.{same_place}
 use Rattle.pagestore.proofs.links.set_link.Goals as goal
 
 pub returns : goal.returns
-returns c = c.write_page.ensures _ (λ s t h w. search rules) ∙ sym (set_link_opens _ _ _)
+returns c = c.write_page.ensures _ (λ s t h w. search rules) ∙ same_place _ c.args.page _ _ (omega arith) ∙ sym (set_link_opens _ _ _)
