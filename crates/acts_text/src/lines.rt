@@ -39,6 +39,13 @@ fn read_kind(f: &[u8]) -> Option<Act>
     Act::try_from(read_natural(f, u32::MAX)?).ok()
 }
 
+// The stamp that a field is.
+fn read_stamp(f: &[u8]) -> Option<u32>
+    ensures { result ≡ number f.now }
+{
+    read_natural(f, u32::MAX)
+}
+
 // The d coordinates that fields say, then zeros.
 fn read_coordinates(line: &[u8], d: usize) -> Option<[i16; MAX_FEATURES]>
     requires { d ≤ max_features }
@@ -73,7 +80,7 @@ pub fn read_act(line: &[u8], d: usize) -> Option<ActLine>
         id: read_natural(id, u32::MAX)?,
         k: read_natural(k, u32::MAX)?,
         stage: read_natural(stage, u32::MAX)?,
-        stamp: read_natural(stamp, u32::MAX)?,
+        stamp: read_stamp(stamp)?,
         d,
         coords: read_coordinates(rest, d)?,
     })

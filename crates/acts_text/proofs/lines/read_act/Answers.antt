@@ -22,10 +22,10 @@ returns-in_err-read_natural-3 c =
     no_stage c.args.d c.args.line.now _ _ _ _ _ _ _ _ _ _ (omega arith) (omega arith) c.field.ensures c.field-2.ensures c.field-3.ensures c.field-4.ensures c.field-5.ensures
     _ c.read_natural-3.result c.from_residual-in_err-read_natural-3.ensures c.read_natural-3.ensures c.in_err-read_natural-3.was
 
-pub returns-in_err-read_natural-4 : goal.returns-in_err-read_natural-4
-returns-in_err-read_natural-4 c =
+pub returns-in_err-read_stamp : goal.returns-in_err-read_stamp
+returns-in_err-read_stamp c =
     no_stamp c.args.d c.args.line.now _ _ _ _ _ _ _ _ _ _ (omega arith) (omega arith) c.field.ensures c.field-2.ensures c.field-3.ensures c.field-4.ensures c.field-5.ensures
-    _ c.read_natural-4.result c.from_residual-in_err-read_natural-4.ensures c.read_natural-4.ensures c.in_err-read_natural-4.was
+    _ c.read_stamp.result c.from_residual-in_err-read_stamp.ensures c.read_stamp.ensures c.in_err-read_stamp.was
 
 pub returns-in_err-read_coordinates : goal.returns-in_err-read_coordinates
 returns-in_err-read_coordinates c =
@@ -35,6 +35,6 @@ returns-in_err-read_coordinates c =
 pub returns : goal.returns
 returns c =
     act_read c.args.d c.args.line.now _ _ _ _ _ _ _ _ _ _ (omega arith) (omega arith) c.field.ensures c.field-2.ensures c.field-3.ensures c.field-4.ensures c.field-5.ensures
-    _ _ _ _ _ _ c.read_kind.result c.read_natural.result c.read_natural-2.result c.read_natural-3.result c.read_natural-4.result c.read_coordinates.result
+    _ _ _ _ _ _ c.read_kind.result c.read_natural.result c.read_natural-2.result c.read_natural-3.result c.read_stamp.result c.read_coordinates.result
     c.read_kind.ensures c.in_ok-read_kind.was c.read_natural.ensures c.in_ok-read_natural.was c.read_natural-2.ensures c.in_ok-read_natural-2.was
-    c.read_natural-3.ensures c.in_ok-read_natural-3.was c.read_natural-4.ensures c.in_ok-read_natural-4.was c.read_coordinates.ensures c.in_ok-read_coordinates.was
+    c.read_natural-3.ensures c.in_ok-read_natural-3.was c.read_stamp.ensures c.in_ok-read_stamp.was c.read_coordinates.ensures c.in_ok-read_coordinates.was
