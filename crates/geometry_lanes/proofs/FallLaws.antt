@@ -1,9 +1,9 @@
 -- Lanes without weights: what coordinates fall by is what they pull, and enough of them are summed.
-use Rattle.std.proofs.Common.{◌≡◌, sym, ◌∙◌, Bool, true, false, List, ℕ, ◌+◌, ◌*◌, ◌-◌, ◌≤◌, ◌<◌, arith, le-leb, leb, get_or}
+use Rattle.std.proofs.Common.{◌≡◌, refl, ap, sym, ◌∙◌, Bool, true, false, List, ℕ, ◌+◌, ◌*◌, ◌-◌, ◌≤◌, ◌<◌, arith, le-leb, leb, get_or}
 use native.Mathlib.Decide.{dec_le}
 use borrow.Author.Tests.{lt-leb}
 use Rattle.lists.specs.Basics.{if}
-use Rattle.geometry_slices.proofs.RowLaws.{sum_ext}
+use Rattle.geometry_slices.proofs.RowLaws.{sum_ext, sum_parts}
 use Rattle.geometry_slices.specs.Questions.{size_of, sum_to, Unweighted}
 use Rattle.geometry_lanes.specs.Lanes.{pull_at, fall_at, summed, summed_in, UnweightedLanes, Falls, Weights}
 
@@ -27,6 +27,30 @@ in_enough unweighted d n l = by (leb n 8) unweighted
     by true y k = k
     by false true k = l
     by false false k = k
+
+-- what coordinates fall by, one after the other
+module _ (falls : List ℕ) (t : ℕ) where
+  later : (at k q m : ℕ) → k ≡ 32 * q → fall_at falls (at + k) t m ≡ fall_at falls at t (q + m)
+  later at k q m e = ap (λ (n : ℕ). get_or falls n 0 - t) (let i : at + k + 32 * m ≡ at + 32 * (q + m) = omega arith in i)
+
+  -- n coordinates after the first q, whose rows begin k places on
+  pub falls_on : (at k q n x y : ℕ) → x ≡ sum_to q (fall_at falls at t) → y ≡ sum_to n (fall_at falls (at + k) t) → k ≡ 32 * q
+      → x + y ≡ sum_to (q + n) (fall_at falls at t)
+  falls_on at k q n x y f g e =
+      let s = sum_ext n (fall_at falls (at + k) t) (λ (m : ℕ). fall_at falls at t (q + m)) (λ m l. later at k q m e) in
+      omega (arith, f, g, s, sum_parts n q (fall_at falls at t))
+
+  -- one coordinate after the first q, at place i
+  pub falls_next : (at i q x y : ℕ) → x ≡ sum_to q (fall_at falls at t) → y ≡ get_or falls i 0 - t → i ≡ at + 32 * q
+      → x + y ≡ sum_to (q + 1) (fall_at falls at t)
+  unfolding sum_to
+  falls_next at i q x y f g e =
+      let z : i ≡ at + 32 * q + 32 * 0 = omega arith in
+      let w : get_or falls i 0 - t ≡ fall_at falls (at + 32 * q) t 0 = ap (λ (n : ℕ). get_or falls n 0 - t) z in
+      falls_on at (32 * q) q 1 x y f (omega (arith, g, w)) refl
+
+  pub fall_small : ((x : ℕ) → get_or falls x 0 ≤ 2001) → (i y : ℕ) → y ≡ get_or falls i 0 - t → y ≤ 2001
+  fall_small h i y e = omega (arith, h i)
 
 -- a lane's sum without weights
 pub falls_pull : (falls weights : List ℕ) (n k i t sum : ℕ) → UnweightedLanes falls weights n → i < n → sum ≡ sum_to k (fall_at falls i t)
