@@ -1,6 +1,6 @@
 -- The followed pages, judged in turn, and the states of the others. Assumes nothing.
-use Rattle.std.proofs.Common.{inr, List, ℕ, ◌*◌, ◌≤◌, ◌<◌, arith, ltb, length, ltb-true, ltb-false}
-use Rattle.lists.specs.Tests.{by_cases}
+use Rattle.std.proofs.Common.{inr, ◌≡◌, sym, ◌∙◌, subst, List, ℕ, ◌+◌, ◌*◌, ◌≤◌, ◌<◌, arith, ltb, length, get_or, set, get_or-set_same, get_or-set_other, ltb-true, ltb-false}
+use Rattle.lists.specs.Tests.{by_cases, decide}
 use Rattle.pagestore.specs.Store.{View}
 use Rattle.sound_faults.specs.Faults.{IsPage, Reached}
 use Rattle.sound_faults.specs.Linked.{InState}
@@ -21,6 +21,14 @@ pages_start v ends h =
       first = λ q k r. absurd (none q k r);
       last = λ q k r. absurd (none q k r);
     }
+
+-- a value kept for page p, and those kept before
+pub kept_more : (v : View) (h : ℕ → ℕ) (m : List ℕ) (p x : ℕ) → p < length m → x ≡ h p → ((q : ℕ) → q < p → Reached v q → get_or m q 0 ≡ h q)
+    → (q : ℕ) → q < p + 1 → Reached v q → get_or (set m p x) q 0 ≡ h q
+kept_more v h m p x l e f q k r =
+    decide q p
+    (λ s. subst (λ (y : ℕ). get_or (set m p x) y 0 ≡ h y) (sym s) (get_or-set_same m p x 0 l ∙ e))
+    (λ d. get_or-set_other m p q x 0 d ∙ f q (omega (arith, d)) r)
 
 pub named_start : (v : View) (m : List ℕ) → Clear v m → Named v m (16 * 1)
 named_start v m c =
