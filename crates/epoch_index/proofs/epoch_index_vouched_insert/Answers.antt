@@ -1,0 +1,4 @@
+use Rattle.epoch_index.proofs.epoch_index_vouched_insert.Goals as goal
+
+pub returns : goal.returns
+returns c = rw c.code_of.ensures c.insert.ensures
