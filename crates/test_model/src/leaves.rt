@@ -6,19 +6,17 @@ ghost use Rattle.std.specs.Range.{range_inclusive_end, range_inclusive_start};
 use crate::Scene;
 use crate::marks::Mark;
 use crate::origin::Origin;
+use crate::scan::FAR;
 use geometry::{MAX_COORDINATE, MAX_FEATURES};
 use pagestore::{Leaf, MAX_ITEMS, Record, leaf_at};
 use std::ops::RangeInclusive;
 use test_parts::places::MAX_PLACE;
 
 // The heights of a pyramid: 0 to 1,000.
-const HEIGHTS: usize = 1001;
+pub const HEIGHTS: usize = 1001;
 
 // The pairs of a pyramid and a height.
-const PAIRS: usize = 2 * MAX_FEATURES * HEIGHTS;
-
-// The least distance to a pair that no point has.
-const FAR: u64 = u64::MAX;
+pub const PAIRS: usize = 2 * MAX_FEATURES * HEIGHTS;
 
 // Their spans, as numbers of pairs
 

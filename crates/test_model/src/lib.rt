@@ -4,6 +4,7 @@
 
 use days::Days;
 use geometry::MAX_FEATURES;
+pub use leaves::{HEIGHTS, PAIRS};
 use marks::Mark;
 use points::{Kind, Point};
 

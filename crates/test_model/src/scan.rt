@@ -7,6 +7,9 @@ use crate::origin::Origin;
 use crate::points::Point;
 use std::cmp::Reverse;
 
+// Farther than every point: the least distance where there is none.
+pub const FAR: u64 = u64::MAX;
+
 // A point that is wanted: the nearer first, among equals the newer, and of these the one of the lower identifier.
 #[derive(Clone, Copy, PartialEq, Eq, PartialOrd, Ord)]
 pub struct Near {
