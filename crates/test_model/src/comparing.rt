@@ -6,8 +6,8 @@ use crate::origin::Origin;
 use crate::scan::{Near, scan};
 use crate::seen::Seen;
 use crate::{Asked, Scene};
+use index_answer::Answer;
 use search_rows::{MAX_ROWS, Row, row_of};
-use test_parts::answers::Reply;
 
 // Whether a row is the one that the scan finds, and is held by the leaf at its position.
 fn is_found(scene: &Scene, near: &Near, row: Row) -> bool {
@@ -16,24 +16,27 @@ fn is_found(scene: &Scene, near: &Near, row: Row) -> bool {
 }
 
 // Compares an answer with the scan, and its leaves with those to be read: all of them if there are fewer than k candidates, else those whose bound is
-// at most the last distance. `nears` has a place for each point.
+// at most the last distance. The rows are lent in two words each; `nears` has a place for each point.
 pub fn compare(
     scene: &Scene,
     origin: &Origin,
     asked: &Asked,
-    reply: &Reply,
+    answer: Answer,
+    highs: &[u64],
+    lows: &[u64],
     nears: &mut [Option<Near>],
 ) -> Seen
-    requires { (1 ≤ origin.now.d) × (length nears.old ≡ length scene.now.points.now) }
+    requires features { 1 ≤ origin.now.d }
+    requires words { (64 ≤ length highs.now) × (64 ≤ length lows.now) }
+    requires room { length nears.old ≡ length scene.now.points.now }
 {
-    let answer = reply.answer;
     let n = answer.count;
     scan(scene.points, origin, &asked.wanted, nears);
     let candidates = nears.iter().flatten().count();
     if answer.code != 0 || n != asked.k.min(candidates) || MAX_ROWS < n {
         return Seen::WRONG;
     }
-    let words = reply.highs.iter().zip(&reply.lows);
+    let words = highs.iter().zip(lows);
     let differences = nears
         .iter()
         .flatten()
@@ -43,7 +46,7 @@ pub fn compare(
         .count() as u64;
     let last = match n {
         0 => 0,
-        _ => row_of(reply.highs[n - 1], reply.lows[n - 1]).distance,
+        _ => row_of(highs[n - 1], lows[n - 1]).distance,
     };
     let wanted = if candidates < asked.k {
         scene.leaves.len()

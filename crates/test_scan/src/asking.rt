@@ -51,5 +51,13 @@ pub fn ask_from(scene: &Scene, origin: &Origin, asked: &Asked) -> Seen
 {
     let weights = &origin.weights[..origin.d];
     let reply = ask(scene.index, origin, weights, criteria_of(asked));
-    compare(scene, origin, asked, &reply, &mut [None; POINTS])
+    compare(
+        scene,
+        origin,
+        asked,
+        reply.answer,
+        &reply.highs,
+        &reply.lows,
+        &mut [None; POINTS],
+    )
 }
