@@ -1,5 +1,5 @@
 -- The items of two neighbours laid out one behind the other, and written again. Assumes nothing.
-use Rattle.std.proofs.Common.{◌≡◌, ◌≢◌, refl, sym, zero, suc, ap, ◌∙◌, List, ◌++◌, ℕ, ◌+◌, arith, take, drop}
+use Rattle.std.proofs.Common.{◌≡◌, ◌≢◌, refl, sym, zero, suc, ap, ◌∙◌, List, ◌++◌, ℕ, ◌+◌, arith, length, take, drop}
 use Rattle.std.proofs.lemmas.List.{take_all, take-append-le, length-append}
 use Rattle.std.proofs.Math.Seq.{take-append-add}
 use Rattle.pagestore_page.specs.declared.Entry.{Entry}
@@ -19,6 +19,11 @@ module _ {A : Type 0} where
   laid : {n m : ℕ} {s t xs ys : List A} (rest : List A) → Held n s xs → Held m t ys → take (n + m) (take n s ++ (t ++ rest)) ≡ xs ++ ys
   laid {n} {m} {s} {t} {xs} {ys} rest h k =
       rw (h.items, h.count) (take-append-add xs (t ++ rest) m ∙ ap (λ (l : List A). xs ++ l) (take-append-le m t rest (held_most k) ∙ k.items))
+
+  pub both_held : {n m : ℕ} {s t xs ys : List A} (rest : List A) → Held n s xs → Held m t ys → Held (length (xs ++ ys)) (take n s ++ (t ++ rest)) (xs ++ ys)
+  both_held {n} {m} {xs} {ys} rest h k =
+      let e : n + m ≡ length (xs ++ ys) = omega (arith, h.count, k.count, length-append xs ys) in
+      record { count = refl; items = rw (← e) (laid rest h k) }
 
   module _ (write : List ℕ → ℕ → List A → List ℕ) (entry : ℕ → List A → Entry) (b : List ℕ) (p q : ℕ) {n m k : ℕ} {s t xs ys : List A} (rest : List A)
       (h : Held n s xs) (g : Held m t ys) (k= : k ≡ left_count n m) where

@@ -1,7 +1,8 @@
 // Two neighbours rebalanced: one gives the other its nearest item, or the two merge in the left page.
-ghost use Rattle.std.specs.Prelude.{◌≡◌, ◌≤◌, length};
+ghost use Rattle.std.specs.Prelude.{◌≡◌, ◌≤◌, ◌++◌, length};
 ghost use Rattle.tree_core.specs.Deletion.{put_rebalanced, rebalanced_pages};
 ghost use Rattle.tree_core.specs.CodeTerms.{RewriteDone};
+ghost use Rattle.tree_core.specs.Held.{Held};
 ghost use Rattle.tree_model.specs.Deleting.{rebalanced_items};
 
 use pagestore::MAX_ITEMS;
@@ -15,10 +16,13 @@ use tree_partner::left_count;
 const BOTH: usize = 2 * MAX_ITEMS;
 
 // Rebalances neighbours of one kind; their items are laid out in slots.
+#[tactic(auto, using(crate::proofs::Pairs::both_held))]
 fn rebalance<K: Kind>(kind: K, index: &mut [u8], p: u32, q: u32, slots: &mut [K::Item]) -> Grown
     requires { 32 ≤ length slots.old }
-    ensures { RewriteDone (put_rebalanced (K.write kind) (K.entry kind) index.old p q
+    ensures done { RewriteDone (put_rebalanced (K.write kind) (K.entry kind) index.old p q
         (rebalanced_items (K.items_at kind index.old p) (K.items_at kind index.old q))) index.new result }
+    ensures held { let both = K.items_at kind index.old p ++ K.items_at kind index.old q in Held (length both) slots.new both }
+    ensures slots { length slots.new ≡ length slots.old }
 {
     let n = kind.read(index, p, slots);
     let m = kind.read(index, q, &mut slots[n..]);
