@@ -1,4 +1,7 @@
 // Batches of points: what is asked of each, and what is reported.
+ghost use Rattle.std.specs.Prelude.{◌≡◌};
+ghost use Rattle.test_model.specs.Numbers.{way_of};
+
 use crate::days::Days;
 use crate::numbers::leap;
 use crate::points::Kind;
@@ -15,8 +18,22 @@ pub enum Way {
     Dated,
 }
 
+// A number that is that of no way is taken as the one with weights.
+impl From<u32> for Way {
+    ghost from_gives = { λ n way. way ≡ way_of n };
+
+    fn from(n: u32) -> Way {
+        match n {
+            0 => Way::Plain,
+            2 => Way::Dated,
+            _ => Way::Weighted,
+        }
+    }
+}
+
 // Every fourth question of a batch is asked from anywhere.
-pub fn asked_kind(kind: Kind, seed: u64) -> Kind {
+pub fn asked_kind(kind: impl Into<Kind>, seed: u64) -> Kind {
+    let kind = kind.into();
     if seed % 4 == 0 { Kind::Wide } else { kind }
 }
 
@@ -35,10 +52,10 @@ pub fn asked_stages(seed: u64) -> u8 {
 }
 
 // The points that a question is about.
-pub fn asked_points(way: Way, seed: u64) -> Wanted {
+pub fn asked_points(way: impl Into<Way>, seed: u64) -> Wanted {
     Wanted {
         stages: asked_stages(seed),
-        days: match way {
+        days: match way.into() {
             Way::Dated => Some(Days::drawn(seed)),
             Way::Plain | Way::Weighted => None,
         },
@@ -47,7 +64,8 @@ pub fn asked_points(way: Way, seed: u64) -> Wanted {
 
 // Another number for each batch.
 pub fn batch_seed(b: &Batch, seed: u64) -> u64 {
-    leap(seed % 65536 + 100 * b.kind as u64 + (b.d % 32) as u64)
+    let kind = u32::from(b.kind) % 16;
+    leap(seed % 65536 + 100 * u64::from(kind) + (b.d % 32) as u64)
 }
 
 // A write that fails is passed over, here and below.
@@ -58,8 +76,12 @@ pub fn report(rt: &impl Print, b: &Batch, points: usize, refused: u64, seen: &Se
         questions,
         ..
     } = *b;
+    let space = match kind {
+        Kind::Other(_) => "",
+        _ => " ",
+    };
     let _ = println!(rt;
-        "full scan: d {d} {kind} acts refused {refused} points {points} questions {questions} {seen}"
+        "full scan: d {d}{space}{kind} acts refused {refused} points {points} questions {questions} {seen}"
     );
 }
 
@@ -75,4 +97,34 @@ pub fn report_weighted(rt: &impl Print, b: &Batch, seen: &Seen, n: u32, differen
 pub fn report_dated(rt: &impl Print, b: &Batch, seen: &Seen) {
     let questions = b.questions;
     let _ = println!(rt; "  with dates: questions {questions} {seen}");
+}
+
+#[cfg(test)]
+mod tests {
+    use super::*;
+    use crate::weights::{Pattern, asked_pattern};
+
+    // A number that is that of no kind is kept; questions are asked of its batch as of any other.
+    #[test]
+    fn kind_of_any_number(rt: HostRuntime) {
+        let batch = Batch {
+            d: 3,
+            points: 1,
+            kind: Kind::from(31),
+            questions: 1,
+        };
+        assert_eq!(rt; u32::from(asked_kind(31u32, 1)), 31);
+        assert_eq!(rt; u32::from(asked_kind(31u32, 8)), 0);
+        assert_eq!(rt; batch_seed(&batch, 5), 1508 * 69621);
+        assert_eq!(rt; batch.kind.draw(0, 5), Kind::Tied.draw(0, 5));
+    }
+
+    // A number that is that of no way asks with weights, and without dates.
+    #[test]
+    fn way_of_any_number(rt: HostRuntime) {
+        assert!(rt; asked_points(7u32, 5).days.is_none());
+        assert!(rt; asked_points(2u32, 5).days.is_some());
+        assert!(rt; matches!(asked_pattern(7u32, 3), Some(Pattern::Greatest)));
+        assert!(rt; asked_pattern(0u32, 3).is_none());
+    }
 }

@@ -133,12 +133,14 @@ pub fn leaves_within(scene: &Scene, origin: &Origin, distance: u64) -> usize
 }
 
 // Whether a record has the identifier, with the mark of its stage and its stamp.
-fn fits(record: &Record, id: u32, mark: Mark) -> bool {
-    record.id == id && record.stage == mark.stage && record.stamp == mark.stamp
+fn fits(record: &Record, id: u32, mark: u64) -> bool {
+    let Record { stage, stamp, .. } = *record;
+    record.id == id && u64::from(Mark { stage, stamp }) == mark
 }
 
-// Whether the leaf at a position holds an identifier with its mark, once.
-pub fn holds(scene: &Scene, position: u64, id: u32, mark: Mark) -> bool {
+// Whether the leaf at a position holds an identifier with its mark, once. No leaf holds one with a number that is no mark.
+pub fn holds(scene: &Scene, position: u64, id: u32, mark: impl Into<u64>) -> bool {
+    let mark = mark.into();
     let Some(page) = usize::try_from(position)
         .ok()
         .and_then(|at| scene.leaves.get(at))
@@ -151,4 +153,32 @@ pub fn holds(scene: &Scene, position: u64, id: u32, mark: Mark) -> bool {
         .filter(|record| fits(record, id, mark))
         .count()
         == 1
+}
+
+#[cfg(test)]
+mod tests {
+    use super::*;
+    use pagestore::{PAGE_SIZE, set_leaf};
+    use pagestore_page::no_record;
+
+    // A record is held with the number of its mark, and with no other number.
+    #[test]
+    fn mark_of_any_number(rt: HostRuntime) {
+        let mut records = [no_record(); MAX_ITEMS];
+        records[0].id = 5;
+        records[0].stage = 2;
+        records[0].stamp = 9;
+        let mut index = [0u8; 2 * PAGE_SIZE];
+        set_leaf(&mut index, 1, Leaf { count: 1, records });
+        let scene = Scene {
+            index: &index,
+            leaves: &[1],
+            points: &[],
+        };
+        assert!(rt; holds(&scene, 0, 5, Mark { stage: 2, stamp: 9 }));
+        assert!(rt; holds(&scene, 0, 5, 4613u64));
+        for number in [0u64, 4612, 4614, 4613 + 2199023255552] {
+            assert!(rt; !holds(&scene, 0, 5, number), "held with {number}");
+        }
+    }
 }

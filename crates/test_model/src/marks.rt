@@ -1,4 +1,7 @@
 // The marks of points, drawn by numbers, and the points wanted. A question's set of stages is tried by halving.
+ghost use Rattle.std.specs.Prelude.{◌≡◌};
+ghost use Rattle.test_model.specs.Numbers.{number_of_mark};
+
 use crate::Wanted;
 use crate::days::noon_stamp;
 use crate::numbers::next;
@@ -8,6 +11,15 @@ use crate::numbers::next;
 pub struct Mark {
     pub stage: u8,
     pub stamp: u32,
+}
+
+// A mark as one odd number.
+impl From<Mark> for u64 {
+    ghost from_gives = { λ mark n. n ≡ number_of_mark mark };
+
+    fn from(mark: Mark) -> u64 {
+        512 * u64::from(mark.stamp) + 2 * u64::from(mark.stage) + 1
+    }
 }
 
 // The first stamp of the later half.

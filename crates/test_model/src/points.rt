@@ -1,5 +1,6 @@
 // Points drawn by numbers. A place is a coordinate with 1,000 added: 0 to 2,000.
-ghost use Rattle.std.specs.Prelude.{◌≤◌};
+ghost use Rattle.std.specs.Prelude.{◌≡◌, ◌≤◌};
+ghost use Rattle.test_model.specs.Numbers.{kind_of, number_of_kind};
 
 use crate::POINTS;
 use crate::marks::Mark;
@@ -16,12 +17,40 @@ pub struct Point {
     pub mark: Option<Mark>,
 }
 
-// How the points of a batch lie: anywhere, in five clusters, or all tied on -1, 0 and 1.
+// How the points of a batch lie: anywhere, in five clusters, or all tied on -1, 0 and 1. `Other` keeps a number that is that of no kind: its points
+// are tied, and it has no name.
 #[derive(Clone, Copy)]
 pub enum Kind {
     Wide,
     Clustered,
     Tied,
+    Other(u32),
+}
+
+impl From<u32> for Kind {
+    ghost from_gives = { λ n kind. kind ≡ kind_of n };
+
+    fn from(n: u32) -> Kind {
+        match n {
+            0 => Kind::Wide,
+            1 => Kind::Clustered,
+            2 => Kind::Tied,
+            _ => Kind::Other(n),
+        }
+    }
+}
+
+impl From<Kind> for u32 {
+    ghost from_gives = { λ kind n. n ≡ number_of_kind kind };
+
+    fn from(kind: Kind) -> u32 {
+        match kind {
+            Kind::Wide => 0,
+            Kind::Clustered => 1,
+            Kind::Tied => 2,
+            Kind::Other(n) => n,
+        }
+    }
 }
 
 impl Kind {
@@ -35,7 +64,7 @@ impl Kind {
                 let centre = (p % 5 + m % 5) % 5;
                 centre as u16 * 450 + (n % 101) as u16
             }
-            Kind::Tied => 999 + (n % 3) as u16,
+            Kind::Tied | Kind::Other(_) => 999 + (n % 3) as u16,
         }
     }
 
@@ -72,6 +101,7 @@ impl fmt::Display for Kind {
             Kind::Wide => "wide",
             Kind::Clustered => "clustered",
             Kind::Tied => "tied",
+            Kind::Other(_) => "",
         })
     }
 }

@@ -38,8 +38,8 @@ fn carried(i: u64) -> Pattern {
 }
 
 // The pattern of question i, if it carries weights.
-pub fn asked_pattern(way: Way, i: u64) -> Option<Pattern> {
-    match way {
+pub fn asked_pattern(way: impl Into<Way>, i: u64) -> Option<Pattern> {
+    match way.into() {
         Way::Plain => None,
         Way::Weighted => Some(carried(i)),
         Way::Dated if i % 2 == 0 => None,
