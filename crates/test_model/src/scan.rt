@@ -6,6 +6,7 @@ use crate::marks::Mark;
 use crate::origin::Origin;
 use crate::points::Point;
 use std::cmp::Reverse;
+use test_parts::FULL_SET;
 
 // Farther than every point: the least distance where there is none.
 pub const FAR: u64 = u64::MAX;
@@ -46,7 +47,14 @@ pub fn scan(points: &[Point], origin: &Origin, wanted: &Wanted, nears: &mut [Opt
     nears.sort_unstable();
 }
 
-// How many points are live.
+// How many points are live, with a stage that is one of the six.
 pub fn live_count(points: &[Point]) -> usize {
-    points.iter().filter(|point| point.mark.is_some()).count()
+    let all = Wanted {
+        stages: FULL_SET,
+        days: None,
+    };
+    points
+        .iter()
+        .filter(|point| point.mark.is_some_and(|mark| all.takes(mark)))
+        .count()
 }
