@@ -8,8 +8,9 @@ use test_model::comparing::compare;
 use test_model::days::FIRST_DAY;
 use test_model::origin::Origin;
 use test_model::points::coordinates;
+use test_model::scan::Near;
 use test_model::seen::Seen;
-use test_model::{Asked, POINTS, Scene};
+use test_model::{Asked, Scene};
 use test_parts::answers::Reply;
 
 // The question for the nearest of the origin's point, by these weights if it carries them.
@@ -45,19 +46,15 @@ fn criteria_of(asked: &Asked) -> Criteria {
     }
 }
 
-// Asks one question; the scan goes by the origin's weights.
-pub fn ask_from(scene: &Scene, origin: &Origin, asked: &Asked) -> Seen
-    requires { (1 ≤ origin.now.d) × (length scene.now.points.now ≡ 1024) }
+// Asks one question; the scan goes by the origin's weights. `nears` has a place for each point.
+pub fn ask_from(scene: &Scene, origin: &Origin, asked: &Asked, nears: &mut [Option<Near>]) -> Seen
+    requires { (1 ≤ origin.now.d) × (length nears.old ≡ length scene.now.points.now) }
 {
     let weights = &origin.weights[..origin.d];
-    let reply = ask(scene.index, origin, weights, criteria_of(asked));
-    compare(
-        scene,
-        origin,
-        asked,
-        reply.answer,
-        &reply.highs,
-        &reply.lows,
-        &mut [None; POINTS],
-    )
+    let Reply {
+        answer,
+        highs,
+        lows,
+    } = ask(scene.index, origin, weights, criteria_of(asked));
+    compare(scene, origin, asked, answer, &highs, &lows, nears)
 }

@@ -46,7 +46,7 @@ fn ask_one(scene: &Scene, b: &Batch, way: Way, i: u64, seed: u64) -> Seen
         wanted: asked_points(way, seed),
         weighted: pattern.is_some(),
     };
-    ask_from(scene, &origin, &asked)
+    ask_from(scene, &origin, &asked, &mut [None; POINTS])
 }
 
 // Asks the questions of a batch in one way.
