@@ -1,5 +1,5 @@
--- The numbers of kinds, ways and marks. Each number is taken as a kind and as a way.
-use Rattle.std.specs.Prelude.{◌≡◌, ℕ, ◌+◌, ◌*◌, zero, suc, refl}
+-- The numbers of kinds, ways and marks. Each number is taken as a kind and as a way, and each but 0 as a mark.
+use Rattle.std.specs.Prelude.{◌≡◌, ℕ, ◌+◌, ◌*◌, ◌/◌, ◌%◌, zero, suc, refl, Option, Some, None}
 use Rattle.test_model.specs.declared.points.Kind.{Kind}
 use Rattle.test_model.specs.declared.points.Kind.TheVariants.{Wide, Clustered, Tied, Other}
 use Rattle.test_model.specs.declared.batches.Way.{Way}
@@ -36,3 +36,8 @@ way_of (suc (suc (suc n))) = Weighted
 -- an odd number: eight bits for the stage, and the stamp above them
 abbrev pub number_of_mark : Mark → ℕ
 number_of_mark m = 512 * m.stamp + 2 * m.stage + 1
+
+-- 0 holds no mark; of any other number the bits beside those of the stage and the stamp are passed over
+abbrev pub mark_in : ℕ → Option Mark
+mark_in zero = None
+mark_in (suc n) = Some (record { stage = suc n / 2 % 256; stamp = suc n / 512 % 4294967296 })

@@ -1,6 +1,6 @@
 // The marks of points, drawn by numbers, and the points wanted. A question's set of stages is tried by halving.
 ghost use Rattle.std.specs.Prelude.{◌≡◌};
-ghost use Rattle.test_model.specs.Numbers.{number_of_mark};
+ghost use Rattle.test_model.specs.Numbers.{mark_in, number_of_mark};
 
 use crate::Wanted;
 use crate::days::noon_stamp;
@@ -51,6 +51,19 @@ fn drawn_stamp(n: u64) -> u32 {
 }
 
 impl Mark {
+    // The mark in a number; 0 is that of a point that is not live.
+    pub fn numbered(n: u64) -> Option<Mark>
+        ensures { result ≡ mark_in n }
+    {
+        match n {
+            0 => None,
+            _ => Some(Mark {
+                stage: (n / 2 % 256) as u8,
+                stamp: (n / 512 % 4294967296) as u32,
+            }),
+        }
+    }
+
     // The mark that a number draws.
     pub fn drawn(n: u64) -> Mark {
         Mark {
@@ -73,5 +86,20 @@ impl Wanted {
     // Whether a live point is wanted.
     pub fn takes(&self, mark: Mark) -> bool {
         marks_stage(self.stages, mark.stage) && self.days.is_none_or(|days| days.hold(mark.stamp))
+    }
+}
+
+#[cfg(test)]
+mod tests {
+    use super::*;
+
+    // A mark is read back from its number; the bits of a number beside its stage and its stamp are passed over.
+    #[test]
+    fn mark_in_any_number(rt: HostRuntime) {
+        let mark = Mark { stage: 2, stamp: 9 };
+        assert!(rt; Mark::numbered(0).is_none());
+        for number in [u64::from(mark), 4612, 4613 + 2199023255552] {
+            assert!(rt; Mark::numbered(number) == Some(mark), "read from {number}");
+        }
     }
 }
