@@ -1,6 +1,7 @@
 // Batches of points: what is asked of each, and what is reported.
-ghost use Rattle.std.specs.Prelude.{◌≡◌};
+ghost use Rattle.std.specs.Prelude.{◌≡◌, ◌%◌, ◌<◌};
 ghost use Rattle.test_model.specs.Numbers.{way_of};
+ghost use Rattle.test_model.specs.declared.points.Kind.TheVariants.{Wide};
 
 use crate::days::Days;
 use crate::numbers::leap;
@@ -31,8 +32,11 @@ impl From<u32> for Way {
     }
 }
 
-// Every fourth question of a batch is asked from anywhere.
-pub fn asked_kind(kind: impl Into<Kind>, seed: u64) -> Kind {
+// Every fourth question of a batch is asked from anywhere, the others as the batch lies.
+pub fn asked_kind<K: Into<Kind>>(kind: K, seed: u64) -> Kind
+    ensures anywhere { seed % 4 ≡ 0 → result ≡ Wide }
+    ensures given { 0 < seed % 4 → K.converts kind result }
+{
     let kind = kind.into();
     if seed % 4 == 0 { Kind::Wide } else { kind }
 }
@@ -117,6 +121,23 @@ mod tests {
         assert_eq!(rt; u32::from(asked_kind(31u32, 8)), 0);
         assert_eq!(rt; batch_seed(&batch, 5), 1508 * 69621);
         assert_eq!(rt; batch.kind.draw(0, 5), Kind::Tied.draw(0, 5));
+    }
+
+    // Every fourth question is asked from anywhere, the others by the kind that is given.
+    #[test]
+    fn kind_of_a_question(rt: HostRuntime) {
+        for seed in 1..4 {
+            assert!(rt;
+                matches!(asked_kind(Kind::Tied, seed), Kind::Tied),
+                "seed {seed}"
+            );
+        }
+        for seed in [0, 4, 8] {
+            assert!(rt;
+                matches!(asked_kind(Kind::Tied, seed), Kind::Wide),
+                "seed {seed}"
+            );
+        }
     }
 
     // A number that is that of no way asks with weights, and without dates.
