@@ -1,5 +1,6 @@
 // Questions with weights of ones and the same without weights: the same rows and the same count of leaves.
 ghost use Rattle.std.specs.Prelude.{◌≤◌};
+ghost use Rattle.test_model.specs.Comparing.{Fits};
 
 use crate::asking::ask;
 use geometry::MAX_FEATURES;
@@ -30,9 +31,24 @@ fn replies_differ(a: &Reply, b: &Reply) -> u64
         + words_differ(&a.lows, &b.lows, n)
 }
 
+// A question from an origin, asked by its weights and without weights.
+fn ask_twice(index: &[u8], origin: &Origin, seed: u64) -> u64
+    requires { 1 ≤ origin.now.d }
+    ensures { result ≤ 131 }
+{
+    let plain = nearest_of(asked_k(seed), asked_stages(seed));
+    let weighted = Criteria {
+        weighted: true,
+        ..plain
+    };
+    let with_weights = ask(index, origin, &origin.weights[..origin.d], weighted);
+    let with_none = ask(index, origin, &[], plain);
+    replies_differ(&with_weights, &with_none)
+}
+
 // One question of a batch, with weights of ones and without weights.
 fn ask_one(index: &[u8], b: &Batch, seed: u64) -> u64
-    requires { b.now.d ≤ 16 }
+    requires { Fits b.now }
     ensures { result ≤ 131 }
 {
     let (places, _) = asked_kind(b.kind, seed).draw((seed % 5) as usize, seed);
@@ -41,19 +57,12 @@ fn ask_one(index: &[u8], b: &Batch, seed: u64) -> u64
         weights: [1; MAX_FEATURES],
         d: b.d,
     };
-    let plain = nearest_of(asked_k(seed), asked_stages(seed));
-    let ones = Criteria {
-        weighted: true,
-        ..plain
-    };
-    let with_ones = ask(index, &origin, &origin.weights[..b.d], ones);
-    let with_none = ask(index, &origin, &[], plain);
-    replies_differ(&with_ones, &with_none)
+    ask_twice(index, &origin, seed)
 }
 
 // Asks n questions of a batch, each both ways. Returns how many words differ.
 pub fn ones_and_none(index: &[u8], b: &Batch, n: u32, seed: u64) -> u64
-    requires { b.now.d ≤ 16 }
+    requires { Fits b.now }
 {
     let mut drawn = batch_seed(b, seed);
     let mut differences = 0;
