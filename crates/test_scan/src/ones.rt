@@ -31,7 +31,8 @@ fn replies_differ(a: &Reply, b: &Reply) -> u64
         + words_differ(&a.lows, &b.lows, n)
 }
 
-// A question from an origin, asked by its weights and without weights.
+// A question from an origin, asked by its weights and without weights. From one of no features both would be
+// refused alike, and nothing compared: so it has one.
 fn ask_twice(index: &[u8], origin: &Origin, seed: u64) -> u64
     requires { 1 ≤ origin.now.d }
     ensures { result ≤ 131 }
